@@ -1,0 +1,25 @@
+-- By the data: none, all of the length, or between.
+use mathlib.Core.Path.{sym, _∙_}
+use borrow.Author.Tests.{eq-eqb, ne-eqb}
+use Rattle.sched.specs.Scheduler.{fillStateIn}
+use borrow.Author.Needs.{needs}
+use Rattle.sched.proofs.scheduler.RingBufferScheduler.fill.Statement.{statement}
+use Rattle.sched.proofs.scheduler.RingBufferScheduler.fill.Tie as tie
+
+data-requires : tie.Need-data-requires
+data-requires c κs = search needs
+
+returns : tie.Need-returns
+unfolding fillStateIn
+returns c = rw (eq-eqb _ _ (sym (c .before .«data» .ensures) ∙ c .if1 .taken))
+
+returns-2 : tie.Need-returns-2
+unfolding fillStateIn
+returns-2 c = rw (← c .before .before .before .«data» .ensures, ne-eqb _ _ (c .before .before .if1 .left), eq-eqb _ _ (c .if2 .taken))
+
+returns-3 : tie.Need-returns-3
+unfolding fillStateIn
+returns-3 c = rw (← c .before .before .before .«data» .ensures, ne-eqb _ _ (c .before .before .if1 .left), ne-eqb _ _ (c .if2 .left))
+
+pub fill-spec : {M : Type 1} → statement M
+fill-spec = tie.close (tie.spec data-requires returns returns-2 returns-3)

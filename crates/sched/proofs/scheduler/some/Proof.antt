@@ -1,0 +1,20 @@
+-- The two cases of the definition.
+use borrow.Author.Tests.{eq-eqb, ne-eqb}
+use Rattle.sched.specs.Scheduler.{someOf}
+use borrow.Author.Needs.{needs}
+use Rattle.sched.proofs.scheduler.some.Statement.{statement}
+use Rattle.sched.proofs.scheduler.some.Tie as tie
+
+returns : tie.Need-returns
+unfolding someOf
+returns c = rw (eq-eqb _ _ (c .if1 .taken))
+
+new-requires : tie.Need-new-requires
+new-requires c κs = search needs
+
+returns-2 : tie.Need-returns-2
+unfolding someOf
+returns-2 c = rw (ne-eqb _ _ (c .before .if1 .left), c .new .ensures)
+
+pub some-spec : {M : Type 1} → statement M
+some-spec = tie.close (tie.spec returns new-requires returns-2)

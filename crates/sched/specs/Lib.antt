@@ -1,0 +1,7 @@
+pub mod Refusal
+pub mod Counter
+pub mod Operation
+pub mod Block
+pub mod List
+pub mod Diff
+pub mod Scheduler

@@ -1,0 +1,288 @@
+-- The scheduler: its tests, data and space, blocks, layout, scheduling and registering, over whole numbers. Write L for
+-- `buf_len`. A name that ends in `In` is of a sound scheduler; one that ends in `Of` tests the record first.
+use Prim.Native.Nat.{ℕ, _+_, _-_, _*_, _^_, _≤_, _<_, min, max}
+use mathlib.Core.Bool.{Bool, cond}
+use lib.Dec.{ltb, leb, eqb}
+use Rattle.sched.specs.declared.counter.Counter.{Counter}
+use Rattle.sched.specs.declared.counter.Offset.{Offset}
+use Rattle.sched.specs.declared.counter.AmountAnswer.{AmountAnswer}
+use Rattle.sched.specs.declared.counter.AmountAnswer.the-variants as amount
+use Rattle.sched.specs.declared.counter.BoolAnswer.{BoolAnswer}
+use Rattle.sched.specs.declared.counter.BoolAnswer.the-variants as bool
+use Rattle.sched.specs.declared.counter.CounterAnswer.{CounterAnswer}
+use Rattle.sched.specs.declared.counter.CounterAnswer.the-variants as counter
+use Rattle.sched.specs.declared.counter.OffsetAnswer.{OffsetAnswer}
+use Rattle.sched.specs.declared.counter.OffsetAnswer.the-variants as offset
+use Rattle.sched.specs.declared.block.Bit.the-variants.{Zero, One}
+use Rattle.sched.specs.declared.block.Block.{Block}
+use Rattle.sched.specs.declared.block.BlockAnswer.{BlockAnswer}
+use Rattle.sched.specs.declared.block.BlockAnswer.the-variants as block
+use Rattle.sched.specs.declared.block.Blocks.{Blocks}
+use Rattle.sched.specs.declared.block.BlocksAnswer.{BlocksAnswer}
+use Rattle.sched.specs.declared.block.BlocksAnswer.the-variants as blocks
+use Rattle.sched.specs.declared.block.BufferFillState.{BufferFillState}
+use Rattle.sched.specs.declared.block.BufferFillState.the-variants.{Empty, Partial, Full}
+use Rattle.sched.specs.declared.block.BufferLayout.{BufferLayout}
+use Rattle.sched.specs.declared.block.BufferLayout.the-variants.{DataFreeData, FreeDataFree}
+use Rattle.sched.specs.declared.block.FillStateAnswer.{FillStateAnswer}
+use Rattle.sched.specs.declared.block.FillStateAnswer.the-variants as fill
+use Rattle.sched.specs.declared.block.LayoutAnswer.{LayoutAnswer}
+use Rattle.sched.specs.declared.block.LayoutAnswer.the-variants as layout
+use Rattle.sched.specs.declared.list.OperationsAnswer.{OperationsAnswer}
+use Rattle.sched.specs.declared.list.OperationsAnswer.the-variants as operations
+use Rattle.sched.specs.declared.list.ScheduledOperations.{ScheduledOperations}
+use Rattle.sched.specs.declared.list.ScheduledOperations.the-variants as list
+use Rattle.sched.specs.declared.operation.NextOperation.{NextOperation}
+use Rattle.sched.specs.declared.operation.NextOperation.the-variants as next
+use Rattle.sched.specs.declared.operation.NextOperationAnswer.{NextOperationAnswer}
+use Rattle.sched.specs.declared.operation.NextOperationAnswer.the-variants as nexts
+use Rattle.sched.specs.declared.operation.OperationType.{OperationType}
+use Rattle.sched.specs.declared.operation.OperationType.the-variants.{Read, Write}
+use Rattle.sched.specs.declared.operation.ScheduledOperation.{ScheduledOperation}
+use Rattle.sched.specs.declared.refusal.Refusal.the-variants.{ZeroBufferLength, BufferTooLarge, ItemsWrittenOutOfBounds, ItemsReadOutofBounds, DataAvailOutOfBounds, OperationTooLarge}
+use Rattle.sched.specs.declared.scheduler.Checked.{Checked}
+use Rattle.sched.specs.declared.scheduler.Checked.the-variants as checked
+use Rattle.sched.specs.declared.scheduler.Registered.{Registered}
+use Rattle.sched.specs.declared.scheduler.Registered.the-variants as registered
+use Rattle.sched.specs.declared.scheduler.RingBufferScheduler.{RingBufferScheduler}
+use Rattle.sched.specs.Counter.{offsetOf, dataOf, laterOf}
+use Rattle.sched.specs.Operation.{operationOf}
+use Rattle.sched.specs.Block.{blockOf, outerOf, innerOf}
+use Rattle.sched.specs.List.{soundListOf}
+
+-- ---- soundness
+abbrev pub schedulerOf : ℕ → Counter → Counter → RingBufferScheduler
+schedulerOf l w r = record { «buf_len» = l; «items_read» = r; «items_written» = w }
+
+-- a buffer's length
+pub record Sized (l : ℕ) : Type 0 where
+  pub some : 1 ≤ l
+  pub fits : l ≤ 2 ^ 63
+
+abbrev pub dataIn : RingBufferScheduler → ℕ
+dataIn s = dataOf (s .«buf_len») (s .«items_written») (s .«items_read»)
+
+pub record IsSound (s : RingBufferScheduler) : Type 0 where
+  pub sized : Sized (s .«buf_len»)
+  pub written : s .«items_written» .0 < 2 * s .«buf_len»
+  pub read : s .«items_read» .0 < 2 * s .«buf_len»
+  pub fill : dataIn s ≤ s .«buf_len»
+
+-- the first of the refusals 1 to 5, or the scheduler
+unfoldable pub soundOf : RingBufferScheduler → Checked
+soundOf s =
+    cond (eqb (s .«buf_len») 0) (checked.Refused ZeroBufferLength)
+    (cond (ltb (2 ^ 63) (s .«buf_len»)) (checked.Refused (BufferTooLarge (s .«buf_len»)))
+    (cond (leb (2 * s .«buf_len») (s .«items_written» .0)) (checked.Refused (ItemsWrittenOutOfBounds (s .«buf_len») (s .«items_written»)))
+    (cond (leb (2 * s .«buf_len») (s .«items_read» .0)) (checked.Refused (ItemsReadOutofBounds (s .«buf_len») (s .«items_read»)))
+    (cond (ltb (s .«buf_len») (dataIn s)) (checked.Refused (DataAvailOutOfBounds (s .«buf_len») (s .«items_written») (s .«items_read»)))
+    (checked.Sound s)))))
+
+-- ---- counters, offsets, data and space
+abbrev pub counterIn : RingBufferScheduler → OperationType → Counter
+counterIn s Read = s .«items_read»
+counterIn s Write = s .«items_written»
+
+abbrev pub offsetIn : RingBufferScheduler → OperationType → Offset
+offsetIn s t = offsetOf (s .«buf_len») (counterIn s t)
+
+abbrev pub spaceIn : RingBufferScheduler → ℕ
+spaceIn s = s .«buf_len» - dataIn s
+
+-- the greatest length of an operation: the data of a read, the space of a write
+abbrev pub greatestIn : RingBufferScheduler → OperationType → ℕ
+greatestIn s Read = dataIn s
+greatestIn s Write = spaceIn s
+
+unfoldable pub fillStateIn : RingBufferScheduler → BufferFillState
+fillStateIn s = cond (eqb (dataIn s) 0) Empty (cond (eqb (dataIn s) (s .«buf_len»)) Full Partial)
+
+-- ---- layout and blocks
+-- read offset below write offset, or above; equal offsets by the fill
+unfoldable pub layoutIn : RingBufferScheduler → BufferLayout
+layoutIn s =
+    cond (ltb (offsetIn s Read .0) (offsetIn s Write .0)) FreeDataFree
+    (cond (ltb (offsetIn s Write .0) (offsetIn s Read .0)) DataFreeData
+    (cond (eqb (dataIn s) 0) FreeDataFree DataFreeData))
+
+-- the smaller and the larger offset
+abbrev pub lowIn : RingBufferScheduler → ℕ
+lowIn s = min (offsetIn s Read .0) (offsetIn s Write .0)
+
+abbrev pub highIn : RingBufferScheduler → ℕ
+highIn s = max (offsetIn s Read .0) (offsetIn s Write .0)
+
+abbrev pub blocksIn : RingBufferScheduler → Blocks
+blocksIn s =
+    record {
+      0 = blockOf (outerOf (layoutIn s)) One (record { 0 = 0 }) (lowIn s);
+      1 = blockOf (innerOf (layoutIn s)) Zero (record { 0 = lowIn s }) (highIn s - lowIn s);
+      2 = blockOf (outerOf (layoutIn s)) Zero (record { 0 = highIn s }) (s .«buf_len» - highIn s);
+    }
+
+abbrev pub nextBlockAt : BufferLayout → OperationType → Blocks → Block
+nextBlockAt DataFreeData Read b = b .2
+nextBlockAt FreeDataFree Read b = b .1
+nextBlockAt DataFreeData Write b = b .1
+nextBlockAt FreeDataFree Write b = b .2
+
+abbrev pub nextBlockIn : RingBufferScheduler → OperationType → Block
+nextBlockIn s t = nextBlockAt (layoutIn s) t (blocksIn s)
+
+-- ---- scheduling
+-- one operation of n items; none of 0
+unfoldable pub someOf : OperationType → Offset → ℕ → NextOperation
+someOf t a n = cond (eqb n 0) next.None (next.Some (operationOf t a n))
+
+-- to the end of the block, or to m
+abbrev pub nextIn : RingBufferScheduler → OperationType → ℕ → NextOperation
+nextIn s t m = someOf t (nextBlockIn s t .off) (min m (nextBlockIn s t .len))
+
+-- n items from the offset a, cut where the buffer of l items ends
+unfoldable pub cutOf : OperationType → ℕ → Offset → ℕ → ScheduledOperations
+cutOf t l a n =
+    cond (eqb n 0) list.None
+    (cond (leb (a .0 + n) l) (list.One (operationOf t a n))
+    (list.Two (operationOf t a (l - a .0)) (operationOf t (record { 0 = 0 }) (n - (l - a .0)))))
+
+abbrev pub scheduleIn : RingBufferScheduler → OperationType → ℕ → ScheduledOperations
+scheduleIn s t m = cutOf t (s .«buf_len») (offsetIn s t) (min m (greatestIn s t))
+
+-- ---- registering
+-- the scheduler after n items have been read or written
+abbrev pub advancedIn : RingBufferScheduler → OperationType → ℕ → RingBufferScheduler
+advancedIn s Read n = schedulerOf (s .«buf_len») (s .«items_written») (laterOf (s .«buf_len») (s .«items_read») n)
+advancedIn s Write n = schedulerOf (s .«buf_len») (laterOf (s .«buf_len») (s .«items_written») n) (s .«items_read»)
+
+-- 6 where the length is above the greatest
+unfoldable pub registerIn : RingBufferScheduler → OperationType → ℕ → Registered
+registerIn s t n =
+    cond (ltb (greatestIn s t) n) (registered.Refused (OperationTooLarge t n (greatestIn s t))) (registered.Advanced (advancedIn s t n))
+
+abbrev pub thenRegister : Registered → ScheduledOperation → Registered
+thenRegister (registered.Advanced s) a = registerIn s (a .typ) (a .len)
+thenRegister (registered.Refused e) a = registered.Refused e
+
+-- operation by operation, so that a refusal at the second names the greatest length after the first
+abbrev pub registerListIn : RingBufferScheduler → ScheduledOperations → Registered
+registerListIn s list.None = registered.Advanced s
+registerListIn s (list.One a) = registerIn s (a .typ) (a .len)
+registerListIn s (list.Two a b) = thenRegister (registerIn s (a .typ) (a .len)) b
+
+-- ---- what the calls answer: the first refusal of the tests, else the above
+abbrev pub bufLenFrom : Checked → AmountAnswer
+bufLenFrom (checked.Sound s) = amount.Of (s .«buf_len»)
+bufLenFrom (checked.Refused e) = amount.Refused e
+
+abbrev pub bufLenOf : RingBufferScheduler → AmountAnswer
+bufLenOf s = bufLenFrom (soundOf s)
+
+abbrev pub counterFrom : OperationType → Checked → CounterAnswer
+counterFrom t (checked.Sound s) = counter.Of (counterIn s t)
+counterFrom t (checked.Refused e) = counter.Refused e
+
+abbrev pub counterAnswerOf : RingBufferScheduler → OperationType → CounterAnswer
+counterAnswerOf s t = counterFrom t (soundOf s)
+
+abbrev pub offsetFrom : OperationType → Checked → OffsetAnswer
+offsetFrom t (checked.Sound s) = offset.Of (offsetIn s t)
+offsetFrom t (checked.Refused e) = offset.Refused e
+
+abbrev pub offsetAnswerOf : RingBufferScheduler → OperationType → OffsetAnswer
+offsetAnswerOf s t = offsetFrom t (soundOf s)
+
+abbrev pub greatestFrom : OperationType → Checked → AmountAnswer
+greatestFrom t (checked.Sound s) = amount.Of (greatestIn s t)
+greatestFrom t (checked.Refused e) = amount.Refused e
+
+abbrev pub greatestOf : RingBufferScheduler → OperationType → AmountAnswer
+greatestOf s t = greatestFrom t (soundOf s)
+
+abbrev pub isZeroFrom : AmountAnswer → BoolAnswer
+isZeroFrom (amount.Of n) = bool.Of (eqb n 0)
+isZeroFrom (amount.Refused e) = bool.Refused e
+
+abbrev pub isPositiveFrom : AmountAnswer → BoolAnswer
+isPositiveFrom (amount.Of n) = bool.Of (ltb 0 n)
+isPositiveFrom (amount.Refused e) = bool.Refused e
+
+abbrev pub fillStateFrom : Checked → FillStateAnswer
+fillStateFrom (checked.Sound s) = fill.Of (fillStateIn s)
+fillStateFrom (checked.Refused e) = fill.Refused e
+
+abbrev pub fillStateOf : RingBufferScheduler → FillStateAnswer
+fillStateOf s = fillStateFrom (soundOf s)
+
+abbrev pub layoutFrom : Checked → LayoutAnswer
+layoutFrom (checked.Sound s) = layout.Of (layoutIn s)
+layoutFrom (checked.Refused e) = layout.Refused e
+
+abbrev pub layoutOf : RingBufferScheduler → LayoutAnswer
+layoutOf s = layoutFrom (soundOf s)
+
+abbrev pub blocksFrom : Checked → BlocksAnswer
+blocksFrom (checked.Sound s) = blocks.Of (blocksIn s)
+blocksFrom (checked.Refused e) = blocks.Refused e
+
+abbrev pub blocksOf : RingBufferScheduler → BlocksAnswer
+blocksOf s = blocksFrom (soundOf s)
+
+abbrev pub block0From : BlocksAnswer → BlockAnswer
+block0From (blocks.Of b) = block.Of (b .0)
+block0From (blocks.Refused e) = block.Refused e
+
+abbrev pub block1From : BlocksAnswer → BlockAnswer
+block1From (blocks.Of b) = block.Of (b .1)
+block1From (blocks.Refused e) = block.Refused e
+
+abbrev pub block2From : BlocksAnswer → BlockAnswer
+block2From (blocks.Of b) = block.Of (b .2)
+block2From (blocks.Refused e) = block.Refused e
+
+abbrev pub offFrom : BlockAnswer → OffsetAnswer
+offFrom (block.Of b) = offset.Of (b .off)
+offFrom (block.Refused e) = offset.Refused e
+
+abbrev pub lenFrom : BlockAnswer → AmountAnswer
+lenFrom (block.Of b) = amount.Of (b .len)
+lenFrom (block.Refused e) = amount.Refused e
+
+abbrev pub nextBlockFrom : OperationType → Checked → BlockAnswer
+nextBlockFrom t (checked.Sound s) = block.Of (nextBlockIn s t)
+nextBlockFrom t (checked.Refused e) = block.Refused e
+
+abbrev pub nextBlockOf : RingBufferScheduler → OperationType → BlockAnswer
+nextBlockOf s t = nextBlockFrom t (soundOf s)
+
+abbrev pub nextFrom : OperationType → ℕ → Checked → NextOperationAnswer
+nextFrom t m (checked.Sound s) = nexts.Of (nextIn s t m)
+nextFrom t m (checked.Refused e) = nexts.Refused e
+
+abbrev pub nextOf : RingBufferScheduler → OperationType → ℕ → NextOperationAnswer
+nextOf s t m = nextFrom t m (soundOf s)
+
+abbrev pub scheduleFrom : OperationType → ℕ → Checked → OperationsAnswer
+scheduleFrom t m (checked.Sound s) = operations.Of (scheduleIn s t m)
+scheduleFrom t m (checked.Refused e) = operations.Refused e
+
+abbrev pub scheduleOf : RingBufferScheduler → OperationType → ℕ → OperationsAnswer
+scheduleOf s t m = scheduleFrom t m (soundOf s)
+
+abbrev pub registerFrom : OperationType → ℕ → Checked → Registered
+registerFrom t n (checked.Sound s) = registerIn s t n
+registerFrom t n (checked.Refused e) = registered.Refused e
+
+abbrev pub registerOf : RingBufferScheduler → OperationType → ℕ → Registered
+registerOf s t n = registerFrom t n (soundOf s)
+
+-- the scheduler's tests, then the list's, 7 and 8, and then 6
+abbrev pub registerSoundList : RingBufferScheduler → OperationsAnswer → Registered
+registerSoundList s (operations.Of ops) = registerListIn s ops
+registerSoundList s (operations.Refused e) = registered.Refused e
+
+abbrev pub registerListFrom : ScheduledOperations → Checked → Registered
+registerListFrom ops (checked.Sound s) = registerSoundList s (soundListOf ops)
+registerListFrom ops (checked.Refused e) = registered.Refused e
+
+abbrev pub registerListOf : RingBufferScheduler → ScheduledOperations → Registered
+registerListOf s ops = registerListFrom ops (soundOf s)

@@ -1,0 +1,42 @@
+// Operations on the ring buffer.
+ghost use mathlib.Core.Path.{_≡_};
+ghost use Rattle.sched.specs.Operation.{operationOf, defaultOperation};
+use crate::counter::Offset;
+use crate::refusal::Refusal;
+
+pub enum OperationType {
+    Read,
+    Write,
+}
+
+// A slice of the ring buffer that is to be read or written. Its offset may be any number: registering does not look at it.
+pub struct ScheduledOperation {
+    pub typ: OperationType,
+    pub off: Offset,
+    pub len: u64,
+}
+
+impl ScheduledOperation {
+    pub fn new(typ: OperationType, off: Offset, len: u64) -> ScheduledOperation
+        ensures { λ r. ⌜ r ≡ operationOf typ off len ⌝ }
+    {
+        ScheduledOperation { typ, off, len }
+    }
+
+    pub fn default() -> ScheduledOperation
+        ensures { λ r. ⌜ r ≡ defaultOperation ⌝ }
+    {
+        ScheduledOperation::new(OperationType::Read, Offset(0), 0)
+    }
+}
+
+// The next operation; none where nothing can be moved.
+pub enum NextOperation {
+    Some(ScheduledOperation),
+    None,
+}
+
+pub enum NextOperationAnswer {
+    Of(NextOperation),
+    Refused(Refusal),
+}

@@ -1,0 +1,19 @@
+-- The two cases of the definition.
+use borrow.Author.Needs.{needs}
+use Rattle.stripring.proofs.modulus.flat_modulus.Statement.{statement}
+use Rattle.stripring.proofs.modulus.flat_modulus.Tie as tie
+
+enum-known-m : tie.Need-enum-known-m
+enum-known-m c = search needs
+
+enum-told : tie.Need-enum-told
+enum-told c = search needs
+
+returns : tie.Need-returns
+returns c = rw (c .before .m .given .1)
+
+returns-2 : tie.Need-returns-2
+returns-2 c = rw (c .enum-told .given .1)
+
+pub flat-modulus-spec : {M : Type 1} → statement M
+flat-modulus-spec = tie.close (tie.spec enum-known-m enum-told returns returns-2)

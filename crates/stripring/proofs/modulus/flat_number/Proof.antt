@@ -1,0 +1,19 @@
+-- The two cases of the definition.
+use borrow.Author.Needs.{needs}
+use Rattle.stripring.proofs.modulus.flat_number.Statement.{statement}
+use Rattle.stripring.proofs.modulus.flat_number.Tie as tie
+
+enum-known-n : tie.Need-enum-known-n
+enum-known-n c = search needs
+
+enum-told : tie.Need-enum-told
+enum-told c = search needs
+
+returns : tie.Need-returns
+returns c = rw (c .before .n .given .1)
+
+returns-2 : tie.Need-returns-2
+returns-2 c = rw (c .enum-told .given .1)
+
+pub flat-number-spec : {M : Type 1} → statement M
+flat-number-spec = tie.close (tie.spec enum-known-n enum-told returns returns-2)

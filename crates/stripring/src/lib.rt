@@ -1,0 +1,2 @@
+// The face of the libraries for C and Rust: numbers and flat structs in and out, so that any bits of a host's are legal input.
+mod modulus;

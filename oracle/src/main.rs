@@ -2,12 +2,16 @@
 
 mod modular_u8;
 mod numbers;
-mod record;
+mod record_modular;
+mod record_sched;
+mod sched_inputs;
 mod sched_paper;
 mod tally;
 
 #[cfg(feature = "judge")]
 mod modular;
+#[cfg(feature = "judge")]
+mod sched;
 #[cfg(feature = "judge")]
 mod stripring;
 
@@ -19,11 +23,16 @@ fn main() -> ExitCode {
         "modular-u8" => modular_u8::run(),
         #[cfg(feature = "judge")]
         "modular" => modular::run(),
-        "record-modular" => record::modular(),
+        #[cfg(feature = "judge")]
+        "sched" => sched::run(),
         "sched-paper" => sched_paper::run(),
+        "record-modular" => record_modular::run(),
+        "record-sched" => record_sched::run(),
         _ => {
-            eprintln!("usage: oracle modular-u8|modular|record-modular|sched-paper");
-            eprintln!("modular needs a build with the feature judge");
+            eprintln!(
+                "usage: oracle modular-u8|modular|sched|sched-paper|record-modular|record-sched"
+            );
+            eprintln!("modular and sched need a build with the feature judge");
             return ExitCode::from(2);
         }
     };

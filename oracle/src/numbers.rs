@@ -26,20 +26,25 @@ impl Random {
     }
 
     /// At most 2 away, round the ends of the range.
-    fn near(&mut self, centre: u64) -> u64 {
+    pub fn near(&mut self, centre: u64) -> u64 {
         centre.wrapping_add(self.next() % 5).wrapping_sub(2)
     }
 }
 
 /// 0, 1, 2, 2^31, 2^32, 2^63, 2^64 and what is at most 2 away from one of them, in order.
 pub fn edges() -> Vec<u64> {
-    let centres = [0, 1, 2, 1 << 31, 1 << 32, 1 << 63, 1i128 << 64];
-    let mut edges: Vec<u64> = centres
+    around(&[0, 1, 2, 1 << 31, 1 << 32, 1 << 63], 2)
+}
+
+/// What is at most so far away from one of the centres, round the ends of the range, in order.
+pub fn around(centres: &[u64], reach: u64) -> Vec<u64> {
+    let mut numbers: Vec<u64> = centres
         .iter()
-        .flat_map(|centre| (-2..=2).map(move |step| centre + step))
-        .filter_map(|edge| u64::try_from(edge).ok())
+        .flat_map(|centre| {
+            (0..=2 * reach).map(move |step| centre.wrapping_add(step).wrapping_sub(reach))
+        })
         .collect();
-    edges.sort();
-    edges.dedup();
-    edges
+    numbers.sort();
+    numbers.dedup();
+    numbers
 }

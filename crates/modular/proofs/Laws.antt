@@ -7,7 +7,7 @@ use mathlib.Core.Logic.{_⊎_, inl, inr, ⊎-elim}
 use lib.Dec.{eqb, leb, ltb}
 use lib.Pow.{pow-pos}
 use borrow.Author.Tests.{eq-eqb, ne-eqb, eqb-true, eqb-false, ltb-true, ltb-false, leb-true, leb-false, le-leb, lt-leb, lt-ltb}
-use native.Mathlib.Nat.{mod-eq-of-lt, mod-eq-sub-mod, mod-add-mod, add-mod-mod, add-mod-right, add-mod, mod-lt, mod-self, mod-mod, mod-mod-of-dvd, dvd-mul-left, zero-mod, zero-add, eq-or-lt-of-le}
+use native.Mathlib.Nat.{mod-eq-of-lt, mod-eq-sub-mod, mod-add-mod, add-mod-mod, add-mod-right, add-mod, mod-lt, mod-self, mod-mod, mod-mod-of-dvd, dvd-mul-left, zero-mod, zero-add, add-zero, add-assoc, eq-or-lt-of-le}
 use native.Mathlib.Omega.{arith}
 use Rattle.modular.specs.declared.Modulus.{Modulus}
 use Rattle.modular.specs.declared.OptionModulus.the-variants as modulus
@@ -171,6 +171,13 @@ module _ (m a b n : ℕ) (p : 0 < m) where
       let e : b + n + (subMod m a b - n) ≡ b + subMod m a b = omega arith in
       sub-unique m a (addMod m b n) (subMod m a b - n) p (omega (arith, sub-lt m a b p))
       (rw (add-is, mod-add-mod, e, sub-back m a b p))
+
+-- a sum of sums, and of nothing
+pub add-add : (m a b c : ℕ) → addMod m (addMod m a b) c ≡ addMod m a (b + c)
+add-add m a b c = rw (add-is m (addMod m a b) c, add-is m a b, mod-add-mod, add-is m a (b + c), add-assoc)
+
+pub add-nothing : (m a : ℕ) → a < m → addMod m a 0 ≡ a
+add-nothing m a l = rw (add-is, add-zero, mod-eq-of-lt l)
 
 -- a sum modulo 2l, modulo l
 pub add-halved : (l a b : ℕ) → addMod (2 * l) a b % l ≡ (a % l + b) % l

@@ -10,7 +10,7 @@ use native.Mathlib.Omega.{arith}
 use Rattle.modular.specs.Modulus.{wholeOf, wholeAt, doubleAt, subMod, addMod}
 use Rattle.modular.specs.declared.Modulus.{Modulus}
 use Rattle.modular.specs.declared.OptionModulus.the-variants as modulus
-use Rattle.modular.proofs.Laws.{whole-pos, double-some, double-whole, sub-lt, add-lt, sub-back, sub-of-sum, sub-to-sum, add-halved, once, lt-or-le}
+use Rattle.modular.proofs.Laws.{whole-pos, double-some, double-whole, sub-lt, add-lt, sub-back, sub-of-sum, sub-to-sum, add-halved, add-add, add-nothing, once, lt-or-le}
 use Rattle.sched.specs.declared.counter.Offset.{Offset}
 use Rattle.sched.specs.declared.block.BufferLayout.the-variants.{DataFreeData, FreeDataFree}
 use Rattle.sched.specs.declared.operation.OperationType.{OperationType}
@@ -211,6 +211,15 @@ module _ (s : RingBufferScheduler) (h : IsSound s) (n : ℕ) where
   advanced-offset Read = add-halved (s .«buf_len») (s .«items_read» .0) n
   advanced-offset Write = add-halved (s .«buf_len») (s .«items_written» .0) n
 
+-- twice, and by nothing
+pub advanced-twice : (s : RingBufferScheduler) (n k : ℕ) (t : OperationType) → advancedIn (advancedIn s t n) t k ≡ advancedIn s t (n + k)
+advanced-twice s n k Read = rw (add-add (2 * s .«buf_len») (s .«items_read» .0) n k)
+advanced-twice s n k Write = rw (add-add (2 * s .«buf_len») (s .«items_written» .0) n k)
+
+pub advanced-nothing : (s : RingBufferScheduler) → IsSound s → (t : OperationType) → advancedIn s t 0 ≡ s
+advanced-nothing s h Read = rw (add-nothing (2 * s .«buf_len») (s .«items_read» .0) (h .read))
+advanced-nothing s h Write = rw (add-nothing (2 * s .«buf_len») (s .«items_written» .0) (h .written))
+
 pub advanced-length : (s : RingBufferScheduler) (n : ℕ) (t : OperationType) → advancedIn s t n .«buf_len» ≡ s .«buf_len»
 advanced-length s n Read = refl
 advanced-length s n Write = refl
@@ -231,7 +240,7 @@ registered-sound s h t n u p = go (ltb (greatestIn s t) n) refl p
         rw e (advanced-sound s h n t (ltb-false _ _ q))
 
 -- ---- scheduling
-min-min : (m g r : ℕ) → min m (min g r) ≡ min (min m g) r
+pub min-min : (m g r : ℕ) → min m (min g r) ≡ min (min m g) r
 min-min m g r = omega arith
 
 min-less : (m g f : ℕ) → min (m - f) (g - f) ≡ min m g - f
@@ -283,15 +292,15 @@ pub next-is : (s : RingBufferScheduler) → IsSound s → (t : OperationType) (m
 next-is s h t m = rw (next-off s h t, next-len s h t)
 
 module _ (t : OperationType) (l : ℕ) (a : Offset) (n : ℕ) where
-  cut-none : n ≡ 0 → list.None ≡ cutOf t l a n
+  pub cut-none : n ≡ 0 → list.None ≡ cutOf t l a n
   unfolding cutOf
   cut-none h = rw (eq-eqb n 0 h)
 
-  cut-one : 0 < n → a .0 + n ≤ l → list.One (operationOf t a n) ≡ cutOf t l a n
+  pub cut-one : 0 < n → a .0 + n ≤ l → list.One (operationOf t a n) ≡ cutOf t l a n
   unfolding cutOf
   cut-one h g = rw (ne-eqb n 0 (λ z. omega arith), le-leb _ _ g)
 
-  cut-two : 0 < n → l < a .0 + n → list.Two (operationOf t a (l - a .0)) (operationOf t (record { 0 = 0 }) (n - (l - a .0))) ≡ cutOf t l a n
+  pub cut-two : 0 < n → l < a .0 + n → list.Two (operationOf t a (l - a .0)) (operationOf t (record { 0 = 0 }) (n - (l - a .0))) ≡ cutOf t l a n
   unfolding cutOf
   cut-two h g = rw (ne-eqb n 0 (λ z. omega arith), lt-leb _ _ g)
 
@@ -368,31 +377,32 @@ module _ (s : RingBufferScheduler) (h : IsSound s) (t : OperationType) (m : ℕ)
           out : f .len ≡ room
           out = run-out all (f .len) room first-len (min-pos _ _ (rw second-len at p))
 
-      pub schedule-one : next.None ≡ nextIn u t (m - f .len) → list.One f ≡ scheduleIn s t m
-      schedule-one q =
-          let z : secondLen ≡ 0 = some-none _ _ _ (q ∙ next-is u second-sound t (m - f .len)) in
+      -- k is what the first left over
+      pub schedule-one : (k : ℕ) → next.None ≡ nextIn u t k → k ≡ m - f .len → list.One f ≡ scheduleIn s t m
+      schedule-one k q ek =
+          let z : secondLen ≡ 0 = some-none _ _ _ (q ∙ ap (nextIn u t) ek ∙ next-is u second-sound t (m - f .len)) in
           let e : all ≡ f .len = both ∙ rw (z, add-zero) in
           let n : firstLen ≡ all = sym (ap (λ (x : ScheduledOperation). x .len) (first-is .0)) ∙ sym e in
           ap list.One (first-is .0 ∙ ap (operationOf t (offsetIn s t)) n) ∙
           cut-one t (s .«buf_len») (offsetIn s t) all (rw n at (first-is .1)) (fits all (offsetIn s t .0) (s .«buf_len») (offset-lt s h t) (f .len) first-len e)
 
-      pub schedule-two : (f2 : ScheduledOperation) → next.Some f2 ≡ nextIn u t (m - f .len) → list.Two f f2 ≡ scheduleIn s t m
-      schedule-two f2 q = rw (one, two) (cut-two t (s .«buf_len») (offsetIn s t) all (some-moved both) (passes all (offsetIn s t .0) (s .«buf_len») (offset-lt s h t) (f .len) secondLen out both (k .1)))
+      pub schedule-two : (f2 : ScheduledOperation) (k : ℕ) → next.Some f2 ≡ nextIn u t k → k ≡ m - f .len → list.Two f f2 ≡ scheduleIn s t m
+      schedule-two f2 k q ek = rw (one, two) (cut-two t (s .«buf_len») (offsetIn s t) all (some-moved both) (passes all (offsetIn s t .0) (s .«buf_len») (offset-lt s h t) (f .len) secondLen out both (second .1)))
         where
-          k : (f2 ≡ operationOf t (offsetIn u t) secondLen) × (0 < secondLen)
-          k = some-some _ _ _ f2 (q ∙ next-is u second-sound t (m - f .len))
+          second : (f2 ≡ operationOf t (offsetIn u t) secondLen) × (0 < secondLen)
+          second = some-some _ _ _ f2 (q ∙ ap (nextIn u t) ek ∙ next-is u second-sound t (m - f .len))
 
           out : f .len ≡ room
-          out = turned (k .1) .1
+          out = turned (second .1) .1
 
           some-moved : all ≡ f .len + secondLen → 0 < all
-          some-moved e = omega (arith, k .1)
+          some-moved e = omega (arith, second .1)
 
           one : f ≡ operationOf t (offsetIn s t) room
           one = first-is .0 ∙ ap (operationOf t (offsetIn s t)) (sym (ap (λ (x : ScheduledOperation). x .len) (first-is .0)) ∙ out)
 
           two : f2 ≡ operationOf t (record { 0 = 0 }) (all - room)
-          two = k .0 ∙ same-operation t (offsetIn u t) _ _ (turned (k .1) .0) (rest all (f .len) room secondLen both out)
+          two = second .0 ∙ same-operation t (offsetIn u t) _ _ (turned (second .1) .0) (rest all (f .len) room secondLen both out)
 
 -- ---- the tests of the layout, on offsets that equal the scheduler's
 module _ (s : RingBufferScheduler) (r w : Offset) (er : r ≡ offsetIn s Read) (ew : w ≡ offsetIn s Write) where

@@ -1,4 +1,5 @@
 -- A length from 1 to 2^63 has a double, and it stands for twice the length.
+use native.Mathlib.Omega.{arith}
 use mathlib.Core.Path.{refl, sym, _∙_}
 use Rattle.sched.proofs.Laws.{double-is, double-never-none}
 use borrow.Author.Needs.{needs}
@@ -18,7 +19,9 @@ new-full-range-requires : tie.Need-new-full-range-requires
 new-full-range-requires c κs = search needs
 
 returns : tie.Need-returns
-returns c = double-is _ (c .before .before .before .before .pre) _ refl _ (sym (c .before .m .given .1) ∙ c .before .before .before .double .ensures)
+returns c =
+    let e = double-is _ (c .before .before .before .before .pre) _ refl _ (sym (c .before .m .given .1) ∙ c .before .before .before .double .ensures) in
+    omega arith
 
 returns-2 : tie.Need-returns-2
 returns-2 c = absurd (double-never-none _ (c .before .before .before .before .pre) _ refl (sym (c .before .enum-told .given .1) ∙ c .before .before .before .double .ensures))

@@ -1,4 +1,5 @@
 -- By the offsets; equal ones by the data.
+use native.Mathlib.Omega.{arith}
 use mathlib.Core.Path.{sym, _∙_}
 use Rattle.sched.proofs.Laws.{layout-below, layout-above, layout-empty, layout-full}
 use borrow.Author.Needs.{needs}
@@ -15,7 +16,7 @@ returns : tie.Need-returns
 returns c = layout-below _ _ _ (c .before .before .off .ensures) (c .before .off2 .ensures) (c .if1 .taken)
 
 returns-2 : tie.Need-returns-2
-returns-2 c = layout-above _ _ _ (c .before .before .before .off .ensures) (c .before .before .off2 .ensures) (c .if2 .taken)
+returns-2 c = layout-above _ _ _ (c .before .before .before .off .ensures) (c .before .before .off2 .ensures) (omega arith)
 
 data-requires : tie.Need-data-requires
 data-requires c κs = search needs

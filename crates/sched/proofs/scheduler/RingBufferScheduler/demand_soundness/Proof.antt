@@ -1,4 +1,6 @@
 -- Each return is one case of the definition: the tests before it passed, and its own did not.
+use native.Mathlib.Omega.{arith}
+use Prim.Native.Nat.{_^_}
 use borrow.Author.Tests.{eq-eqb, ne-eqb, lt-ltb, le-ltb}
 use Rattle.sched.proofs.Laws.{outside, inside}
 use Rattle.sched.specs.Scheduler.{soundOf}
@@ -8,11 +10,11 @@ use Rattle.sched.proofs.scheduler.RingBufferScheduler.demand_soundness.
 
 returns : tie.Need-returns
 unfolding soundOf
-returns c = simp (eq-eqb _ _ (c .if1 .taken))
+returns c = simp (eq-eqb (c .before .before .before .args .self .«buf_len») 0 (omega arith))
 
 returns-2 : tie.Need-returns-2
 unfolding soundOf
-returns-2 c = simp (ne-eqb _ _ (c .before .if1 .left), lt-ltb _ _ (c .if2 .taken))
+returns-2 c = simp (ne-eqb _ _ (c .before .if1 .left), lt-ltb (2 ^ 63) (c .before .before .before .before .args .self .«buf_len») (omega arith))
 
 double-modulus-requires : tie.Need-double-modulus-requires
 double-modulus-requires c κs = search needs

@@ -1,7 +1,7 @@
 -- By the data: none, all of the length, or between.
-use mathlib.Core.Path.{sym, _∙_}
+use native.Mathlib.Omega.{arith}
 use borrow.Author.Tests.{eq-eqb, ne-eqb}
-use Rattle.sched.specs.Scheduler.{fillStateIn}
+use Rattle.sched.specs.Scheduler.{dataIn, fillStateIn}
 use borrow.Author.Needs.{needs}
 use Rattle.sched.proofs.scheduler.RingBufferScheduler.fill.Statement.{statement}
 use Rattle.sched.proofs.scheduler.RingBufferScheduler.fill.Tie as tie
@@ -11,7 +11,7 @@ data-requires c κs = search needs
 
 returns : tie.Need-returns
 unfolding fillStateIn
-returns c = rw (eq-eqb _ _ (sym (c .before .«data» .ensures) ∙ c .if1 .taken))
+returns c = rw (eq-eqb (dataIn (c .before .before .args .self)) 0 (omega arith))
 
 returns-2 : tie.Need-returns-2
 unfolding fillStateIn

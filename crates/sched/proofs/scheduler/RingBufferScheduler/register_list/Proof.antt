@@ -24,7 +24,9 @@ enum-known-s : tie.Need-enum-known-s
 enum-known-s c = search needs
 
 register-one-requires-3 : tie.Need-register-one-requires-3
-register-one-requires-3 c κs = registered-sound _ (c .before .before .before .before .before .before .before .pre) _ _ _ (sym (c .before .s .given .1) ∙ c .before .before .before .register-one2 .ensures)
+register-one-requires-3 c κs =
+    let h = registered-sound _ (c .before .before .before .before .before .before .before .pre) _ _ _ (sym (c .before .s .given .1) ∙ c .before .before .before .register-one2 .ensures) in
+    search needs
 
 enum-known-e : tie.Need-enum-known-e
 enum-known-e c = search needs

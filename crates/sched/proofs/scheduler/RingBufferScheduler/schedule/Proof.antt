@@ -1,4 +1,5 @@
 -- The first operation runs to m or to the end of its block; the second, if any, starts at 0 with what was left over.
+use native.Mathlib.Omega.{arith}
 use mathlib.Core.Path.{sym, _∙_}
 use Rattle.sched.proofs.Laws.{first-fits, second-sound, schedule-none, schedule-one, schedule-two}
 use borrow.Author.Needs.{needs}
@@ -30,10 +31,10 @@ enum-told-2 : tie.Need-enum-told-2
 enum-told-2 c = search needs
 
 returns : tie.Need-returns
-returns c = schedule-two _ (c .before .before .before .before .before .before .before .before .before .before .pre) _ _ _ (sym (c .before .before .before .before .before .before .before .first .given .1) ∙ c .before .before .before .before .before .before .before .before .before .next .ensures) _ (c .before .before .before .before .before .advanced .ensures) _ (sym (c .before .second .given .1) ∙ c .before .before .before .next2 .ensures)
+returns c = schedule-two _ (c .before .before .before .before .before .before .before .before .before .before .pre) _ _ _ (sym (c .before .before .before .before .before .before .before .first .given .1) ∙ c .before .before .before .before .before .before .before .before .before .next .ensures) _ (c .before .before .before .before .before .advanced .ensures) _ _ (sym (c .before .second .given .1) ∙ c .before .before .before .next2 .ensures) (omega arith)
 
 returns-2 : tie.Need-returns-2
-returns-2 c = schedule-one _ (c .before .before .before .before .before .before .before .before .before .pre) _ _ _ (sym (c .before .before .before .before .before .before .first .given .1) ∙ c .before .before .before .before .before .before .before .before .next .ensures) _ (c .before .before .before .before .advanced .ensures) (sym (c .enum-told .given .1) ∙ c .before .before .next2 .ensures)
+returns-2 c = schedule-one _ (c .before .before .before .before .before .before .before .before .before .pre) _ _ _ (sym (c .before .before .before .before .before .before .first .given .1) ∙ c .before .before .before .before .before .before .before .before .next .ensures) _ (c .before .before .before .before .advanced .ensures) _ (sym (c .enum-told .given .1) ∙ c .before .before .next2 .ensures) (omega arith)
 
 returns-3 : tie.Need-returns-3
 returns-3 c = schedule-none _ (c .before .before .before .pre) _ _ (sym (c .enum-told2 .given .1) ∙ c .before .before .next .ensures)

@@ -1,4 +1,4 @@
-//! The fixed list of the Rust's answers that the replay program runs.
+//! The fixed list of the answers of modular.rs that the replay program runs.
 
 use crate::numbers::{Random, edges};
 use oracle::modular_answers::{CALLS, Call, answer};
@@ -19,7 +19,7 @@ const FEW_EDGES: [u64; 9] = [
     u64::MAX,
 ];
 
-pub fn modular() -> bool {
+pub fn run() -> bool {
     print_head();
     let mut random = Random(SEED);
     for (no, call) in CALLS.iter().enumerate() {

@@ -651,11 +651,13 @@ impl RingBufferScheduler {
         ensures { λ r. ⌜ r ≡ scheduleIn self op «max_len» ⌝ }
     {
         match self.next(op, max_len) {
-            NextOperation::Some(first) => match self.advanced(op, first.len)
-                .next(op, max_len - first.len) {
-                NextOperation::Some(second) => ScheduledOperations::Two(first, second),
-                NextOperation::None => ScheduledOperations::One(first),
-            },
+            NextOperation::Some(first) => {
+                let left = max_len - first.len;
+                match self.advanced(op, first.len).next(op, left) {
+                    NextOperation::Some(second) => ScheduledOperations::Two(first, second),
+                    NextOperation::None => ScheduledOperations::One(first),
+                }
+            }
             NextOperation::None => ScheduledOperations::None,
         }
     }

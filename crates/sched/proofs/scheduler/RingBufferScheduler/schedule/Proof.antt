@@ -15,11 +15,11 @@ enum-known-first c = search needs
 advanced-requires : tie.Need-advanced-requires
 advanced-requires c κs = search needs
 
-sub-next : tie.Need-sub-next
-sub-next c = first-fits _ (c .before .before .before .before .before .before .pre) _ _ _ (sym (c .before .before .before .first .given .1) ∙ c .before .before .before .before .before .next .ensures) .0
+sub-left : tie.Need-sub-left
+sub-left c = first-fits _ (c .before .before .before .before .before .pre) _ _ _ (sym (c .before .before .first .given .1) ∙ c .before .before .before .before .next .ensures) .0
 
 next-requires-2 : tie.Need-next-requires-2
-next-requires-2 c κs = second-sound _ (c .before .before .before .before .before .before .pre) _ _ _ (sym (c .before .before .before .first .given .1) ∙ c .before .before .before .before .before .next .ensures) _ (c .before .advanced .ensures)
+next-requires-2 c κs = second-sound _ (c .before .before .before .before .before .before .pre) _ _ _ (sym (c .before .before .before .first .given .1) ∙ c .before .before .before .before .before .next .ensures) _ (c .advanced .ensures)
 
 enum-known-second : tie.Need-enum-known-second
 enum-known-second c = search needs
@@ -31,10 +31,10 @@ enum-told-2 : tie.Need-enum-told-2
 enum-told-2 c = search needs
 
 returns : tie.Need-returns
-returns c = schedule-two _ (c .before .before .before .before .before .before .before .before .before .before .pre) _ _ _ (sym (c .before .before .before .before .before .before .before .first .given .1) ∙ c .before .before .before .before .before .before .before .before .before .next .ensures) _ (c .before .before .before .before .before .advanced .ensures) _ _ (sym (c .before .second .given .1) ∙ c .before .before .before .next2 .ensures) (omega arith)
+returns c = schedule-two _ (c .before .before .before .before .before .before .before .before .before .before .pre) _ _ _ (sym (c .before .before .before .before .before .before .before .first .given .1) ∙ c .before .before .before .before .before .before .before .before .before .next .ensures) _ (c .before .before .before .before .advanced .ensures) _ _ (sym (c .before .second .given .1) ∙ c .before .before .before .next2 .ensures) (omega arith)
 
 returns-2 : tie.Need-returns-2
-returns-2 c = schedule-one _ (c .before .before .before .before .before .before .before .before .before .pre) _ _ _ (sym (c .before .before .before .before .before .before .first .given .1) ∙ c .before .before .before .before .before .before .before .before .next .ensures) _ (c .before .before .before .before .advanced .ensures) _ (sym (c .enum-told .given .1) ∙ c .before .before .next2 .ensures) (omega arith)
+returns-2 c = schedule-one _ (c .before .before .before .before .before .before .before .before .before .pre) _ _ _ (sym (c .before .before .before .before .before .before .first .given .1) ∙ c .before .before .before .before .before .before .before .before .next .ensures) _ (c .before .before .before .advanced .ensures) _ (sym (c .enum-told .given .1) ∙ c .before .before .next2 .ensures) (omega arith)
 
 returns-3 : tie.Need-returns-3
 returns-3 c = schedule-none _ (c .before .before .before .pre) _ _ (sym (c .enum-told2 .given .1) ∙ c .before .before .next .ensures)
@@ -45,8 +45,8 @@ schedule-spec =
     (tie.spec
     next-requires
     enum-known-first
+    sub-left
     advanced-requires
-    sub-next
     next-requires-2
     enum-known-second
     enum-told

@@ -1,0 +1,33 @@
+-- The scheduler's tests, then the compare of the lengths.
+use mathlib.Core.Path.{sym, _∙_}
+use borrow.Author.Tests.{eq-eqb, ne-eqb}
+use Rattle.copies.specs.Copies.{readyFrom}
+use borrow.Author.Needs.{needs}
+use Rattle.copies.proofs.demand_ring_memory.Statement.{statement}
+use Rattle.copies.proofs.demand_ring_memory.Tie as tie
+
+demand-soundness-requires : tie.Need-demand-soundness-requires
+demand-soundness-requires c κs = search needs
+
+enum-known-s : tie.Need-enum-known-s
+enum-known-s c = search needs
+
+returns : tie.Need-returns
+unfolding readyFrom
+returns c = rw (← (sym (c .before .before .before .s .given .1) ∙ c .before .before .before .before .before .demand-soundness .ensures), eq-eqb _ _ (c .if1 .taken))
+
+enum-known-e : tie.Need-enum-known-e
+enum-known-e c = search needs
+
+returns-2 : tie.Need-returns-2
+unfolding readyFrom
+returns-2 c = rw (← (sym (c .before .before .before .s .given .1) ∙ c .before .before .before .before .before .demand-soundness .ensures), ne-eqb _ _ (c .if1 .left))
+
+returns-3 : tie.Need-returns-3
+unfolding readyFrom
+returns-3 c = rw (← (sym (c .before .e .given .1) ∙ c .before .before .before .demand-soundness .ensures))
+
+pub demand-ring-memory-spec : {M : Type 1} → statement M
+demand-ring-memory-spec =
+    tie.close
+    (tie.spec demand-soundness-requires enum-known-s returns enum-known-e returns-2 returns-3)

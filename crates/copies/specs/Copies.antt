@@ -1,0 +1,98 @@
+-- What a copy answers, and what it leaves in the lent memory.
+use Prim.Native.Nat.{ℕ, _+_, _≤_, min}
+use mathlib.Core.Bool.{cond}
+use mathlib.Core.List.{List, [], _++_}
+use lib.Dec.{eqb}
+use lib.ListN.{length, take, drop}
+use Rattle.sched.specs.declared.list.ScheduledOperations.{ScheduledOperations}
+use Rattle.sched.specs.declared.list.ScheduledOperations.the-variants.{None, One, Two}
+use Rattle.sched.specs.declared.operation.OperationType.the-variants.{Read, Write}
+use Rattle.sched.specs.declared.scheduler.Checked.{Checked}
+use Rattle.sched.specs.declared.scheduler.Checked.the-variants as checked
+use Rattle.sched.specs.declared.scheduler.RingBufferScheduler.{RingBufferScheduler}
+use Rattle.sched.specs.Refusal as sched
+use Rattle.sched.specs.Scheduler.{soundOf, dataIn, spaceIn, offsetIn, advancedIn}
+use Rattle.copies.specs.declared.Copied.{Copied}
+use Rattle.copies.specs.declared.Copied.the-variants as copied
+use Rattle.copies.specs.declared.Ready.{Ready}
+use Rattle.copies.specs.declared.Ready.the-variants as ready
+use Rattle.copies.specs.declared.Refusal.{Refusal}
+use Rattle.copies.specs.declared.Refusal.the-variants.{Scheduler, RingMemory}
+use Rattle.copies.specs.Ring.{put, get}
+
+-- the paper's number of a refusal, and its values
+abbrev pub numberOf : Refusal → ℕ
+numberOf (Scheduler e) = sched.numberOf e
+numberOf RingMemory = 9
+
+abbrev pub valuesOf : Refusal → List ℕ
+valuesOf (Scheduler e) = sched.valuesOf e
+valuesOf RingMemory = []
+
+-- 1 to 5, then 9 where the lent ring memory is not L bytes
+unfoldable pub readyFrom : ℕ → Checked → Ready
+readyFrom n (checked.Sound s) = cond (eqb n (s .«buf_len»)) (ready.Sound s) (ready.Refused RingMemory)
+readyFrom n (checked.Refused e) = ready.Refused (Scheduler e)
+
+abbrev pub readyOf : RingBufferScheduler → ℕ → Ready
+readyOf s n = readyFrom n (soundOf s)
+
+-- what a copy leaves: its answer, which holds the record, and the lent memory that it may change
+pub record Left : Type 0 where
+  pub answer : Copied
+  pub memory : List ℕ
+
+abbrev pub left : Copied → List ℕ → Left
+left a m = record { answer = a; memory = m }
+
+-- n bytes, the smaller of what is asked and the space, from the write offset on
+abbrev pub writeIn : RingBufferScheduler → List ℕ → List ℕ → Left
+writeIn s ring src =
+    left
+    (copied.Moved (advancedIn s Write (min (length src) (spaceIn s))) (min (length src) (spaceIn s)))
+    (put (s .«buf_len») ring (offsetIn s Write .0) (take (min (length src) (spaceIn s)) src))
+
+-- n bytes, the smaller of what is asked and the data, from the read offset on; the rest of the destination stays
+abbrev pub readIn : RingBufferScheduler → List ℕ → List ℕ → Left
+readIn s ring dst =
+    left
+    (copied.Moved (advancedIn s Read (min (length dst) (dataIn s))) (min (length dst) (dataIn s)))
+    (get (s .«buf_len») ring (offsetIn s Read .0) (min (length dst) (dataIn s)) ++ drop (min (length dst) (dataIn s)) dst)
+
+-- a refused copy leaves the memory as it was
+abbrev pub writeFrom : List ℕ → List ℕ → Ready → Left
+writeFrom ring src (ready.Sound s) = writeIn s ring src
+writeFrom ring src (ready.Refused e) = left (copied.Refused e) ring
+
+abbrev pub readFrom : List ℕ → List ℕ → Ready → Left
+readFrom ring dst (ready.Sound s) = readIn s ring dst
+readFrom ring dst (ready.Refused e) = left (copied.Refused e) dst
+
+abbrev pub writeOf : RingBufferScheduler → List ℕ → List ℕ → Left
+writeOf s ring src = writeFrom ring src (readyOf s (length ring))
+
+abbrev pub readOf : RingBufferScheduler → List ℕ → List ℕ → Left
+readOf s ring dst = readFrom ring dst (readyOf s (length ring))
+
+-- ---- the copies of a list of operations, piece by piece
+abbrev pub part : List ℕ → ℕ → ℕ → List ℕ
+part xs a n = take n (drop a xs)
+
+abbrev pub pasted : List ℕ → ℕ → List ℕ → List ℕ
+pasted xs at bs = take at xs ++ (bs ++ drop (at + length bs) xs)
+
+-- each operation lies in a ring of r bytes, and together they are no longer than m bytes
+abbrev pub Fits : ScheduledOperations → ℕ → ℕ → Type 0
+Fits None r m = Unit {0}
+Fits (One a) r m = (a .off .0 + a .len ≤ r) × (a .len ≤ m)
+Fits (Two a b) r m = (a .off .0 + a .len ≤ r) × (b .off .0 + b .len ≤ r) × (a .len + b .len ≤ m)
+
+abbrev pub putList : ScheduledOperations → List ℕ → List ℕ → List ℕ
+putList None ring src = ring
+putList (One a) ring src = pasted ring (a .off .0) (part src 0 (a .len))
+putList (Two a b) ring src = pasted (pasted ring (a .off .0) (part src 0 (a .len))) (b .off .0) (part src (a .len) (b .len))
+
+abbrev pub getList : ScheduledOperations → List ℕ → List ℕ → List ℕ
+getList None ring dst = dst
+getList (One a) ring dst = pasted dst 0 (part ring (a .off .0) (a .len))
+getList (Two a b) ring dst = pasted (pasted dst 0 (part ring (a .off .0) (a .len))) (a .len) (part ring (b .off .0) (b .len))

@@ -81,7 +81,9 @@ fn chosen(part: Part) -> Vec<Vec<u64>> {
 }
 
 fn print_head() {
-    println!("# Answers of rosenpass/src/internal/util/ringbuf/sched.rs, rosenpass commit ed07bfab94,");
+    println!(
+        "# Answers of rosenpass/src/internal/util/ringbuf/sched.rs, rosenpass commit ed07bfab94,"
+    );
     println!("# unchanged. Made in oracle/ by: cargo run --release --quiet record-sched");
     println!("# Edges, and random inputs by splitmix64 from seed {SEED}.");
     println!("# A line: op, what it takes, its answer");
@@ -93,10 +95,12 @@ fn print_head() {
     println!("# type of operation: 0 Read, 1 Write; of block: 0 Free, 1 Data; no: 0 Zero, 1 One");
     println!("# layout: 0 DataFreeData, 1 FreeDataFree; fill state: 0 Empty, 1 Partial, 2 Full");
     println!("# where a type, a no or different is taken, all but 0 stands for 1");
-    println!("# scheduler: L written read; block: type no offset length; operation: type offset length");
+    println!(
+        "# scheduler: L written read; block: type no offset length; operation: type offset length"
+    );
     println!("# next operation: 0 for none, or 1 and the operation");
     println!("# list: the count and each operation, with its start or its start and end before it");
-    println!("# where a list is taken, all above 1 stands for two; those beyond the count do not count");
+    println!("# where a list is taken, a count above 1 stands for two; only so many are looked at");
     println!("# diff: 0 for Same, 1 for Different, then old and new");
 }
 

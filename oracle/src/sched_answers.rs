@@ -163,12 +163,13 @@ pub const CALLS: [Call; 59] = [
     call("scheduler_schedule_next_write", S_AMOUNT, |i| flat(s(i)?.schedule_next_write(i[3]))),
     call("scheduler_schedule_reads", S_AMOUNT, |i| flat(s(i)?.schedule_reads(i[3]))),
     call("scheduler_schedule_writes", S_AMOUNT, |i| flat(s(i)?.schedule_writes(i[3]))),
-    call("scheduler_schedule_next_contiguous_operation", S_TYPE_AMOUNT, |i| flat(s(i)?.schedule_next_contiguous_operation(typ(i), i[4]))),
-    call("scheduler_schedule_contiguous_operations", S_TYPE_AMOUNT, |i| flat(s(i)?.schedule_contiguous_operations(typ(i), i[4]))),
-
     call("scheduler_try_register_read", S_AMOUNT, |i| flat(s(i)?.try_register_read(i[3])?)),
     call("scheduler_try_register_write", S_AMOUNT, |i| flat(s(i)?.try_register_write(i[3])?)),
+
+    call("scheduler_schedule_next_contiguous_operation", S_TYPE_AMOUNT, |i| flat(s(i)?.schedule_next_contiguous_operation(typ(i), i[4]))),
+    call("scheduler_schedule_contiguous_operations", S_TYPE_AMOUNT, |i| flat(s(i)?.schedule_contiguous_operations(typ(i), i[4]))),
     call("scheduler_try_register_operation_manually", S_TYPE_AMOUNT, |i| flat(s(i)?.try_register_operation_manually(typ(i), i[4])?)),
+
     call("scheduler_try_register_operation", S_OPERATION, |i| flat(s(i)?.try_register_operation(&operation(&i[3..]))?)),
     call("scheduler_try_register_operations", S_LIST, |i| flat(s(i)?.try_register_operation(&list(&i[3..])?)?)),
 

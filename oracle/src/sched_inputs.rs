@@ -46,7 +46,11 @@ fn tuples(columns: &[&[u64]]) -> Vec<Vec<u64>> {
     columns.iter().fold(vec![vec![]], |tuples, column| {
         tuples
             .iter()
-            .flat_map(|tuple| column.iter().map(|&number| [&tuple[..], &[number]].concat()))
+            .flat_map(|tuple| {
+                column
+                    .iter()
+                    .map(|&number| [&tuple[..], &[number]].concat())
+            })
             .collect()
     })
 }
@@ -150,9 +154,10 @@ fn length(random: &mut Random, scheduler: [u64; 3]) -> u64 {
 fn list(random: &mut Random, scheduler: [u64; 3]) -> [u64; 7] {
     let [typ, off, len] = operation(random, scheduler);
     let mut second = operation(random, scheduler);
-    if random.next() % 4 > 0 {
-        second[0] = typ;
-    }
+    second[0] = match random.next() % 4 {
+        0 => second[0],
+        _ => typ,
+    };
     let data = data(scheduler);
     let whole = [data, scheduler[0].wrapping_sub(data), 0];
     if let Some(whole) = whole.get(random.next() as usize % 4) {
@@ -162,7 +167,7 @@ fn list(random: &mut Random, scheduler: [u64; 3]) -> [u64; 7] {
     [count, typ, off, len, second[0], second[1], second[2]]
 }
 
-/// As often of equal values as of others.
+/// Often of equal values.
 fn diff(random: &mut Random) -> [u64; 3] {
     let old = random.mixed(0);
     let new = match random.next() % 2 {

@@ -1,4 +1,4 @@
-//! The static library's calls for modular numbers. Each is total, so each is safe to call.
+//! The static library's calls. Each is total, so each is safe to call.
 
 /// `some` is 1 with the value, or 0 with the value 0.
 #[repr(C)]
@@ -51,4 +51,156 @@ impl From<Option<u64>> for OptionNumber {
             value: option.unwrap_or(0),
         }
     }
+}
+
+/// A struct of N numbers, flat. C passes an array in a struct as it passes so many fields.
+#[repr(C)]
+struct Flat<const N: usize>([u64; N]);
+
+type Scheduler = Flat<3>;
+type Operation = Flat<3>;
+type Operations = Flat<7>;
+type Diff = Flat<3>;
+
+/// An answer that begins with a refusal, which has 4 numbers.
+#[repr(C)]
+struct Answer<const N: usize>([u64; N]);
+
+/// What a call takes, read off the front of its input.
+trait Taken {
+    fn taken(rest: &mut &[u64]) -> Self;
+}
+
+impl Taken for u64 {
+    fn taken(rest: &mut &[u64]) -> Self {
+        let Flat([number]) = Taken::taken(rest);
+        number
+    }
+}
+
+impl<const N: usize> Taken for Flat<N> {
+    fn taken(rest: &mut &[u64]) -> Self {
+        let (numbers, after) = rest.split_first_chunk().expect("a whole input");
+        *rest = after;
+        Flat(*numbers)
+    }
+}
+
+/// What a call answers, laid out as `sched_answers::row` does.
+trait Row {
+    fn row(self) -> [u64; 16];
+}
+
+impl<const N: usize> Row for Answer<N> {
+    fn row(self) -> [u64; 16] {
+        let mut row = [0; 16];
+        row[..N].copy_from_slice(&self.0);
+        row
+    }
+}
+
+impl<const N: usize> Row for Flat<N> {
+    fn row(self) -> [u64; 16] {
+        let mut row = [0; 16];
+        row[4..4 + N].copy_from_slice(&self.0);
+        row
+    }
+}
+
+impl Row for u64 {
+    fn row(self) -> [u64; 16] {
+        Flat([self]).row()
+    }
+}
+
+impl Row for bool {
+    fn row(self) -> [u64; 16] {
+        u64::from(self).row()
+    }
+}
+
+/// Declares the calls, and makes a table of them.
+macro_rules! sched_calls {
+    ($($name:ident($($part:ty),*) -> $answer:ty;)*) => {
+        mod sched_extern {
+            use super::*;
+            unsafe extern "C" {
+                $(
+                    #[link_name = concat!("stripring_", stringify!($name))]
+                    pub safe fn $name($(_: $part),*) -> $answer;
+                )*
+            }
+        }
+
+        /// Each call's name in `sched_answers`, and the library's answer to an input.
+        pub fn sched_calls() -> Vec<(&'static str, fn(&[u64; 12]) -> [u64; 16])> {
+            vec![$((stringify!($name), |input| {
+                #[allow(unused_mut, unused_variables)] // by the calls that take nothing
+                let mut rest = &input[..];
+                sched_extern::$name($(<$part>::taken(&mut rest)),*).row()
+            })),*]
+        }
+    };
+}
+
+sched_calls! {
+    scheduler_max_buf_len() -> u64;
+    scheduler_try_new(u64) -> Answer<7>;
+    scheduler_try_from_counters(u64, u64, u64) -> Answer<7>;
+    scheduler_demand_soundness(Scheduler) -> Answer<7>;
+    scheduler_items_read(Scheduler) -> Answer<5>;
+    scheduler_items_written(Scheduler) -> Answer<5>;
+    scheduler_read_off(Scheduler) -> Answer<5>;
+    scheduler_write_off(Scheduler) -> Answer<5>;
+    scheduler_buf_len(Scheduler) -> Answer<5>;
+    scheduler_is_zero_sized(Scheduler) -> Answer<5>;
+    scheduler_data_avail(Scheduler) -> Answer<5>;
+    scheduler_space_avail(Scheduler) -> Answer<5>;
+    scheduler_fill_state(Scheduler) -> Answer<5>;
+    scheduler_is_empty(Scheduler) -> Answer<5>;
+    scheduler_is_full(Scheduler) -> Answer<5>;
+    scheduler_is_nonempty(Scheduler) -> Answer<5>;
+    scheduler_is_nonfull(Scheduler) -> Answer<5>;
+    scheduler_layout(Scheduler) -> Answer<5>;
+    scheduler_block_0_off(Scheduler) -> Answer<5>;
+    scheduler_block_1_off(Scheduler) -> Answer<5>;
+    scheduler_block_2_off(Scheduler) -> Answer<5>;
+    scheduler_block_0_len(Scheduler) -> Answer<5>;
+    scheduler_block_1_len(Scheduler) -> Answer<5>;
+    scheduler_block_2_len(Scheduler) -> Answer<5>;
+    scheduler_block_0(Scheduler) -> Answer<8>;
+    scheduler_block_1(Scheduler) -> Answer<8>;
+    scheduler_block_2(Scheduler) -> Answer<8>;
+    scheduler_blocks(Scheduler) -> Answer<16>;
+    scheduler_next_read_block(Scheduler) -> Answer<8>;
+    scheduler_next_write_block(Scheduler) -> Answer<8>;
+    scheduler_operation_counter(Scheduler, u64) -> Answer<5>;
+    scheduler_operation_offset(Scheduler, u64) -> Answer<5>;
+    scheduler_max_operation_len(Scheduler, u64) -> Answer<5>;
+    scheduler_next_operation_block(Scheduler, u64) -> Answer<8>;
+    scheduler_schedule_next_read(Scheduler, u64) -> Answer<8>;
+    scheduler_schedule_next_write(Scheduler, u64) -> Answer<8>;
+    scheduler_schedule_reads(Scheduler, u64) -> Answer<11>;
+    scheduler_schedule_writes(Scheduler, u64) -> Answer<11>;
+    scheduler_try_register_read(Scheduler, u64) -> Answer<7>;
+    scheduler_try_register_write(Scheduler, u64) -> Answer<7>;
+    scheduler_schedule_next_contiguous_operation(Scheduler, u64, u64) -> Answer<8>;
+    scheduler_schedule_contiguous_operations(Scheduler, u64, u64) -> Answer<11>;
+    scheduler_try_register_operation_manually(Scheduler, u64, u64) -> Answer<7>;
+    scheduler_try_register_operation(Scheduler, Operation) -> Answer<7>;
+    scheduler_try_register_operations(Scheduler, Operations) -> Answer<7>;
+    operations_try_new(Operations) -> Answer<11>;
+    operations_container(Operations) -> Answer<11>;
+    operations_into_container(Operations) -> Answer<11>;
+    operations_cumulative_operation_length(Operations) -> Answer<5>;
+    operations_with_cumulative_offset(Operations) -> Answer<13>;
+    operations_with_outside_buffer_range(Operations) -> Answer<15>;
+    operation_default() -> Operation;
+    operation_new(u64, u64, u64) -> Operation;
+    block_new(u64, u64, u64, u64) -> Flat<4>;
+    diff_new(u64, u64) -> Diff;
+    diff_is_same(Diff) -> bool;
+    diff_is_different(Diff) -> bool;
+    diff_old_value(Diff) -> u64;
+    diff_new_value(Diff) -> u64;
 }

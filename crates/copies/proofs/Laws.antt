@@ -38,16 +38,16 @@ use Rattle.copies.proofs.Ring.{put-place, put-append, put-ahead, get-pl
 part-length : (xs : List ℕ) (a n : ℕ) → a + n ≤ length xs → length (part xs a n) ≡ n
 part-length xs a n h = length-take-le n (drop a xs) (omega (arith, length-drop a xs))
 
--- what a copy of a part of ys into a lent part of xs leaves of xs
-pub paste-copy : (xs ys last : List ℕ) (a b n : ℕ) → a + n ≤ length ys → b + n ≤ length xs →
-    last ≡ take (length (part ys a (a + n - a))) (part ys a (a + n - a)) ++ drop (length (part ys a (a + n - a))) (part xs b (b + n - b)) →
-    take b xs ++ (last ++ drop (b + n - b) (drop b xs)) ≡ pasted xs b (part ys a n)
-paste-copy xs ys last a b n ha hb p =
-    let i : a + n - a ≡ n = omega arith in
-    let j : b + n - b ≡ n = omega arith in
-    let e : length (part ys a n) ≡ n = part-length ys a n ha in
+-- what a copy of a part of ys, up to e, into a lent part of xs, up to f, leaves of xs
+pub paste-copy : (xs ys last : List ℕ) (a b n e f : ℕ) → e ≡ a + n → f ≡ b + n → a + n ≤ length ys → b + n ≤ length xs →
+    last ≡ take (length (part ys a (e - a))) (part ys a (e - a)) ++ drop (length (part ys a (e - a))) (part xs b (f - b)) →
+    take b xs ++ (last ++ drop (f - b) (drop b xs)) ≡ pasted xs b (part ys a n)
+paste-copy xs ys last a b n e f pe pf ha hb p =
+    let i : e - a ≡ n = omega arith in
+    let j : f - b ≡ n = omega arith in
+    let q : length (part ys a n) ≡ n = part-length ys a n ha in
     let z : drop n (part xs b n) ≡ [] = drop-of-length-le (part xs b n) {i = n} (omega (arith, length-take n (drop b xs))) in
-    rw (p, i, j, take-length (part ys a n), e, z, append-nil, drop-drop)
+    rw (p, i, j, take-length (part ys a n), q, z, append-nil, drop-drop)
 
 pub pasted-length : (xs : List ℕ) (at : ℕ) (bs : List ℕ) → at + length bs ≤ length xs → length (pasted xs at bs) ≡ length xs
 pasted-length xs at bs h =

@@ -53,6 +53,18 @@ impl Line {
         }
     }
 
+    // Its first numbers, so many.
+    pub fn first(self, count: usize) -> Line {
+        let mut line = Line::new();
+        for i in 0..128 {
+            if i == count {
+                return line;
+            }
+            line = line.push(self.numbers[i]);
+        }
+        line
+    }
+
     // After one byte more, which is not the line feed.
     pub fn fed(self, byte: u8) -> Line {
         let state = self.state;

@@ -38,7 +38,7 @@ same-length c = search needs
 returns : tie.Need-returns
 returns c =
     let s = c .before .before .before .before .before .before .before .args in
-    paste-copy (s .to .now) (s .from .now) _ (s .a) (s .b) (s .n) (omega arith) (omega arith) (c .before .before .copy .ensures .1)
+    paste-copy (s .to .now) (s .from .now) _ (s .a) (s .b) (s .n) _ _ (omega arith) (omega arith) (omega arith) (omega arith) (c .before .before .copy .ensures .1)
 
 pub copy-part-spec : {M : Type 1} → statement M
 copy-part-spec =

@@ -1,0 +1,6 @@
+pub mod View
+pub mod Core
+pub mod Shared
+pub mod Plain
+pub mod Run
+pub mod Decided

@@ -1,0 +1,48 @@
+-- The cases of the definition.
+use native.Mathlib.Omega.{arith}
+use borrow.Author.Tests.{lt-ltb, le-ltb}
+use Rattle.ends.specs.Ends.{takenFrom}
+use borrow.Author.Needs.{needs}
+use Rattle.ends.proofs.refusal.not_shrunk.Statement.{statement}
+use Rattle.ends.proofs.refusal.not_shrunk.Tie as tie
+
+enum-known-before : tie.Need-enum-known-before
+enum-known-before c = search needs
+
+enum-known-after : tie.Need-enum-known-after
+enum-known-after c = search needs
+
+returns : tie.Need-returns
+unfolding takenFrom
+returns c = rw (c .before .before .before .before .before .before2 .given .1, c .before .before .after .given .1, lt-ltb (c .before .before .after .given .0 .0) (c .before .before .before .before .before .before2 .given .0 .0) (omega arith))
+
+enum-known-after-2 : tie.Need-enum-known-after-2
+enum-known-after-2 c = search needs
+
+enum-known-before-2 : tie.Need-enum-known-before-2
+enum-known-before-2 c = search needs
+
+returns-2 : tie.Need-returns-2
+unfolding takenFrom
+returns-2 c = rw (c .before .before .before .before .before .before2 .given .1, c .before .before .after .given .1, le-ltb (c .before .before .after .given .0 .0) (c .before .before .before .before .before .before2 .given .0 .0) (omega arith))
+
+returns-3 : tie.Need-returns-3
+unfolding takenFrom
+returns-3 c = rw (c .before .before .before .before .before2 .given .1, c .before .after2 .given .1)
+
+returns-4 : tie.Need-returns-4
+unfolding takenFrom
+returns-4 c = rw (c .before .before3 .given .1)
+
+pub not-shrunk-spec : {M : Type 1} → statement M
+not-shrunk-spec =
+    tie.close
+    (tie.spec
+    enum-known-before
+    enum-known-after
+    returns
+    enum-known-after-2
+    enum-known-before-2
+    returns-2
+    returns-3
+    returns-4)

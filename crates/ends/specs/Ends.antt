@@ -1,0 +1,144 @@
+-- What the calls of the two ends answer.
+use Prim.Native.Nat.{ℕ}
+use mathlib.Core.Bool.{cond}
+use mathlib.Core.List.{List, []}
+use lib.Dec.{ltb}
+use Rattle.sched.specs.declared.counter.AmountAnswer.{AmountAnswer}
+use Rattle.sched.specs.declared.counter.AmountAnswer.the-variants as amount
+use Rattle.sched.specs.declared.counter.CounterAnswer.{CounterAnswer}
+use Rattle.sched.specs.declared.counter.CounterAnswer.the-variants as counter
+use Rattle.sched.specs.declared.operation.OperationType.the-variants.{Read, Write}
+use Rattle.sched.specs.declared.scheduler.Checked.{Checked}
+use Rattle.sched.specs.declared.scheduler.Checked.the-variants as checked
+use Rattle.sched.specs.declared.scheduler.RingBufferScheduler.{RingBufferScheduler}
+use Rattle.sched.specs.Scheduler.{schedulerOf, soundOf, counterAnswerOf, greatestOf}
+use Rattle.copies.specs.declared.Copied.{Copied}
+use Rattle.copies.specs.declared.Copied.the-variants as copied
+use Rattle.copies.specs.declared.Refusal.the-variants.{Scheduler}
+use Rattle.copies.specs.Copies as copies
+use Rattle.copies.specs.Copies.{writeOf, readOf}
+use Rattle.ends.specs.declared.refusal.Refusal.{Refusal}
+use Rattle.ends.specs.declared.refusal.Refusal.the-variants.{Copy, RanBack}
+use Rattle.ends.specs.declared.refusal.Taken.{Taken}
+use Rattle.ends.specs.declared.refusal.Taken.the-variants as taken
+use Rattle.ends.specs.declared.writing_end.WrittenCounter.{WrittenCounter}
+use Rattle.ends.specs.declared.writing_end.WrittenCounterAnswer.{WrittenCounterAnswer}
+use Rattle.ends.specs.declared.writing_end.WrittenCounterAnswer.the-variants as writtenCounter
+use Rattle.ends.specs.declared.writing_end.WritingEnd.{WritingEnd}
+use Rattle.ends.specs.declared.writing_end.WritingEndAnswer.{WritingEndAnswer}
+use Rattle.ends.specs.declared.writing_end.WritingEndAnswer.the-variants as writing
+use Rattle.ends.specs.declared.writing_end.Wrote.{Wrote}
+use Rattle.ends.specs.declared.writing_end.Wrote.the-variants as wrote
+use Rattle.ends.specs.declared.reading_end.ReadCounter.{ReadCounter}
+use Rattle.ends.specs.declared.reading_end.ReadCounterAnswer.{ReadCounterAnswer}
+use Rattle.ends.specs.declared.reading_end.ReadCounterAnswer.the-variants as readCounter
+use Rattle.ends.specs.declared.reading_end.ReadingEnd.{ReadingEnd}
+use Rattle.ends.specs.declared.reading_end.ReadingEndAnswer.{ReadingEndAnswer}
+use Rattle.ends.specs.declared.reading_end.ReadingEndAnswer.the-variants as reading
+use Rattle.ends.specs.declared.reading_end.Got.{Got}
+use Rattle.ends.specs.declared.reading_end.Got.the-variants as got
+
+-- the paper's number of a refusal, and its values
+abbrev pub numberOf : Refusal → ℕ
+numberOf (Copy e) = copies.numberOf e
+numberOf RanBack = 10
+
+abbrev pub valuesOf : Refusal → List ℕ
+valuesOf (Copy e) = copies.valuesOf e
+valuesOf RanBack = []
+
+abbrev pub writingEnd : RingBufferScheduler → WritingEnd
+writingEnd s = record { scheduler = s }
+
+abbrev pub readingEnd : RingBufferScheduler → ReadingEnd
+readingEnd s = record { scheduler = s }
+
+-- ---- making one: 1 to 5
+abbrev pub writingEndFrom : Checked → WritingEndAnswer
+writingEndFrom (checked.Sound s) = writing.Of (writingEnd s)
+writingEndFrom (checked.Refused e) = writing.Refused (Copy (Scheduler e))
+
+abbrev pub writingEndOf : RingBufferScheduler → WritingEndAnswer
+writingEndOf s = writingEndFrom (soundOf s)
+
+abbrev pub readingEndFrom : Checked → ReadingEndAnswer
+readingEndFrom (checked.Sound s) = reading.Of (readingEnd s)
+readingEndFrom (checked.Refused e) = reading.Refused (Copy (Scheduler e))
+
+abbrev pub readingEndOf : RingBufferScheduler → ReadingEndAnswer
+readingEndOf s = readingEndFrom (soundOf s)
+
+-- ---- writing and reading: the copy, with what it leaves in the lent memory
+pub record WroteLeft : Type 0 where
+  pub answer : Wrote
+  pub memory : List ℕ
+
+abbrev pub wroteLeft : Wrote → List ℕ → WroteLeft
+wroteLeft a m = record { answer = a; memory = m }
+
+abbrev pub wroteFrom : Copied → Wrote
+wroteFrom (copied.Moved s n) = wrote.Moved (writingEnd s) n
+wroteFrom (copied.Refused e) = wrote.Refused (Copy e)
+
+abbrev pub wroteOf : WritingEnd → List ℕ → List ℕ → WroteLeft
+wroteOf e ring src = wroteLeft (wroteFrom (writeOf (e .scheduler) ring src .answer)) (writeOf (e .scheduler) ring src .memory)
+
+pub record GotLeft : Type 0 where
+  pub answer : Got
+  pub memory : List ℕ
+
+abbrev pub gotLeft : Got → List ℕ → GotLeft
+gotLeft a m = record { answer = a; memory = m }
+
+abbrev pub gotFrom : Copied → Got
+gotFrom (copied.Moved s n) = got.Moved (readingEnd s) n
+gotFrom (copied.Refused e) = got.Refused (Copy e)
+
+abbrev pub gotOf : ReadingEnd → List ℕ → List ℕ → GotLeft
+gotOf e ring dst = gotLeft (gotFrom (readOf (e .scheduler) ring dst .answer)) (readOf (e .scheduler) ring dst .memory)
+
+-- ---- sending its own counter
+abbrev pub writtenSentFrom : CounterAnswer → WrittenCounterAnswer
+writtenSentFrom (counter.Of c) = writtenCounter.Of (record { 0 = c })
+writtenSentFrom (counter.Refused e) = writtenCounter.Refused (Copy (Scheduler e))
+
+abbrev pub writtenSentOf : WritingEnd → WrittenCounterAnswer
+writtenSentOf e = writtenSentFrom (counterAnswerOf (e .scheduler) Write)
+
+abbrev pub readSentFrom : CounterAnswer → ReadCounterAnswer
+readSentFrom (counter.Of c) = readCounter.Of (record { 0 = c })
+readSentFrom (counter.Refused e) = readCounter.Refused (Copy (Scheduler e))
+
+abbrev pub readSentOf : ReadingEnd → ReadCounterAnswer
+readSentOf e = readSentFrom (counterAnswerOf (e .scheduler) Read)
+
+-- ---- taking the other's: the own record's refusal, then that of the record with the new counter, and then 10 where the
+-- amount would shrink
+unfoldable pub takenFrom : AmountAnswer → AmountAnswer → Taken
+takenFrom (amount.Of before) (amount.Of after) = cond (ltb after before) (taken.Refused RanBack) taken.Accepted
+takenFrom (amount.Of before) (amount.Refused e) = taken.Refused (Copy (Scheduler e))
+takenFrom (amount.Refused e) after = taken.Refused (Copy (Scheduler e))
+
+abbrev pub withRead : RingBufferScheduler → ReadCounter → RingBufferScheduler
+withRead s c = schedulerOf (s .«buf_len») (s .«items_written») (c .0)
+
+abbrev pub withWritten : RingBufferScheduler → WrittenCounter → RingBufferScheduler
+withWritten s c = schedulerOf (s .«buf_len») (c .0) (s .«items_read»)
+
+-- a writing end's space must not shrink
+abbrev pub takeReadFrom : RingBufferScheduler → Taken → WritingEndAnswer
+takeReadFrom s taken.Accepted = writing.Of (writingEnd s)
+takeReadFrom s (taken.Refused e) = writing.Refused e
+
+abbrev pub takeReadOf : WritingEnd → ReadCounter → WritingEndAnswer
+takeReadOf e c =
+    takeReadFrom (withRead (e .scheduler) c) (takenFrom (greatestOf (e .scheduler) Write) (greatestOf (withRead (e .scheduler) c) Write))
+
+-- a reading end's data must not shrink
+abbrev pub takeWrittenFrom : RingBufferScheduler → Taken → ReadingEndAnswer
+takeWrittenFrom s taken.Accepted = reading.Of (readingEnd s)
+takeWrittenFrom s (taken.Refused e) = reading.Refused e
+
+abbrev pub takeWrittenOf : ReadingEnd → WrittenCounter → ReadingEndAnswer
+takeWrittenOf e c =
+    takeWrittenFrom (withWritten (e .scheduler) c) (takenFrom (greatestOf (e .scheduler) Read) (greatestOf (withWritten (e .scheduler) c) Read))

@@ -1,0 +1,18 @@
+// The two linked ends of a ring: a writing and a reading end, two kinds of record, so that a write cannot be asked of a reading
+// end. Each sends its own counter and takes the other's.
+mod reading_end;
+mod refusal;
+mod writing_end;
+
+pub use reading_end::Got;
+pub use reading_end::ReadCounter;
+pub use reading_end::ReadCounterAnswer;
+pub use reading_end::ReadingEnd;
+pub use reading_end::ReadingEndAnswer;
+pub use refusal::Refusal;
+pub use refusal::Taken;
+pub use writing_end::WritingEnd;
+pub use writing_end::WritingEndAnswer;
+pub use writing_end::WrittenCounter;
+pub use writing_end::WrittenCounterAnswer;
+pub use writing_end::Wrote;

@@ -1,0 +1,112 @@
+// The reading end.
+ghost use mathlib.Core.Path.{_≡_};
+ghost use Rattle.sched.specs.Scheduler.{soundOf, schedulerOf};
+ghost use Rattle.ends.specs.Ends.{readingEndOf, gotLeft, gotOf, readSentOf, takeWrittenOf};
+use crate::refusal::Refusal;
+use crate::refusal::Taken;
+use crate::refusal::not_shrunk;
+use crate::writing_end::WrittenCounter;
+use copies::Copied;
+use sched::Checked;
+use sched::Counter;
+use sched::CounterAnswer;
+use sched::RingBufferScheduler;
+
+// How many bytes this end has read, modulo twice the ring's length.
+pub struct ReadCounter(pub Counter);
+
+pub enum ReadCounterAnswer {
+    Of(ReadCounter),
+    Refused(Refusal),
+}
+
+pub struct ReadingEnd {
+    pub scheduler: RingBufferScheduler,
+}
+
+pub enum ReadingEndAnswer {
+    Of(ReadingEnd),
+    Refused(Refusal),
+}
+
+// The end after a copy and how many bytes it moved, or why none.
+pub enum Got {
+    Moved { end: ReadingEnd, n: u64 },
+    Refused(Refusal),
+}
+
+impl ReadingEnd {
+    pub fn new(buf_len: u64) -> ReadingEndAnswer
+        ensures { λ r. ⌜ r ≡ readingEndOf (schedulerOf «buf_len» (record { 0 = 0 }) (record { 0 = 0 })) ⌝ }
+    {
+        ReadingEnd::from_counters(buf_len, Counter(0), Counter(0))
+    }
+
+    pub fn from_counters(
+        buf_len: u64,
+        items_written: Counter,
+        items_read: Counter,
+    ) -> ReadingEndAnswer
+        ensures { λ r. ⌜ r ≡ readingEndOf (schedulerOf «buf_len» «items_written» «items_read») ⌝ }
+    {
+        ReadingEnd::from_scheduler(RingBufferScheduler {
+            buf_len,
+            items_read,
+            items_written,
+        })
+    }
+
+    pub fn from_scheduler(scheduler: RingBufferScheduler) -> ReadingEndAnswer
+        ensures { λ r. ⌜ r ≡ readingEndOf scheduler ⌝ }
+    {
+        match scheduler.demand_soundness() {
+            Checked::Sound(s) => ReadingEndAnswer::Of(ReadingEnd { scheduler: s }),
+            Checked::Refused(e) =>
+                ReadingEndAnswer::Refused(Refusal::Copy(copies::Refusal::Scheduler(e))),
+        }
+    }
+
+    // Moves bytes of the ring to the front of `dst`, as many as this end has data and fit.
+    pub fn read(self, ring: &[u8], dst: &mut [u8]) -> Got
+        ensures { λ r. ⌜ gotLeft r (now (dst .exit)) ≡ gotOf self (now (ring .entry)) (now (dst .entry)) ⌝ }
+    {
+        let s = self.scheduler;
+        match copies::read(s, ring, dst) {
+            Copied::Moved { scheduler, n } => Got::Moved {
+                end: ReadingEnd { scheduler },
+                n,
+            },
+            Copied::Refused(e) => Got::Refused(Refusal::Copy(e)),
+        }
+    }
+
+    // Its own counter.
+    pub fn send(self) -> ReadCounterAnswer
+        ensures { λ r. ⌜ r ≡ readSentOf self ⌝ }
+    {
+        match self.scheduler.items_read() {
+            CounterAnswer::Of(c) => ReadCounterAnswer::Of(ReadCounter(c)),
+            CounterAnswer::Refused(e) =>
+                ReadCounterAnswer::Refused(Refusal::Copy(copies::Refusal::Scheduler(e))),
+        }
+    }
+
+    // The other end's counter takes the place of the one that this end holds: its own record is tested first, then the
+    // new one, and then whether the data would shrink.
+    pub fn take(self, counter: WrittenCounter) -> ReadingEndAnswer
+        ensures { λ r. ⌜ r ≡ takeWrittenOf self counter ⌝ }
+    {
+        let s = self.scheduler;
+        let items_read = s.items_read;
+        let items_written = counter.0;
+        let next = RingBufferScheduler {
+            buf_len: s.buf_len,
+            items_read,
+            items_written,
+        };
+        match not_shrunk(s.data_avail(), next.data_avail()) {
+            Taken::Accepted => ReadingEndAnswer::Of(ReadingEnd { scheduler: next }),
+            Taken::Refused(e) => ReadingEndAnswer::Refused(e),
+        }
+    }
+}

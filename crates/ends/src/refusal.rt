@@ -1,0 +1,36 @@
+// Why an end refuses, and the test of a taken counter.
+ghost use mathlib.Core.Path.{_≡_};
+ghost use Rattle.ends.specs.Ends.{takenFrom};
+use sched::AmountAnswer;
+
+// What a copy or the scheduler refuses, or 10.
+pub enum Refusal {
+    Copy(copies::Refusal),
+    RanBack,
+}
+
+// Whether a counter is taken.
+pub enum Taken {
+    Accepted,
+    Refused(Refusal),
+}
+
+// A counter is taken unless it makes the data of a reading end, or the space of a writing end, smaller than before.
+pub fn not_shrunk(before: AmountAnswer, after: AmountAnswer) -> Taken
+    ensures { λ r. ⌜ r ≡ takenFrom before after ⌝ }
+{
+    match before {
+        AmountAnswer::Of(b) => match after {
+            AmountAnswer::Of(a) => {
+                if a < b {
+                    return Taken::Refused(Refusal::RanBack);
+                }
+                Taken::Accepted
+            }
+            AmountAnswer::Refused(e) => Taken::Refused(Refusal::Copy(copies::Refusal::Scheduler(
+                e,
+            ))),
+        },
+        AmountAnswer::Refused(e) => Taken::Refused(Refusal::Copy(copies::Refusal::Scheduler(e))),
+    }
+}

@@ -1,0 +1,277 @@
+// The answers of sched, appended to what was asked: 0 and the numbers, or the refusal's number and its values.
+use crate::line::Line;
+use sched::AmountAnswer;
+use sched::Bit;
+use sched::Block;
+use sched::BlockAnswer;
+use sched::BlockType;
+use sched::BlocksAnswer;
+use sched::BoolAnswer;
+use sched::BufferFillState;
+use sched::BufferLayout;
+use sched::Checked;
+use sched::CounterAnswer;
+use sched::CumulativeOffset;
+use sched::CumulativeOffsets;
+use sched::CumulativeOffsetsAnswer;
+use sched::Diff;
+use sched::FillStateAnswer;
+use sched::LayoutAnswer;
+use sched::NextOperation;
+use sched::NextOperationAnswer;
+use sched::OffsetAnswer;
+use sched::OperationType;
+use sched::OperationsAnswer;
+use sched::OutsideRange;
+use sched::OutsideRanges;
+use sched::OutsideRangesAnswer;
+use sched::Refusal;
+use sched::Registered;
+use sched::RingBufferScheduler;
+use sched::ScheduledOperation;
+use sched::ScheduledOperations;
+
+pub fn number(asked: Line, value: u64) -> Line {
+    asked.push(0).push(value)
+}
+
+pub fn boolean(asked: Line, value: bool) -> Line {
+    if value {
+        number(asked, 1)
+    } else {
+        number(asked, 0)
+    }
+}
+
+fn refused(asked: Line, e: Refusal) -> Line {
+    match e {
+        Refusal::ZeroBufferLength => asked.push(1),
+        Refusal::BufferTooLarge { buf_len } => asked.push(2).push(buf_len),
+        Refusal::ItemsWrittenOutOfBounds {
+            buf_len,
+            items_written,
+        } => asked.push(3).push(buf_len).push(items_written.0),
+        Refusal::ItemsReadOutofBounds {
+            buf_len,
+            items_read,
+        } => asked.push(4).push(buf_len).push(items_read.0),
+        Refusal::DataAvailOutOfBounds {
+            buf_len,
+            items_written,
+            items_read,
+        } => asked
+            .push(5)
+            .push(buf_len)
+            .push(items_written.0)
+            .push(items_read.0),
+        Refusal::OperationTooLarge {
+            op_type,
+            op_len,
+            max_len,
+        } => with_type(asked.push(6), op_type).push(op_len).push(max_len),
+        Refusal::OperationTooLong { excess } => asked.push(7).push(excess),
+        Refusal::InconsistentOperationType => asked.push(8),
+    }
+}
+
+pub fn counter(asked: Line, answer: CounterAnswer) -> Line {
+    match answer {
+        CounterAnswer::Of(c) => number(asked, c.0),
+        CounterAnswer::Refused(e) => refused(asked, e),
+    }
+}
+
+pub fn offset(asked: Line, answer: OffsetAnswer) -> Line {
+    match answer {
+        OffsetAnswer::Of(o) => number(asked, o.0),
+        OffsetAnswer::Refused(e) => refused(asked, e),
+    }
+}
+
+pub fn amount(asked: Line, answer: AmountAnswer) -> Line {
+    match answer {
+        AmountAnswer::Of(n) => number(asked, n),
+        AmountAnswer::Refused(e) => refused(asked, e),
+    }
+}
+
+pub fn truth(asked: Line, answer: BoolAnswer) -> Line {
+    match answer {
+        BoolAnswer::Of(b) => boolean(asked, b),
+        BoolAnswer::Refused(e) => refused(asked, e),
+    }
+}
+
+pub fn fill_state(asked: Line, answer: FillStateAnswer) -> Line {
+    match answer {
+        FillStateAnswer::Of(f) => number(asked, fill_number(f)),
+        FillStateAnswer::Refused(e) => refused(asked, e),
+    }
+}
+
+fn fill_number(fill: BufferFillState) -> u64 {
+    match fill {
+        BufferFillState::Empty => 0,
+        BufferFillState::Partial => 1,
+        BufferFillState::Full => 2,
+    }
+}
+
+pub fn layout(asked: Line, answer: LayoutAnswer) -> Line {
+    match answer {
+        LayoutAnswer::Of(l) => number(asked, layout_number(l)),
+        LayoutAnswer::Refused(e) => refused(asked, e),
+    }
+}
+
+fn layout_number(layout: BufferLayout) -> u64 {
+    match layout {
+        BufferLayout::DataFreeData => 0,
+        BufferLayout::FreeDataFree => 1,
+    }
+}
+
+pub fn checked(asked: Line, answer: Checked) -> Line {
+    match answer {
+        Checked::Sound(s) => with_scheduler(asked.push(0), s),
+        Checked::Refused(e) => refused(asked, e),
+    }
+}
+
+pub fn registered(asked: Line, answer: Registered) -> Line {
+    match answer {
+        Registered::Advanced(s) => with_scheduler(asked.push(0), s),
+        Registered::Refused(e) => refused(asked, e),
+    }
+}
+
+fn with_scheduler(line: Line, s: RingBufferScheduler) -> Line {
+    line.push(s.buf_len)
+        .push(s.items_written.0)
+        .push(s.items_read.0)
+}
+
+pub fn a_block(asked: Line, answer: BlockAnswer) -> Line {
+    match answer {
+        BlockAnswer::Of(b) => with_block(asked.push(0), b),
+        BlockAnswer::Refused(e) => refused(asked, e),
+    }
+}
+
+pub fn blocks(asked: Line, answer: BlocksAnswer) -> Line {
+    match answer {
+        BlocksAnswer::Of(b) => with_block(with_block(with_block(asked.push(0), b.0), b.1), b.2),
+        BlocksAnswer::Refused(e) => refused(asked, e),
+    }
+}
+
+pub fn with_block(line: Line, b: Block) -> Line {
+    let typ = b.typ;
+    let no = b.no;
+    line.push(block_type_number(typ))
+        .push(bit_number(no))
+        .push(b.off.0)
+        .push(b.len)
+}
+
+fn block_type_number(typ: BlockType) -> u64 {
+    match typ {
+        BlockType::Free => 0,
+        BlockType::Data => 1,
+    }
+}
+
+fn bit_number(bit: Bit) -> u64 {
+    match bit {
+        Bit::Zero => 0,
+        Bit::One => 1,
+    }
+}
+
+pub fn next_operation(asked: Line, answer: NextOperationAnswer) -> Line {
+    match answer {
+        NextOperationAnswer::Of(next) => with_next(asked.push(0), next),
+        NextOperationAnswer::Refused(e) => refused(asked, e),
+    }
+}
+
+fn with_next(line: Line, next: NextOperation) -> Line {
+    match next {
+        NextOperation::Some(op) => with_operation(line.push(1), op),
+        NextOperation::None => line.push(0),
+    }
+}
+
+pub fn with_operation(line: Line, op: ScheduledOperation) -> Line {
+    let typ = op.typ;
+    with_type(line, typ).push(op.off.0).push(op.len)
+}
+
+fn with_type(line: Line, typ: OperationType) -> Line {
+    match typ {
+        OperationType::Read => line.push(0),
+        OperationType::Write => line.push(1),
+    }
+}
+
+pub fn operations(asked: Line, answer: OperationsAnswer) -> Line {
+    match answer {
+        OperationsAnswer::Of(list) => with_list(asked.push(0), list),
+        OperationsAnswer::Refused(e) => refused(asked, e),
+    }
+}
+
+fn with_list(line: Line, list: ScheduledOperations) -> Line {
+    match list {
+        ScheduledOperations::None => line.push(0),
+        ScheduledOperations::One(a) => with_operation(line.push(1), a),
+        ScheduledOperations::Two(a, b) => with_operation(with_operation(line.push(2), a), b),
+    }
+}
+
+pub fn starts(asked: Line, answer: CumulativeOffsetsAnswer) -> Line {
+    match answer {
+        CumulativeOffsetsAnswer::Of(list) => with_starts(asked.push(0), list),
+        CumulativeOffsetsAnswer::Refused(e) => refused(asked, e),
+    }
+}
+
+fn with_starts(line: Line, list: CumulativeOffsets) -> Line {
+    match list {
+        CumulativeOffsets::None => line.push(0),
+        CumulativeOffsets::One(a) => with_start(line.push(1), a),
+        CumulativeOffsets::Two(a, b) => with_start(with_start(line.push(2), a), b),
+    }
+}
+
+fn with_start(line: Line, at: CumulativeOffset) -> Line {
+    let op = at.op;
+    with_operation(line.push(at.start), op)
+}
+
+pub fn ranges(asked: Line, answer: OutsideRangesAnswer) -> Line {
+    match answer {
+        OutsideRangesAnswer::Of(list) => with_ranges(asked.push(0), list),
+        OutsideRangesAnswer::Refused(e) => refused(asked, e),
+    }
+}
+
+fn with_ranges(line: Line, list: OutsideRanges) -> Line {
+    match list {
+        OutsideRanges::None => line.push(0),
+        OutsideRanges::One(a) => with_range(line.push(1), a),
+        OutsideRanges::Two(a, b) => with_range(with_range(line.push(2), a), b),
+    }
+}
+
+fn with_range(line: Line, range: OutsideRange) -> Line {
+    let op = range.op;
+    with_operation(line.push(range.start).push(range.end), op)
+}
+
+pub fn difference(asked: Line, d: Diff) -> Line {
+    match d {
+        Diff::Same(v) => asked.push(0).push(0).push(v).push(v),
+        Diff::Different(old, new) => asked.push(0).push(1).push(old).push(new),
+    }
+}

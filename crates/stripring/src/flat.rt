@@ -1,0 +1,168 @@
+// The flat structs that `sched`'s values go out in and a host's come in, with the flat form of a refusal.
+ghost use mathlib.Core.Path.{_≡_};
+ghost use Rattle.stripring.specs.Flat.{refusalOf, noRefusal, flatRefusal};
+use crate::operation::type_number;
+
+// The number of a refusal and its values, those that it lacks 0. Number 0, with values 0, is no refusal.
+#[repr(C)]
+pub struct Refusal {
+    pub number: u64,
+    pub a: u64,
+    pub b: u64,
+    pub c: u64,
+}
+
+#[repr(C)]
+pub struct Scheduler {
+    pub buf_len: u64,
+    pub items_written: u64,
+    pub items_read: u64,
+}
+
+// `typ` is 0 for free and 1 for data; `no` is 0 for the first that is used and 1 for the one that comes round.
+#[repr(C)]
+pub struct Block {
+    pub typ: u64,
+    pub no: u64,
+    pub off: u64,
+    pub len: u64,
+}
+
+// `typ` is 0 for a read and 1 for a write; of a host's any number but 0 is a write.
+#[repr(C)]
+pub struct Operation {
+    pub typ: u64,
+    pub off: u64,
+    pub len: u64,
+}
+
+// The first `count` of the two; the others are zeros in answers. A host's count above 1 is two.
+#[repr(C)]
+pub struct Operations {
+    pub count: u64,
+    pub first: Operation,
+    pub second: Operation,
+}
+
+// An operation, and where it starts and ends in the linear buffer outside the ring.
+#[repr(C)]
+pub struct Range {
+    pub start: u64,
+    pub end: u64,
+    pub op: Operation,
+}
+
+#[repr(C)]
+pub struct Ranges {
+    pub count: u64,
+    pub first: Range,
+    pub second: Range,
+}
+
+// The same value where `different` is 0, and then `new` is `old` in answers and not looked at in a host's.
+#[repr(C)]
+pub struct Diff {
+    pub different: u64,
+    pub old: u64,
+    pub new: u64,
+}
+
+// An answer: where it is refused, every field but the refusal is 0. A bool is 0 or 1; a fill state 0 for empty, 1 for partial
+// and 2 for full; a layout 0 for `DataFreeData` and 1 for `FreeDataFree`.
+#[repr(C)]
+pub struct U64Answer {
+    pub refusal: Refusal,
+    pub value: u64,
+}
+
+#[repr(C)]
+pub struct SchedulerAnswer {
+    pub refusal: Refusal,
+    pub scheduler: Scheduler,
+}
+
+#[repr(C)]
+pub struct BlockAnswer {
+    pub refusal: Refusal,
+    pub block: Block,
+}
+
+#[repr(C)]
+pub struct BlocksAnswer {
+    pub refusal: Refusal,
+    pub block_0: Block,
+    pub block_1: Block,
+    pub block_2: Block,
+}
+
+// An operation where `some` is 1; none where it is 0.
+#[repr(C)]
+pub struct NextAnswer {
+    pub refusal: Refusal,
+    pub some: u64,
+    pub operation: Operation,
+}
+
+#[repr(C)]
+pub struct OperationsAnswer {
+    pub refusal: Refusal,
+    pub operations: Operations,
+}
+
+#[repr(C)]
+pub struct RangesAnswer {
+    pub refusal: Refusal,
+    pub ranges: Ranges,
+}
+
+// Each operation, and where it starts in the linear buffer outside the ring.
+#[repr(C)]
+pub struct StartsAnswer {
+    pub refusal: Refusal,
+    pub count: u64,
+    pub first_start: u64,
+    pub first: Operation,
+    pub second_start: u64,
+    pub second: Operation,
+}
+
+fn refusal_of(number: u64, a: u64, b: u64, c: u64) -> Refusal
+    ensures { λ r. ⌜ r ≡ refusalOf number a b c ⌝ }
+{
+    Refusal { number, a, b, c }
+}
+
+pub(crate) fn no_refusal() -> Refusal
+    ensures { λ r. ⌜ r ≡ noRefusal ⌝ }
+{
+    refusal_of(0, 0, 0, 0)
+}
+
+pub(crate) fn flat_refusal(e: sched::Refusal) -> Refusal
+    ensures { λ r. ⌜ r ≡ flatRefusal e ⌝ }
+{
+    match e {
+        sched::Refusal::ZeroBufferLength => refusal_of(1, 0, 0, 0),
+        sched::Refusal::BufferTooLarge { buf_len } => refusal_of(2, buf_len, 0, 0),
+        sched::Refusal::ItemsWrittenOutOfBounds {
+            buf_len,
+            items_written,
+        } => refusal_of(3, buf_len, items_written.0, 0),
+        sched::Refusal::ItemsReadOutofBounds {
+            buf_len,
+            items_read,
+        } => refusal_of(4, buf_len, items_read.0, 0),
+        sched::Refusal::DataAvailOutOfBounds {
+            buf_len,
+            items_written,
+            items_read,
+        } => refusal_of(5, buf_len, items_written.0, items_read.0),
+        sched::Refusal::OperationTooLarge {
+            op_type,
+            op_len,
+            max_len,
+        } => refusal_of(6, type_number(op_type), op_len, max_len),
+        sched::Refusal::OperationTooLong { excess } => refusal_of(7, excess, 0, 0),
+        sched::Refusal::InconsistentOperationType => refusal_of(8, 0, 0, 0),
+    }
+}

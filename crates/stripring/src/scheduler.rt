@@ -1,0 +1,452 @@
+// The calls of the scheduler. Every one tests the scheduler that it is given anew.
+ghost use mathlib.Core.Path.{_≡_};
+ghost use Prim.Native.Nat.{_^_};
+ghost use Rattle.sched.specs.Scheduler.{schedulerOf, soundOf, bufLenOf, counterAnswerOf, offsetAnswerOf, greatestOf, isZeroFrom, isPositiveFrom, fillStateOf, layoutOf, blocksOf, block0From, block1From, block2From, offFrom, lenFrom, nextBlockOf, nextOf, scheduleOf, registerOf, registerListOf};
+ghost use Rattle.stripring.specs.Block.{flatBlockAnswer, flatBlocks, flatLayout, flatFillState};
+ghost use Rattle.stripring.specs.Counter.{flatCounter, flatOffset, flatAmount, flatBool};
+ghost use Rattle.stripring.specs.List.{operationsAt, flatOperationsAnswer};
+ghost use Rattle.stripring.specs.Operation.{typeAt, operationAt, flatNext};
+ghost use Rattle.stripring.specs.Scheduler.{schedulerAt, noScheduler, flatScheduler, flatChecked, flatRegistered};
+use crate::block::flat_block_answer;
+use crate::block::flat_blocks;
+use crate::block::flat_fill_state;
+use crate::block::flat_layout;
+use crate::counter::flat_amount;
+use crate::counter::flat_bool;
+use crate::counter::flat_counter;
+use crate::counter::flat_offset;
+use crate::flat::BlockAnswer;
+use crate::flat::BlocksAnswer;
+use crate::flat::NextAnswer;
+use crate::flat::Operation;
+use crate::flat::Operations;
+use crate::flat::OperationsAnswer;
+use crate::flat::Scheduler;
+use crate::flat::SchedulerAnswer;
+use crate::flat::U64Answer;
+use crate::flat::flat_refusal;
+use crate::flat::no_refusal;
+use crate::list::flat_operations_answer;
+use crate::list::operations;
+use crate::operation::flat_next;
+use crate::operation::operation;
+use crate::operation::operation_type;
+use sched::Checked;
+use sched::Counter;
+use sched::OperationType;
+use sched::Registered;
+use sched::RingBufferScheduler;
+
+fn scheduler(s: Scheduler) -> RingBufferScheduler
+    ensures { λ r. ⌜ r ≡ schedulerAt s ⌝ }
+{
+    RingBufferScheduler {
+        buf_len: s.buf_len,
+        items_read: Counter(s.items_read),
+        items_written: Counter(s.items_written),
+    }
+}
+
+fn no_scheduler() -> Scheduler
+    ensures { λ r. ⌜ r ≡ noScheduler ⌝ }
+{
+    Scheduler {
+        buf_len: 0,
+        items_written: 0,
+        items_read: 0,
+    }
+}
+
+fn flat_scheduler(s: RingBufferScheduler) -> Scheduler
+    ensures { λ r. ⌜ r ≡ flatScheduler s ⌝ }
+{
+    Scheduler {
+        buf_len: s.buf_len,
+        items_written: s.items_written.0,
+        items_read: s.items_read.0,
+    }
+}
+
+fn flat_checked(a: Checked) -> SchedulerAnswer
+    ensures { λ r. ⌜ r ≡ flatChecked a ⌝ }
+{
+    match a {
+        Checked::Sound(s) => SchedulerAnswer {
+            refusal: no_refusal(),
+            scheduler: flat_scheduler(s),
+        },
+        Checked::Refused(e) => SchedulerAnswer {
+            refusal: flat_refusal(e),
+            scheduler: no_scheduler(),
+        },
+    }
+}
+
+fn flat_registered(a: Registered) -> SchedulerAnswer
+    ensures { λ r. ⌜ r ≡ flatRegistered a ⌝ }
+{
+    match a {
+        Registered::Advanced(s) => SchedulerAnswer {
+            refusal: no_refusal(),
+            scheduler: flat_scheduler(s),
+        },
+        Registered::Refused(e) => SchedulerAnswer {
+            refusal: flat_refusal(e),
+            scheduler: no_scheduler(),
+        },
+    }
+}
+
+// ---- making one
+
+#[no_mangle]
+pub extern "C" fn stripring_scheduler_max_buf_len() -> u64
+    ensures { λ r. ⌜ r ≡ 2 ^ 63 ⌝ }
+{
+    RingBufferScheduler::MAX_BUF_LEN
+}
+
+#[no_mangle]
+pub extern "C" fn stripring_scheduler_try_new(buf_len: u64) -> SchedulerAnswer
+    ensures { λ r. ⌜ r ≡ flatChecked (soundOf (schedulerOf «buf_len» (record { 0 = 0 }) (record { 0 = 0 }))) ⌝ }
+{
+    flat_checked(RingBufferScheduler::try_new(buf_len))
+}
+
+#[no_mangle]
+pub extern "C" fn stripring_scheduler_try_from_counters(
+    buf_len: u64,
+    items_written: u64,
+    items_read: u64,
+) -> SchedulerAnswer
+    ensures { λ r. ⌜ r ≡ flatChecked (soundOf (schedulerOf «buf_len» (record { 0 = «items_written» }) (record { 0 = «items_read» }))) ⌝ }
+{
+    flat_checked(RingBufferScheduler::try_from_counters(
+        buf_len,
+        Counter(items_written),
+        Counter(items_read),
+    ))
+}
+
+#[no_mangle]
+pub extern "C" fn stripring_scheduler_demand_soundness(s: Scheduler) -> SchedulerAnswer
+    ensures { λ r. ⌜ r ≡ flatChecked (soundOf (schedulerAt s)) ⌝ }
+{
+    flat_checked(scheduler(s).demand_soundness())
+}
+
+// ---- registering what was moved
+
+#[no_mangle]
+pub extern "C" fn stripring_scheduler_try_register_read(s: Scheduler, len: u64) -> SchedulerAnswer
+    ensures { λ r. ⌜ r ≡ flatRegistered (registerOf (schedulerAt s) OperationType.Read len) ⌝ }
+{
+    flat_registered(scheduler(s).try_register_read(len))
+}
+
+#[no_mangle]
+pub extern "C" fn stripring_scheduler_try_register_write(s: Scheduler, len: u64) -> SchedulerAnswer
+    ensures { λ r. ⌜ r ≡ flatRegistered (registerOf (schedulerAt s) OperationType.Write len) ⌝ }
+{
+    flat_registered(scheduler(s).try_register_write(len))
+}
+
+#[no_mangle]
+pub extern "C" fn stripring_scheduler_try_register_operation_manually(
+    s: Scheduler,
+    op: u64,
+    len: u64,
+) -> SchedulerAnswer
+    ensures { λ r. ⌜ r ≡ flatRegistered (registerOf (schedulerAt s) (typeAt op) len) ⌝ }
+{
+    flat_registered(scheduler(s).try_register_operation_manually(operation_type(op), len))
+}
+
+#[no_mangle]
+pub extern "C" fn stripring_scheduler_try_register_operation(
+    s: Scheduler,
+    o: Operation,
+) -> SchedulerAnswer
+    ensures { λ r. ⌜ r ≡ flatRegistered (registerOf (schedulerAt s) (operationAt o .typ) (operationAt o .len)) ⌝ }
+{
+    flat_registered(scheduler(s).try_register_operation(operation(o)))
+}
+
+#[no_mangle]
+pub extern "C" fn stripring_scheduler_try_register_operations(
+    s: Scheduler,
+    list: Operations,
+) -> SchedulerAnswer
+    ensures { λ r. ⌜ r ≡ flatRegistered (registerListOf (schedulerAt s) (operationsAt list)) ⌝ }
+{
+    flat_registered(scheduler(s).try_register_operations(operations(list)))
+}
+
+// ---- counters, offsets, data and space
+
+#[no_mangle]
+pub extern "C" fn stripring_scheduler_items_read(s: Scheduler) -> U64Answer
+    ensures { λ r. ⌜ r ≡ flatCounter (counterAnswerOf (schedulerAt s) OperationType.Read) ⌝ }
+{
+    flat_counter(scheduler(s).items_read())
+}
+
+#[no_mangle]
+pub extern "C" fn stripring_scheduler_items_written(s: Scheduler) -> U64Answer
+    ensures { λ r. ⌜ r ≡ flatCounter (counterAnswerOf (schedulerAt s) OperationType.Write) ⌝ }
+{
+    flat_counter(scheduler(s).items_written())
+}
+
+#[no_mangle]
+pub extern "C" fn stripring_scheduler_operation_counter(s: Scheduler, op: u64) -> U64Answer
+    ensures { λ r. ⌜ r ≡ flatCounter (counterAnswerOf (schedulerAt s) (typeAt op)) ⌝ }
+{
+    flat_counter(scheduler(s).operation_counter(operation_type(op)))
+}
+
+#[no_mangle]
+pub extern "C" fn stripring_scheduler_read_off(s: Scheduler) -> U64Answer
+    ensures { λ r. ⌜ r ≡ flatOffset (offsetAnswerOf (schedulerAt s) OperationType.Read) ⌝ }
+{
+    flat_offset(scheduler(s).read_off())
+}
+
+#[no_mangle]
+pub extern "C" fn stripring_scheduler_write_off(s: Scheduler) -> U64Answer
+    ensures { λ r. ⌜ r ≡ flatOffset (offsetAnswerOf (schedulerAt s) OperationType.Write) ⌝ }
+{
+    flat_offset(scheduler(s).write_off())
+}
+
+#[no_mangle]
+pub extern "C" fn stripring_scheduler_operation_offset(s: Scheduler, op: u64) -> U64Answer
+    ensures { λ r. ⌜ r ≡ flatOffset (offsetAnswerOf (schedulerAt s) (typeAt op)) ⌝ }
+{
+    flat_offset(scheduler(s).operation_offset(operation_type(op)))
+}
+
+#[no_mangle]
+pub extern "C" fn stripring_scheduler_buf_len(s: Scheduler) -> U64Answer
+    ensures { λ r. ⌜ r ≡ flatAmount (bufLenOf (schedulerAt s)) ⌝ }
+{
+    flat_amount(scheduler(s).buf_len())
+}
+
+#[no_mangle]
+pub extern "C" fn stripring_scheduler_is_zero_sized(s: Scheduler) -> U64Answer
+    ensures { λ r. ⌜ r ≡ flatBool (isZeroFrom (bufLenOf (schedulerAt s))) ⌝ }
+{
+    flat_bool(scheduler(s).is_zero_sized())
+}
+
+#[no_mangle]
+pub extern "C" fn stripring_scheduler_data_avail(s: Scheduler) -> U64Answer
+    ensures { λ r. ⌜ r ≡ flatAmount (greatestOf (schedulerAt s) OperationType.Read) ⌝ }
+{
+    flat_amount(scheduler(s).data_avail())
+}
+
+#[no_mangle]
+pub extern "C" fn stripring_scheduler_space_avail(s: Scheduler) -> U64Answer
+    ensures { λ r. ⌜ r ≡ flatAmount (greatestOf (schedulerAt s) OperationType.Write) ⌝ }
+{
+    flat_amount(scheduler(s).space_avail())
+}
+
+#[no_mangle]
+pub extern "C" fn stripring_scheduler_max_operation_len(s: Scheduler, op: u64) -> U64Answer
+    ensures { λ r. ⌜ r ≡ flatAmount (greatestOf (schedulerAt s) (typeAt op)) ⌝ }
+{
+    flat_amount(scheduler(s).max_operation_len(operation_type(op)))
+}
+
+#[no_mangle]
+pub extern "C" fn stripring_scheduler_fill_state(s: Scheduler) -> U64Answer
+    ensures { λ r. ⌜ r ≡ flatFillState (fillStateOf (schedulerAt s)) ⌝ }
+{
+    flat_fill_state(scheduler(s).fill_state())
+}
+
+#[no_mangle]
+pub extern "C" fn stripring_scheduler_is_empty(s: Scheduler) -> U64Answer
+    ensures { λ r. ⌜ r ≡ flatBool (isZeroFrom (greatestOf (schedulerAt s) OperationType.Read)) ⌝ }
+{
+    flat_bool(scheduler(s).is_empty())
+}
+
+#[no_mangle]
+pub extern "C" fn stripring_scheduler_is_full(s: Scheduler) -> U64Answer
+    ensures { λ r. ⌜ r ≡ flatBool (isZeroFrom (greatestOf (schedulerAt s) OperationType.Write)) ⌝ }
+{
+    flat_bool(scheduler(s).is_full())
+}
+
+#[no_mangle]
+pub extern "C" fn stripring_scheduler_is_nonempty(s: Scheduler) -> U64Answer
+    ensures { λ r. ⌜ r ≡ flatBool (isPositiveFrom (greatestOf (schedulerAt s) OperationType.Read)) ⌝ }
+{
+    flat_bool(scheduler(s).is_nonempty())
+}
+
+#[no_mangle]
+pub extern "C" fn stripring_scheduler_is_nonfull(s: Scheduler) -> U64Answer
+    ensures { λ r. ⌜ r ≡ flatBool (isPositiveFrom (greatestOf (schedulerAt s) OperationType.Write)) ⌝ }
+{
+    flat_bool(scheduler(s).is_nonfull())
+}
+
+// ---- layout and blocks
+
+#[no_mangle]
+pub extern "C" fn stripring_scheduler_layout(s: Scheduler) -> U64Answer
+    ensures { λ r. ⌜ r ≡ flatLayout (layoutOf (schedulerAt s)) ⌝ }
+{
+    flat_layout(scheduler(s).layout())
+}
+
+#[no_mangle]
+pub extern "C" fn stripring_scheduler_blocks(s: Scheduler) -> BlocksAnswer
+    ensures { λ r. ⌜ r ≡ flatBlocks (blocksOf (schedulerAt s)) ⌝ }
+{
+    flat_blocks(scheduler(s).blocks())
+}
+
+#[no_mangle]
+pub extern "C" fn stripring_scheduler_block_0(s: Scheduler) -> BlockAnswer
+    ensures { λ r. ⌜ r ≡ flatBlockAnswer (block0From (blocksOf (schedulerAt s))) ⌝ }
+{
+    flat_block_answer(scheduler(s).block_0())
+}
+
+#[no_mangle]
+pub extern "C" fn stripring_scheduler_block_1(s: Scheduler) -> BlockAnswer
+    ensures { λ r. ⌜ r ≡ flatBlockAnswer (block1From (blocksOf (schedulerAt s))) ⌝ }
+{
+    flat_block_answer(scheduler(s).block_1())
+}
+
+#[no_mangle]
+pub extern "C" fn stripring_scheduler_block_2(s: Scheduler) -> BlockAnswer
+    ensures { λ r. ⌜ r ≡ flatBlockAnswer (block2From (blocksOf (schedulerAt s))) ⌝ }
+{
+    flat_block_answer(scheduler(s).block_2())
+}
+
+#[no_mangle]
+pub extern "C" fn stripring_scheduler_block_0_off(s: Scheduler) -> U64Answer
+    ensures { λ r. ⌜ r ≡ flatOffset (offFrom (block0From (blocksOf (schedulerAt s)))) ⌝ }
+{
+    flat_offset(scheduler(s).block_0_off())
+}
+
+#[no_mangle]
+pub extern "C" fn stripring_scheduler_block_1_off(s: Scheduler) -> U64Answer
+    ensures { λ r. ⌜ r ≡ flatOffset (offFrom (block1From (blocksOf (schedulerAt s)))) ⌝ }
+{
+    flat_offset(scheduler(s).block_1_off())
+}
+
+#[no_mangle]
+pub extern "C" fn stripring_scheduler_block_2_off(s: Scheduler) -> U64Answer
+    ensures { λ r. ⌜ r ≡ flatOffset (offFrom (block2From (blocksOf (schedulerAt s)))) ⌝ }
+{
+    flat_offset(scheduler(s).block_2_off())
+}
+
+#[no_mangle]
+pub extern "C" fn stripring_scheduler_block_0_len(s: Scheduler) -> U64Answer
+    ensures { λ r. ⌜ r ≡ flatAmount (lenFrom (block0From (blocksOf (schedulerAt s)))) ⌝ }
+{
+    flat_amount(scheduler(s).block_0_len())
+}
+
+#[no_mangle]
+pub extern "C" fn stripring_scheduler_block_1_len(s: Scheduler) -> U64Answer
+    ensures { λ r. ⌜ r ≡ flatAmount (lenFrom (block1From (blocksOf (schedulerAt s)))) ⌝ }
+{
+    flat_amount(scheduler(s).block_1_len())
+}
+
+#[no_mangle]
+pub extern "C" fn stripring_scheduler_block_2_len(s: Scheduler) -> U64Answer
+    ensures { λ r. ⌜ r ≡ flatAmount (lenFrom (block2From (blocksOf (schedulerAt s)))) ⌝ }
+{
+    flat_amount(scheduler(s).block_2_len())
+}
+
+#[no_mangle]
+pub extern "C" fn stripring_scheduler_next_operation_block(s: Scheduler, op: u64) -> BlockAnswer
+    ensures { λ r. ⌜ r ≡ flatBlockAnswer (nextBlockOf (schedulerAt s) (typeAt op)) ⌝ }
+{
+    flat_block_answer(scheduler(s).next_operation_block(operation_type(op)))
+}
+
+#[no_mangle]
+pub extern "C" fn stripring_scheduler_next_read_block(s: Scheduler) -> BlockAnswer
+    ensures { λ r. ⌜ r ≡ flatBlockAnswer (nextBlockOf (schedulerAt s) OperationType.Read) ⌝ }
+{
+    flat_block_answer(scheduler(s).next_read_block())
+}
+
+#[no_mangle]
+pub extern "C" fn stripring_scheduler_next_write_block(s: Scheduler) -> BlockAnswer
+    ensures { λ r. ⌜ r ≡ flatBlockAnswer (nextBlockOf (schedulerAt s) OperationType.Write) ⌝ }
+{
+    flat_block_answer(scheduler(s).next_write_block())
+}
+
+// ---- scheduling
+
+#[no_mangle]
+pub extern "C" fn stripring_scheduler_schedule_next_contiguous_operation(
+    s: Scheduler,
+    op: u64,
+    max_len: u64,
+) -> NextAnswer
+    ensures { λ r. ⌜ r ≡ flatNext (nextOf (schedulerAt s) (typeAt op) «max_len») ⌝ }
+{
+    flat_next(scheduler(s).schedule_next_contiguous_operation(operation_type(op), max_len))
+}
+
+#[no_mangle]
+pub extern "C" fn stripring_scheduler_schedule_next_read(s: Scheduler, dst_len: u64) -> NextAnswer
+    ensures { λ r. ⌜ r ≡ flatNext (nextOf (schedulerAt s) OperationType.Read «dst_len») ⌝ }
+{
+    flat_next(scheduler(s).schedule_next_read(dst_len))
+}
+
+#[no_mangle]
+pub extern "C" fn stripring_scheduler_schedule_next_write(s: Scheduler, src_len: u64) -> NextAnswer
+    ensures { λ r. ⌜ r ≡ flatNext (nextOf (schedulerAt s) OperationType.Write «src_len») ⌝ }
+{
+    flat_next(scheduler(s).schedule_next_write(src_len))
+}
+
+#[no_mangle]
+pub extern "C" fn stripring_scheduler_schedule_contiguous_operations(
+    s: Scheduler,
+    op: u64,
+    max_len: u64,
+) -> OperationsAnswer
+    ensures { λ r. ⌜ r ≡ flatOperationsAnswer (scheduleOf (schedulerAt s) (typeAt op) «max_len») ⌝ }
+{
+    flat_operations_answer(scheduler(s).schedule_contiguous_operations(operation_type(op), max_len))
+}
+
+#[no_mangle]
+pub extern "C" fn stripring_scheduler_schedule_reads(s: Scheduler, dst_len: u64) -> OperationsAnswer
+    ensures { λ r. ⌜ r ≡ flatOperationsAnswer (scheduleOf (schedulerAt s) OperationType.Read «dst_len») ⌝ }
+{
+    flat_operations_answer(scheduler(s).schedule_reads(dst_len))
+}
+
+#[no_mangle]
+pub extern "C" fn stripring_scheduler_schedule_writes(
+    s: Scheduler,
+    src_len: u64,
+) -> OperationsAnswer
+    ensures { λ r. ⌜ r ≡ flatOperationsAnswer (scheduleOf (schedulerAt s) OperationType.Write «src_len») ⌝ }
+{
+    flat_operations_answer(scheduler(s).schedule_writes(src_len))
+}

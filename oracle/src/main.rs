@@ -9,6 +9,10 @@ mod sched_paper;
 mod tally;
 
 #[cfg(feature = "judge")]
+mod copies;
+#[cfg(feature = "judge")]
+mod ends;
+#[cfg(feature = "judge")]
 mod modular;
 #[cfg(feature = "judge")]
 mod sched;
@@ -25,14 +29,16 @@ fn main() -> ExitCode {
         "modular" => modular::run(),
         #[cfg(feature = "judge")]
         "sched" => sched::run(),
+        #[cfg(feature = "judge")]
+        "copies" => copies::run() & ends::run(),
         "sched-paper" => sched_paper::run(),
         "record-modular" => record_modular::run(),
         "record-sched" => record_sched::run(),
         _ => {
             eprintln!(
-                "usage: oracle modular-u8|modular|sched|sched-paper|record-modular|record-sched"
+                "usage: oracle modular-u8|modular|sched|copies|sched-paper|record-modular|record-sched"
             );
-            eprintln!("modular and sched need a build with the feature judge");
+            eprintln!("modular, sched and copies need a build with the feature judge");
             return ExitCode::from(2);
         }
     };

@@ -6,7 +6,7 @@ use oracle::sched_answers::{CALLS, Call, Numbers, Part, line};
 
 const SEED: u64 = 1;
 /// Of each call that takes anything.
-const RANDOM_LINES: u64 = 25;
+const RANDOM_LINES: u64 = 40;
 const M: u64 = u64::MAX;
 /// The greatest buffer.
 const H: u64 = 1 << 63;

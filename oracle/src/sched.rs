@@ -2,7 +2,7 @@
 
 use crate::numbers::{Random, around};
 use crate::sched_inputs::{Case, inputs, values};
-use crate::stripring::sched_calls;
+use crate::stripring::{NumberCall, sched_calls};
 use crate::tally::Tally;
 use oracle::sched_answers::{CALLS, Call, Numbers, Part, row};
 
@@ -13,15 +13,22 @@ const SEED: u64 = 1;
 /// A random input goes to one call in so many, in turn: all would take minutes under an emulator.
 const SHARE: usize = 6;
 
-/// A call of the Rust, and the static library's.
-type Pair = (&'static Call, fn(&[u64; 12]) -> [u64; 16]);
+/// A call with what is wanted of it, and the static library's.
+type Pair = (&'static Call, NumberCall);
 
 pub fn run() -> bool {
-    let pairs = pairs();
-    small(&pairs) & edges(&pairs) & random(&pairs)
+    compare_calls("sched: stripring against sched.rs", &CALLS, sched_calls())
 }
 
-fn small(pairs: &[Pair]) -> bool {
+/// What a library of calls answers beside what is wanted of each, by its name.
+pub fn compare_calls(what: &str, calls: &'static [Call], ours: Vec<(&str, NumberCall)>) -> bool {
+    assert_eq!(ours.len(), calls.len());
+    let find = |name| ours.iter().find(|our| our.0 == name).expect(name).1;
+    let pairs: Vec<Pair> = calls.iter().map(|call| (call, find(call.name))).collect();
+    small(what, &pairs) & edges(what, &pairs) & random(what, &pairs)
+}
+
+fn small(what: &str, pairs: &[Pair]) -> bool {
     let mut tally = tally();
     for l in 0..=SMALL {
         let counters: Vec<u64> = (0..=2 * l + 2).collect();
@@ -30,10 +37,11 @@ fn small(pairs: &[Pair]) -> bool {
             values(part, l, &counters, &lengths)
         });
     }
-    report(tally, &format!("all small inputs of rings up to {SMALL}"))
+    let inputs = format!("all small inputs of rings up to {SMALL}");
+    report(tally, what, pairs, &inputs)
 }
 
-fn edges(pairs: &[Pair]) -> bool {
+fn edges(what: &str, pairs: &[Pair]) -> bool {
     let mut tally = tally();
     let ls = around(&[0, 1, 2, 10, 1 << 31, 1 << 32, 1 << 62, 1 << 63], 2);
     for &l in &ls {
@@ -43,10 +51,11 @@ fn edges(pairs: &[Pair]) -> bool {
             values(part, l, &counters, &lengths)
         });
     }
-    report(tally, &format!("edges of {} buffer lengths", ls.len()))
+    let inputs = format!("edges of {} buffer lengths", ls.len());
+    report(tally, what, pairs, &inputs)
 }
 
-fn random(pairs: &[Pair]) -> bool {
+fn random(what: &str, pairs: &[Pair]) -> bool {
     let mut tally = tally();
     let mut random = Random(SEED);
     for turn in 0..RANDOM_INPUTS {
@@ -55,26 +64,16 @@ fn random(pairs: &[Pair]) -> bool {
             compare(&mut tally, pair, &case.input(pair.0.takes));
         }
     }
-    let what = format!("{RANDOM_INPUTS} random inputs, each to one call in {SHARE}");
-    report(tally, &what)
+    let inputs = format!("{RANDOM_INPUTS} random inputs, each to one call in {SHARE}");
+    report(tally, what, pairs, &inputs)
 }
 
 fn tally() -> Tally {
-    Tally::new(["the Rust", "stripring"])
+    Tally::new(["wanted", "stripring"])
 }
 
-fn report(tally: Tally, inputs: &str) -> bool {
-    let calls = CALLS.len();
-    tally.report(&format!(
-        "sched: stripring against sched.rs, {calls} calls, {inputs}"
-    ))
-}
-
-fn pairs() -> Vec<Pair> {
-    let ours = sched_calls();
-    assert_eq!(ours.len(), CALLS.len());
-    let find = |name| ours.iter().find(|our| our.0 == name).expect(name).1;
-    CALLS.iter().map(|call| (call, find(call.name))).collect()
+fn report(tally: Tally, what: &str, pairs: &[Pair], inputs: &str) -> bool {
+    tally.report(&format!("{what}, {} calls, {inputs}", pairs.len()))
 }
 
 fn compare_all(tally: &mut Tally, pairs: &[Pair], values: impl Fn(Part) -> Vec<Vec<u64>>) {
@@ -86,8 +85,8 @@ fn compare_all(tally: &mut Tally, pairs: &[Pair], values: impl Fn(Part) -> Vec<V
 }
 
 fn compare(tally: &mut Tally, (call, ours): &Pair, input: &Numbers) {
-    let rust = row(&(call.answer)(&input.all));
-    tally.compare([rust, ours(&input.all)], || {
+    let wanted = row(&(call.answer)(&input.all));
+    tally.compare([wanted, ours(&input.all)], || {
         format!("{} {:?}", call.name, input.used())
     });
 }

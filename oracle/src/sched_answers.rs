@@ -25,6 +25,7 @@ pub enum Part {
     Scheduler,
     Type,
     Amount,
+    Counter,
     Operation,
     List,
     Block,
@@ -39,6 +40,7 @@ impl Part {
             Part::Scheduler => "L written read",
             Part::Type => "type",
             Part::Amount => "n",
+            Part::Counter => "counter",
             Part::Operation => "type offset length",
             Part::List => "count, twice: type offset length",
             Part::Block => "type no offset length",
@@ -62,6 +64,14 @@ pub struct Refusal(pub Numbers);
 pub struct Numbers {
     pub all: [u64; 12],
     used: usize,
+}
+
+impl From<&[u64]> for Numbers {
+    fn from(numbers: &[u64]) -> Self {
+        let mut all = Self::default();
+        all.push(numbers);
+        all
+    }
 }
 
 impl Numbers {
@@ -95,7 +105,11 @@ pub fn row(answer: &Answer) -> [u64; 16] {
     row
 }
 
-const fn call(name: &'static str, takes: &'static [Part], answer: fn(&Input) -> Answer) -> Call {
+pub const fn call(
+    name: &'static str,
+    takes: &'static [Part],
+    answer: fn(&Input) -> Answer,
+) -> Call {
     Call {
         name,
         takes,
@@ -105,8 +119,8 @@ const fn call(name: &'static str, takes: &'static [Part], answer: fn(&Input) -> 
 
 // What the calls take; S is the scheduler.
 const NOTHING: &[Part] = &[];
-const LENGTH: &[Part] = &[Part::Length];
-const S: &[Part] = &[Part::Scheduler];
+pub const LENGTH: &[Part] = &[Part::Length];
+pub const S: &[Part] = &[Part::Scheduler];
 const S_TYPE: &[Part] = &[Part::Scheduler, Part::Type];
 const S_AMOUNT: &[Part] = &[Part::Scheduler, Part::Amount];
 const S_TYPE_AMOUNT: &[Part] = &[Part::Scheduler, Part::Type, Part::Amount];
@@ -190,7 +204,7 @@ pub const CALLS: [Call; 59] = [
     call("diff_new_value", DIFF, |i| flat(diff(i).new_value())),
 ];
 
-fn s(i: &Input) -> Result<RingBufferScheduler, Refusal> {
+pub fn s(i: &Input) -> Result<RingBufferScheduler, Refusal> {
     Ok(RingBufferScheduler::try_from_counters(i[0], i[1], i[2])?)
 }
 
@@ -239,11 +253,11 @@ fn diff(i: &Input) -> Diff<u64> {
 }
 
 /// What can be laid out as numbers.
-trait Flat {
+pub trait Flat {
     fn push_to(self, numbers: &mut Numbers);
 }
 
-fn flat(answer: impl Flat) -> Answer {
+pub fn flat(answer: impl Flat) -> Answer {
     let mut numbers = Numbers::default();
     answer.push_to(&mut numbers);
     Ok(numbers)
@@ -358,10 +372,8 @@ impl Flat for Diff<u64> {
     }
 }
 
-fn refusal(numbers: &[u64]) -> Refusal {
-    let mut refusal = Refusal(Numbers::default());
-    refusal.0.push(numbers);
-    refusal
+pub fn refusal(numbers: &[u64]) -> Refusal {
+    Refusal(numbers.into())
 }
 
 impl From<RingBufferNewError> for Refusal {

@@ -33,6 +33,7 @@ pub fn values(part: Part, l: u64, counters: &[u64], lengths: &[u64]) -> Vec<Vec<
         Part::Scheduler => tuples(&[&[l], counters, counters]),
         Part::Type => tuples(&[bits]),
         Part::Amount => tuples(&[lengths]),
+        Part::Counter => tuples(&[counters]),
         Part::Operation => tuples(&[bits, offsets, lengths]),
         Part::List => tuples(&[&[0, 1, 2], bits, offsets, lengths, bits, offsets, lengths]),
         Part::Block => tuples(&[bits, bits, offsets, lengths]),
@@ -58,6 +59,7 @@ fn tuples(columns: &[&[u64]]) -> Vec<Vec<u64>> {
 /// A random input for every call.
 pub struct Case {
     scheduler: [u64; 3],
+    counter: [u64; 1],
     operation: [u64; 3],
     list: [u64; 7],
     block: [u64; 4],
@@ -66,12 +68,14 @@ pub struct Case {
 
 impl Case {
     pub fn random(random: &mut Random) -> Self {
+        let l = random.mixed(0);
         let scheduler = match random.next() % 4 {
-            0 => any_scheduler(random),
-            _ => sound_scheduler(random),
+            0 => any_scheduler(random, l),
+            _ => sound_scheduler(random, l.wrapping_sub(1) % MAX_BUF_LEN + 1),
         };
         Self {
             scheduler,
+            counter: [counter(random, scheduler)],
             operation: operation(random, scheduler),
             list: list(random, scheduler),
             block: [bit(random), bit(random), random.next(), random.mixed(0)],
@@ -93,6 +97,7 @@ impl Case {
             Part::Scheduler => &self.scheduler,
             Part::Type => &self.operation[..1],
             Part::Amount => &self.operation[2..],
+            Part::Counter => &self.counter,
             Part::Operation => &self.operation,
             Part::List => &self.list,
             Part::Block => &self.block,
@@ -111,14 +116,12 @@ fn bit(random: &mut Random) -> u64 {
 }
 
 /// Mostly unsound.
-fn any_scheduler(random: &mut Random) -> [u64; 3] {
-    let l = random.mixed(0);
+pub fn any_scheduler(random: &mut Random, l: u64) -> [u64; 3] {
     let end = l.wrapping_mul(2);
     [l, random.mixed(end), random.mixed(end)]
 }
 
-fn sound_scheduler(random: &mut Random) -> [u64; 3] {
-    let l = random.mixed(0).wrapping_sub(1) % MAX_BUF_LEN + 1;
+pub fn sound_scheduler(random: &mut Random, l: u64) -> [u64; 3] {
     let end = u128::from(l) * 2;
     let read = u128::from(random.mixed(l)) % end;
     let fill = random.mixed(l) % (l + 1);
@@ -131,13 +134,24 @@ fn data([l, written, read]: [u64; 3]) -> u64 {
     (i128::from(written) - i128::from(read)).rem_euclid(end) as u64
 }
 
+/// Any counter, or one near those of the scheduler or near L after what was read.
+fn counter(random: &mut Random, [l, written, read]: [u64; 3]) -> u64 {
+    let end = u128::from(l.max(1)) * 2;
+    match random.next() % 4 {
+        0 => random.mixed(end as u64),
+        1 => random.near(written),
+        2 => random.near(read),
+        _ => random.near(((u128::from(read) + u128::from(l)) % end) as u64),
+    }
+}
+
 fn operation(random: &mut Random, scheduler: [u64; 3]) -> [u64; 3] {
     let len = length(random, scheduler);
     [bit(random), random.next(), len]
 }
 
 /// Any length, or one near the data, the space, or the end of the buffer.
-fn length(random: &mut Random, scheduler: [u64; 3]) -> u64 {
+pub fn length(random: &mut Random, scheduler: [u64; 3]) -> u64 {
     let [l, written, read] = scheduler;
     let to_end = |counter: u64| l - counter.checked_rem(l).unwrap_or(0);
     match random.next() % 5 {

@@ -119,31 +119,29 @@ impl Row for bool {
     }
 }
 
-/// Declares the calls, and makes a table of them.
-macro_rules! sched_calls {
-    ($($name:ident($($part:ty),*) -> $answer:ty;)*) => {
-        mod sched_extern {
-            use super::*;
+/// The library's answer to an input of numbers alone.
+pub type NumberCall = fn(&[u64; 12]) -> [u64; 16];
+
+/// Declares calls, and makes a table of their names without `stripring_` and of their answers.
+macro_rules! number_calls {
+    ($table:ident: $($name:ident($($part:ty),*) -> $answer:ty;)*) => {
+        pub fn $table() -> Vec<(&'static str, NumberCall)> {
             unsafe extern "C" {
                 $(
                     #[link_name = concat!("stripring_", stringify!($name))]
-                    pub safe fn $name($(_: $part),*) -> $answer;
+                    safe fn $name($(_: $part),*) -> $answer;
                 )*
             }
-        }
-
-        /// Each call's name in `sched_answers`, and the library's answer to an input.
-        pub fn sched_calls() -> Vec<(&'static str, fn(&[u64; 12]) -> [u64; 16])> {
             vec![$((stringify!($name), |input| {
                 #[allow(unused_mut, unused_variables)] // by the calls that take nothing
                 let mut rest = &input[..];
-                sched_extern::$name($(<$part>::taken(&mut rest)),*).row()
+                $name($(<$part>::taken(&mut rest)),*).row()
             })),*]
         }
     };
 }
 
-sched_calls! {
+number_calls! { sched_calls:
     scheduler_max_buf_len() -> u64;
     scheduler_try_new(u64) -> Answer<7>;
     scheduler_try_from_counters(u64, u64, u64) -> Answer<7>;
@@ -203,4 +201,50 @@ sched_calls! {
     diff_is_different(Diff) -> bool;
     diff_old_value(Diff) -> u64;
     diff_new_value(Diff) -> u64;
+}
+
+type End = Scheduler;
+type Counter = Flat<1>;
+
+number_calls! { end_calls:
+    writing_end_new(u64) -> Answer<7>;
+    writing_end_from_counters(u64, u64, u64) -> Answer<7>;
+    writing_end_from_scheduler(Scheduler) -> Answer<7>;
+    writing_end_send(End) -> Answer<5>;
+    writing_end_take(End, Counter) -> Answer<7>;
+    reading_end_new(u64) -> Answer<7>;
+    reading_end_from_counters(u64, u64, u64) -> Answer<7>;
+    reading_end_from_scheduler(Scheduler) -> Answer<7>;
+    reading_end_send(End) -> Answer<5>;
+    reading_end_take(End, Counter) -> Answer<7>;
+}
+
+/// The library's answer to a scheduler or an end, a ring, and a source or a destination.
+pub type CopyCall = fn([u64; 3], &mut [u8], &mut [u8]) -> [u64; 16];
+
+/// Declares calls that copy, and makes a table of their names without `stripring_`, of whether they write into the ring, and
+/// of their answers.
+macro_rules! copy_calls {
+    ($table:ident: $($name:ident $writes:literal;)*) => {
+        pub fn $table() -> Vec<(&'static str, bool, CopyCall)> {
+            unsafe extern "C" {
+                $(
+                    #[link_name = concat!("stripring_", stringify!($name))]
+                    fn $name(_: Scheduler, _: *mut u8, _: usize, _: *mut u8, _: usize) -> Answer<8>;
+                )*
+            }
+            vec![$((stringify!($name), $writes, |scheduler, ring, other| {
+                let (r, o) = (ring.as_mut_ptr(), other.as_mut_ptr());
+                // SAFETY: two slices that do not overlap, each with its length.
+                unsafe { $name(Flat(scheduler), r, ring.len(), o, other.len()) }.row()
+            })),*]
+        }
+    };
+}
+
+copy_calls! { copy_calls:
+    copies_write true;
+    copies_read false;
+    writing_end_write true;
+    reading_end_read false;
 }

@@ -1,6 +1,10 @@
--- Each public call's contract decides its outcome: any two outcomes that it allows are equal.
-use mathlib.Core.Path.{refl, sym, _∙_}
+-- Each public call's contract decides its outcome, the lent memory's last contents with it: any two outcomes that it allows
+-- are equal.
+use mathlib.Core.Path.{refl, sym, ap, _∙_}
 use Rattle.modular.proofs.Decides.{Decides}
+use Rattle.stripring.specs.Copy.{CopyAnswerLeft}
+use Rattle.stripring.specs.ReadingEnd.{GotAnswerLeft}
+use Rattle.stripring.specs.WritingEnd.{WroteAnswerLeft}
 use Rattle.stripring.proofs.modulus.stripring_modulus_new_full_range.Kinds as stripring-modulus-new-full-range-kinds
 use Rattle.stripring.proofs.modulus.stripring_modulus_new_full_range.Reads as stripring-modulus-new-full-range
 use Rattle.stripring.proofs.modulus.stripring_modulus_try_new.Kinds as stripring-modulus-try-new-kinds
@@ -141,6 +145,34 @@ use Rattle.stripring.proofs.diff.stripring_diff_old_value.Kinds as stri
 use Rattle.stripring.proofs.diff.stripring_diff_old_value.Reads as stripring-diff-old-value
 use Rattle.stripring.proofs.diff.stripring_diff_new_value.Kinds as stripring-diff-new-value-kinds
 use Rattle.stripring.proofs.diff.stripring_diff_new_value.Reads as stripring-diff-new-value
+use Rattle.stripring.proofs.copy.stripring_copies_write.Kinds as stripring-copies-write-kinds
+use Rattle.stripring.proofs.copy.stripring_copies_write.Reads as stripring-copies-write
+use Rattle.stripring.proofs.copy.stripring_copies_read.Kinds as stripring-copies-read-kinds
+use Rattle.stripring.proofs.copy.stripring_copies_read.Reads as stripring-copies-read
+use Rattle.stripring.proofs.writing_end.stripring_writing_end_new.Kinds as stripring-writing-end-new-kinds
+use Rattle.stripring.proofs.writing_end.stripring_writing_end_new.Reads as stripring-writing-end-new
+use Rattle.stripring.proofs.writing_end.stripring_writing_end_from_counters.Kinds as stripring-writing-end-from-counters-kinds
+use Rattle.stripring.proofs.writing_end.stripring_writing_end_from_counters.Reads as stripring-writing-end-from-counters
+use Rattle.stripring.proofs.writing_end.stripring_writing_end_from_scheduler.Kinds as stripring-writing-end-from-scheduler-kinds
+use Rattle.stripring.proofs.writing_end.stripring_writing_end_from_scheduler.Reads as stripring-writing-end-from-scheduler
+use Rattle.stripring.proofs.writing_end.stripring_writing_end_write.Kinds as stripring-writing-end-write-kinds
+use Rattle.stripring.proofs.writing_end.stripring_writing_end_write.Reads as stripring-writing-end-write
+use Rattle.stripring.proofs.writing_end.stripring_writing_end_send.Kinds as stripring-writing-end-send-kinds
+use Rattle.stripring.proofs.writing_end.stripring_writing_end_send.Reads as stripring-writing-end-send
+use Rattle.stripring.proofs.writing_end.stripring_writing_end_take.Kinds as stripring-writing-end-take-kinds
+use Rattle.stripring.proofs.writing_end.stripring_writing_end_take.Reads as stripring-writing-end-take
+use Rattle.stripring.proofs.reading_end.stripring_reading_end_new.Kinds as stripring-reading-end-new-kinds
+use Rattle.stripring.proofs.reading_end.stripring_reading_end_new.Reads as stripring-reading-end-new
+use Rattle.stripring.proofs.reading_end.stripring_reading_end_from_counters.Kinds as stripring-reading-end-from-counters-kinds
+use Rattle.stripring.proofs.reading_end.stripring_reading_end_from_counters.Reads as stripring-reading-end-from-counters
+use Rattle.stripring.proofs.reading_end.stripring_reading_end_from_scheduler.Kinds as stripring-reading-end-from-scheduler-kinds
+use Rattle.stripring.proofs.reading_end.stripring_reading_end_from_scheduler.Reads as stripring-reading-end-from-scheduler
+use Rattle.stripring.proofs.reading_end.stripring_reading_end_read.Kinds as stripring-reading-end-read-kinds
+use Rattle.stripring.proofs.reading_end.stripring_reading_end_read.Reads as stripring-reading-end-read
+use Rattle.stripring.proofs.reading_end.stripring_reading_end_send.Kinds as stripring-reading-end-send-kinds
+use Rattle.stripring.proofs.reading_end.stripring_reading_end_send.Reads as stripring-reading-end-send
+use Rattle.stripring.proofs.reading_end.stripring_reading_end_take.Kinds as stripring-reading-end-take-kinds
+use Rattle.stripring.proofs.reading_end.stripring_reading_end_take.Reads as stripring-reading-end-take
 
 pub stripring-modulus-new-full-range-decided : Decides 0 stripring-modulus-new-full-range-kinds.ps stripring-modulus-new-full-range-kinds.r stripring-modulus-new-full-range.Asked stripring-modulus-new-full-range.Learnt
 stripring-modulus-new-full-range-decided κs a q z z′ ws ws′ p p′ = (p ∙ sym p′, refl)
@@ -351,3 +383,57 @@ stripring-diff-old-value-decided κs a q z z′ ws ws′ p p′ = (p ∙ sym p�
 
 pub stripring-diff-new-value-decided : Decides 0 stripring-diff-new-value-kinds.ps stripring-diff-new-value-kinds.r stripring-diff-new-value.Asked stripring-diff-new-value.Learnt
 stripring-diff-new-value-decided κs a q z z′ ws ws′ p p′ = (p ∙ sym p′, refl)
+
+pub stripring-copies-write-decided : Decides 2 stripring-copies-write-kinds.ps stripring-copies-write-kinds.r stripring-copies-write.Asked stripring-copies-write.Learnt
+stripring-copies-write-decided κs a q z z′ ws ws′ p p′ = (
+  ap (λ (x : CopyAnswerLeft). x .answer) (p ∙ sym p′),
+  ap (λ (x : CopyAnswerLeft). (tt, (x .memory, (tt, tt)))) (p ∙ sym p′),
+)
+
+pub stripring-copies-read-decided : Decides 2 stripring-copies-read-kinds.ps stripring-copies-read-kinds.r stripring-copies-read.Asked stripring-copies-read.Learnt
+stripring-copies-read-decided κs a q z z′ ws ws′ p p′ = (
+  ap (λ (x : CopyAnswerLeft). x .answer) (p ∙ sym p′),
+  ap (λ (x : CopyAnswerLeft). (tt, (tt, (x .memory, tt)))) (p ∙ sym p′),
+)
+
+pub stripring-writing-end-new-decided : Decides 0 stripring-writing-end-new-kinds.ps stripring-writing-end-new-kinds.r stripring-writing-end-new.Asked stripring-writing-end-new.Learnt
+stripring-writing-end-new-decided κs a q z z′ ws ws′ p p′ = (p ∙ sym p′, refl)
+
+pub stripring-writing-end-from-counters-decided : Decides 0 stripring-writing-end-from-counters-kinds.ps stripring-writing-end-from-counters-kinds.r stripring-writing-end-from-counters.Asked stripring-writing-end-from-counters.Learnt
+stripring-writing-end-from-counters-decided κs a q z z′ ws ws′ p p′ = (p ∙ sym p′, refl)
+
+pub stripring-writing-end-from-scheduler-decided : Decides 0 stripring-writing-end-from-scheduler-kinds.ps stripring-writing-end-from-scheduler-kinds.r stripring-writing-end-from-scheduler.Asked stripring-writing-end-from-scheduler.Learnt
+stripring-writing-end-from-scheduler-decided κs a q z z′ ws ws′ p p′ = (p ∙ sym p′, refl)
+
+pub stripring-writing-end-write-decided : Decides 2 stripring-writing-end-write-kinds.ps stripring-writing-end-write-kinds.r stripring-writing-end-write.Asked stripring-writing-end-write.Learnt
+stripring-writing-end-write-decided κs a q z z′ ws ws′ p p′ = (
+  ap (λ (x : WroteAnswerLeft). x .answer) (p ∙ sym p′),
+  ap (λ (x : WroteAnswerLeft). (tt, (x .memory, (tt, tt)))) (p ∙ sym p′),
+)
+
+pub stripring-writing-end-send-decided : Decides 0 stripring-writing-end-send-kinds.ps stripring-writing-end-send-kinds.r stripring-writing-end-send.Asked stripring-writing-end-send.Learnt
+stripring-writing-end-send-decided κs a q z z′ ws ws′ p p′ = (p ∙ sym p′, refl)
+
+pub stripring-writing-end-take-decided : Decides 0 stripring-writing-end-take-kinds.ps stripring-writing-end-take-kinds.r stripring-writing-end-take.Asked stripring-writing-end-take.Learnt
+stripring-writing-end-take-decided κs a q z z′ ws ws′ p p′ = (p ∙ sym p′, refl)
+
+pub stripring-reading-end-new-decided : Decides 0 stripring-reading-end-new-kinds.ps stripring-reading-end-new-kinds.r stripring-reading-end-new.Asked stripring-reading-end-new.Learnt
+stripring-reading-end-new-decided κs a q z z′ ws ws′ p p′ = (p ∙ sym p′, refl)
+
+pub stripring-reading-end-from-counters-decided : Decides 0 stripring-reading-end-from-counters-kinds.ps stripring-reading-end-from-counters-kinds.r stripring-reading-end-from-counters.Asked stripring-reading-end-from-counters.Learnt
+stripring-reading-end-from-counters-decided κs a q z z′ ws ws′ p p′ = (p ∙ sym p′, refl)
+
+pub stripring-reading-end-from-scheduler-decided : Decides 0 stripring-reading-end-from-scheduler-kinds.ps stripring-reading-end-from-scheduler-kinds.r stripring-reading-end-from-scheduler.Asked stripring-reading-end-from-scheduler.Learnt
+stripring-reading-end-from-scheduler-decided κs a q z z′ ws ws′ p p′ = (p ∙ sym p′, refl)
+
+pub stripring-reading-end-read-decided : Decides 2 stripring-reading-end-read-kinds.ps stripring-reading-end-read-kinds.r stripring-reading-end-read.Asked stripring-reading-end-read.Learnt
+stripring-reading-end-read-decided κs a q z z′ ws ws′ p p′ = (
+  ap (λ (x : GotAnswerLeft). x .answer) (p ∙ sym p′),
+  ap (λ (x : GotAnswerLeft). (tt, (tt, (x .memory, tt)))) (p ∙ sym p′),
+)
+
+pub stripring-reading-end-send-decided : Decides 0 stripring-reading-end-send-kinds.ps stripring-reading-end-send-kinds.r stripring-reading-end-send.Asked stripring-reading-end-send.Learnt
+stripring-reading-end-send-decided κs a q z z′ ws ws′ p p′ = (p ∙ sym p′, refl)
+
+pub stripring-reading-end-take-decided : Decides 0 stripring-reading-end-take-kinds.ps stripring-reading-end-take-kinds.r stripring-reading-end-take.Asked stripring-reading-end-take.Learnt
+stripring-reading-end-take-decided κs a q z z′ ws ws′ p p′ = (p ∙ sym p′, refl)

@@ -6,3 +6,6 @@ pub mod Block
 pub mod List
 pub mod Diff
 pub mod Scheduler
+pub mod Copy
+pub mod WritingEnd
+pub mod ReadingEnd

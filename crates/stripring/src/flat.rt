@@ -1,6 +1,6 @@
-// The flat structs that `sched`'s values go out in and a host's come in, with the flat form of a refusal.
+// The flat structs that the libraries' values go out in and a host's come in, with the flat forms of their refusals.
 ghost use mathlib.Core.Path.{_≡_};
-ghost use Rattle.stripring.specs.Flat.{refusalOf, noRefusal, flatRefusal};
+ghost use Rattle.stripring.specs.Flat.{refusalOf, noRefusal, flatRefusal, flatCopyRefusal, flatEndRefusal};
 use crate::operation::type_number;
 
 // The number of a refusal and its values, those that it lacks 0. Number 0, with values 0, is no refusal.
@@ -67,6 +67,27 @@ pub struct Diff {
     pub new: u64,
 }
 
+// The two kinds of end, and the counter that each sends.
+#[repr(C)]
+pub struct WritingEnd {
+    pub scheduler: Scheduler,
+}
+
+#[repr(C)]
+pub struct ReadingEnd {
+    pub scheduler: Scheduler,
+}
+
+#[repr(C)]
+pub struct WrittenCounter {
+    pub counter: u64,
+}
+
+#[repr(C)]
+pub struct ReadCounter {
+    pub counter: u64,
+}
+
 // An answer: where it is refused, every field but the refusal is 0. A bool is 0 or 1; a fill state 0 for empty, 1 for partial
 // and 2 for full; a layout 0 for `DataFreeData` and 1 for `FreeDataFree`.
 #[repr(C)]
@@ -126,6 +147,52 @@ pub struct StartsAnswer {
     pub second: Operation,
 }
 
+// The scheduler after a copy, and how many bytes were moved.
+#[repr(C)]
+pub struct CopyAnswer {
+    pub refusal: Refusal,
+    pub scheduler: Scheduler,
+    pub n: u64,
+}
+
+#[repr(C)]
+pub struct WritingEndAnswer {
+    pub refusal: Refusal,
+    pub end: WritingEnd,
+}
+
+#[repr(C)]
+pub struct ReadingEndAnswer {
+    pub refusal: Refusal,
+    pub end: ReadingEnd,
+}
+
+#[repr(C)]
+pub struct WroteAnswer {
+    pub refusal: Refusal,
+    pub end: WritingEnd,
+    pub n: u64,
+}
+
+#[repr(C)]
+pub struct GotAnswer {
+    pub refusal: Refusal,
+    pub end: ReadingEnd,
+    pub n: u64,
+}
+
+#[repr(C)]
+pub struct WrittenCounterAnswer {
+    pub refusal: Refusal,
+    pub counter: WrittenCounter,
+}
+
+#[repr(C)]
+pub struct ReadCounterAnswer {
+    pub refusal: Refusal,
+    pub counter: ReadCounter,
+}
+
 fn refusal_of(number: u64, a: u64, b: u64, c: u64) -> Refusal
     ensures { λ r. ⌜ r ≡ refusalOf number a b c ⌝ }
 {
@@ -164,5 +231,23 @@ pub(crate) fn flat_refusal(e: sched::Refusal) -> Refusal
         } => refusal_of(6, type_number(op_type), op_len, max_len),
         sched::Refusal::OperationTooLong { excess } => refusal_of(7, excess, 0, 0),
         sched::Refusal::InconsistentOperationType => refusal_of(8, 0, 0, 0),
+    }
+}
+
+pub(crate) fn flat_copy_refusal(e: copies::Refusal) -> Refusal
+    ensures { λ r. ⌜ r ≡ flatCopyRefusal e ⌝ }
+{
+    match e {
+        copies::Refusal::Scheduler(e) => flat_refusal(e),
+        copies::Refusal::RingMemory => refusal_of(9, 0, 0, 0),
+    }
+}
+
+pub(crate) fn flat_end_refusal(e: ends::Refusal) -> Refusal
+    ensures { λ r. ⌜ r ≡ flatEndRefusal e ⌝ }
+{
+    match e {
+        ends::Refusal::Copy(e) => flat_copy_refusal(e),
+        ends::Refusal::RanBack => refusal_of(10, 0, 0, 0),
     }
 }

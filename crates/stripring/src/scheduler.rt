@@ -37,7 +37,7 @@ use sched::OperationType;
 use sched::Registered;
 use sched::RingBufferScheduler;
 
-fn scheduler(s: Scheduler) -> RingBufferScheduler
+pub(crate) fn scheduler(s: Scheduler) -> RingBufferScheduler
     ensures { λ r. ⌜ r ≡ schedulerAt s ⌝ }
 {
     RingBufferScheduler {
@@ -47,7 +47,7 @@ fn scheduler(s: Scheduler) -> RingBufferScheduler
     }
 }
 
-fn no_scheduler() -> Scheduler
+pub(crate) fn no_scheduler() -> Scheduler
     ensures { λ r. ⌜ r ≡ noScheduler ⌝ }
 {
     Scheduler {
@@ -57,7 +57,7 @@ fn no_scheduler() -> Scheduler
     }
 }
 
-fn flat_scheduler(s: RingBufferScheduler) -> Scheduler
+pub(crate) fn flat_scheduler(s: RingBufferScheduler) -> Scheduler
     ensures { λ r. ⌜ r ≡ flatScheduler s ⌝ }
 {
     Scheduler {

@@ -1,0 +1,147 @@
+//! The copies, and those of the ends: the static library against the scheduler of sched.rs and a
+//! loop over single bytes.
+
+use crate::numbers::Random;
+use crate::sched_inputs::{any_scheduler, length, sound_scheduler};
+use crate::stripring::copy_calls;
+use crate::tally::Tally;
+use oracle::rosenpass::sched::{OperationType, RingBufferScheduler};
+use oracle::sched_answers::{Answer, refusal, row};
+
+/// Rings up to this length are tried on everything.
+const SMALL: u64 = 6;
+const RANDOM_INPUTS: usize = 300_000;
+const SEED: u64 = 1;
+/// The longest ring of a random input that has its memory. A power of two, so that a buffer length
+/// near a greater one is met by memory that fits only its low bits.
+const LONG: u64 = 4096;
+/// Bytes before, between and behind what is lent.
+const APART: usize = 32;
+
+pub fn run() -> bool {
+    small() & random()
+}
+
+fn small() -> bool {
+    let mut tally = tally();
+    let mut random = Random(SEED);
+    for l in 0..=SMALL {
+        for (written, read) in pairs(0..=2 * l + 2) {
+            for ring in l.saturating_sub(1)..=l + 1 {
+                for other in 0..=2 * l + 1 {
+                    let memory = Memory::new(&mut random, ring, other);
+                    compare(&mut tally, [l, written, read], &memory);
+                }
+            }
+        }
+    }
+    report(tally, &format!("all small inputs of rings up to {SMALL}"))
+}
+
+fn pairs(numbers: impl Iterator<Item = u64> + Clone) -> impl Iterator<Item = (u64, u64)> {
+    let seconds = numbers.clone();
+    numbers.flat_map(move |a| seconds.clone().map(move |b| (a, b)))
+}
+
+fn random() -> bool {
+    let mut tally = tally();
+    let mut random = Random(SEED);
+    for _ in 0..RANDOM_INPUTS {
+        let l = match random.next() % 16 {
+            0 => random.mixed(0).clamp(1, 1 << 63),
+            1..4 => random.next() % LONG + 1,
+            _ => random.next() % 80 + 1,
+        };
+        let scheduler = match random.next() % 8 {
+            0 => any_scheduler(&mut random, l),
+            _ => sound_scheduler(&mut random, l),
+        };
+        let ring = match (l > LONG, random.next() % 16) {
+            (true, _) => l % LONG,
+            (false, 0) => l - 1,
+            (false, 1) => l + 1,
+            (false, _) => l,
+        };
+        let other = length(&mut random, scheduler) % (2 * ring + 2);
+        let memory = Memory::new(&mut random, ring, other);
+        compare(&mut tally, scheduler, &memory);
+    }
+    report(tally, &format!("{RANDOM_INPUTS} random inputs"))
+}
+
+fn tally() -> Tally {
+    Tally::new(["the Rust", "stripring"])
+}
+
+fn report(tally: Tally, inputs: &str) -> bool {
+    let calls = copy_calls().len();
+    tally.report(&format!(
+        "copies: stripring against sched.rs and a loop over bytes, {calls} calls, {inputs}"
+    ))
+}
+
+/// Every byte is compared, also those around what is lent.
+fn compare(tally: &mut Tally, scheduler: [u64; 3], memory: &Memory) {
+    for (name, writes, call) in copy_calls() {
+        let mut theirs = memory.clone();
+        let rust = row(&copied(writes, scheduler, &mut theirs));
+        let mut ours = memory.clone();
+        let (ring, other) = ours.parts();
+        let answer = call(scheduler, ring, other);
+        tally.compare([(rust, theirs), (answer, ours)], || {
+            format!("{name} {scheduler:?} {memory:?}")
+        });
+    }
+}
+
+/// Schedules by the Rust, moves the bytes one by one, and registers by the Rust.
+fn copied(writes: bool, [l, written, read]: [u64; 3], memory: &mut Memory) -> Answer {
+    let scheduler = RingBufferScheduler::try_from_counters(l, written, read)?;
+    let (ring, other) = memory.parts();
+    if ring.len() as u64 != l {
+        return Err(refusal(&[9]));
+    }
+    let asked = other.len() as u64;
+    let operations = match writes {
+        true => scheduler.schedule_writes(asked),
+        false => scheduler.schedule_reads(asked),
+    };
+    let mut n = 0;
+    for op in &operations.container()[..] {
+        for place in op.off..op.off + op.len.u64() {
+            let (inside, outside) = (&mut ring[place as usize], &mut other[n]);
+            match op.typ {
+                OperationType::Write => *inside = *outside,
+                OperationType::Read => *outside = *inside,
+            }
+            n += 1;
+        }
+    }
+    let s = scheduler.try_register_operation(&operations)?;
+    let numbers = [s.buf_len(), s.items_written(), s.items_read(), n as u64];
+    Ok(numbers.as_slice().into())
+}
+
+/// A ring, and a source or a destination, with other bytes around them.
+#[derive(Clone, Debug, PartialEq)]
+struct Memory {
+    bytes: Vec<u8>,
+    ring: usize,
+    other: usize,
+}
+
+impl Memory {
+    fn new(random: &mut Random, ring: u64, other: u64) -> Self {
+        let (ring, other) = (ring as usize, other as usize);
+        let mut bytes = vec![0; ring + other + 3 * APART];
+        for chunk in bytes.chunks_mut(8) {
+            chunk.copy_from_slice(&random.next().to_le_bytes()[..chunk.len()]);
+        }
+        Self { bytes, ring, other }
+    }
+
+    fn parts(&mut self) -> (&mut [u8], &mut [u8]) {
+        let (front, back) = self.bytes[APART..].split_at_mut(self.ring + APART);
+        (&mut front[..self.ring], &mut back[..self.other])
+    }
+}

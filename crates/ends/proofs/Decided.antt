@@ -2,8 +2,6 @@
 use mathlib.Core.Path.{refl, sym, ap, _∙_}
 use Rattle.modular.proofs.Decides.{Decides}
 use Rattle.ends.specs.Ends.{WroteLeft, GotLeft}
-use Rattle.ends.proofs.refusal.not_shrunk.Kinds as not-shrunk-kinds
-use Rattle.ends.proofs.refusal.not_shrunk.Reads as not-shrunk
 use Rattle.ends.proofs.writing_end.WritingEnd.new.Kinds as WritingEnd-new-kinds
 use Rattle.ends.proofs.writing_end.WritingEnd.new.Reads as WritingEnd-new
 use Rattle.ends.proofs.writing_end.WritingEnd.from_counters.Kinds as WritingEnd-from-counters-kinds
@@ -28,9 +26,6 @@ use Rattle.ends.proofs.reading_end.ReadingEnd.send.Kinds as ReadingEnd-
 use Rattle.ends.proofs.reading_end.ReadingEnd.send.Reads as ReadingEnd-send
 use Rattle.ends.proofs.reading_end.ReadingEnd.take.Kinds as ReadingEnd-take-kinds
 use Rattle.ends.proofs.reading_end.ReadingEnd.take.Reads as ReadingEnd-take
-
-pub not-shrunk-decided : Decides 0 not-shrunk-kinds.ps not-shrunk-kinds.r not-shrunk.Asked not-shrunk.Learnt
-not-shrunk-decided κs a q z z′ ws ws′ p p′ = (p ∙ sym p′, refl)
 
 pub WritingEnd-new-decided : Decides 0 WritingEnd-new-kinds.ps WritingEnd-new-kinds.r WritingEnd-new.Asked WritingEnd-new.Learnt
 WritingEnd-new-decided κs a q z z′ ws ws′ p p′ = (p ∙ sym p′, refl)

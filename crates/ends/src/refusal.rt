@@ -16,7 +16,7 @@ pub enum Taken {
 }
 
 // A counter is taken unless it makes the data of a reading end, or the space of a writing end, smaller than before.
-pub fn not_shrunk(before: AmountAnswer, after: AmountAnswer) -> Taken
+pub(crate) fn not_shrunk(before: AmountAnswer, after: AmountAnswer) -> Taken
     ensures { λ r. ⌜ r ≡ takenFrom before after ⌝ }
 {
     match before {

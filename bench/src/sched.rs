@@ -1,0 +1,147 @@
+//! The scheduler: data_avail, and schedule_contiguous_operations followed by registering the list.
+
+use crate::best::best_turns;
+use crate::stripring::Scheduler;
+use crate::{rust, stripring};
+use oracle::rosenpass::sched::{OperationType, RingBufferScheduler};
+use std::hint::black_box;
+
+const RECORDS: usize = 4096;
+
+/// A sound record, also as the Rust's own, and what is asked of it.
+struct Case {
+    scheduler: Scheduler,
+    typ: u64,
+    max_len: u64,
+    own: RingBufferScheduler,
+    own_type: OperationType,
+}
+
+pub fn print_table() {
+    println!("The scheduler: ns, and this library's time as a part of the Rust's\n");
+    println!(
+        "| call | buffer length | this library | Rust, tested | Rust, own | of tested | of own |"
+    );
+    println!("|---|---|---|---|---|---|---|");
+    print_rows("1 to 64", |random| 1 + random % 64);
+    print_rows("2^32 to 2^62", |random| {
+        (1 << 32) + random % ((1 << 62) - (1 << 32))
+    });
+    print_rows("2^63", |_| 1 << 63);
+}
+
+fn print_rows(name: &str, buf_len: fn(u64) -> u64) {
+    let mut random = Random(1);
+    let cases: Vec<Case> = (0..RECORDS)
+        .map(|_| Case::random(&mut random, buf_len))
+        .collect();
+    cases.iter().for_each(assert_same_answers);
+    print_row("data_avail", name, data_avail(&cases));
+    print_row("schedule and register", name, schedule_and_register(&cases));
+}
+
+fn print_row(call: &str, buf_len: &str, turns: [f64; 3]) {
+    let [ours, tested, own] = turns.map(|turn| turn / RECORDS as f64);
+    println!(
+        "| {call} | {buf_len} | {ours:.1} | {tested:.1} | {own:.1} | {:.2} | {:.2} |",
+        ours / tested,
+        ours / own
+    );
+}
+
+fn data_avail(cases: &[Case]) -> [f64; 3] {
+    best_turns([
+        &mut || {
+            for case in cases {
+                black_box(stripring::data_avail(case.scheduler));
+            }
+        },
+        &mut || {
+            for case in cases {
+                black_box(rust::data_avail(case.scheduler));
+            }
+        },
+        &mut || {
+            for case in cases {
+                black_box(rust::own_data_avail(case.own));
+            }
+        },
+    ])
+}
+
+fn schedule_and_register(cases: &[Case]) -> [f64; 3] {
+    best_turns([
+        &mut || {
+            for case in cases {
+                let list = stripring::schedule(case.scheduler, case.typ, case.max_len).of;
+                black_box(stripring::register(case.scheduler, list));
+            }
+        },
+        &mut || {
+            for case in cases {
+                let list = rust::schedule(case.scheduler, case.typ, case.max_len).of;
+                black_box(rust::register(case.scheduler, list));
+            }
+        },
+        &mut || {
+            for case in cases {
+                let list = rust::own_schedule(case.own, case.own_type, case.max_len);
+                black_box(rust::own_register(case.own, list));
+            }
+        },
+    ])
+}
+
+fn assert_same_answers(case: &Case) {
+    let Case {
+        scheduler,
+        typ,
+        max_len,
+        ..
+    } = *case;
+    assert_eq!(
+        stripring::data_avail(scheduler),
+        rust::data_avail(scheduler)
+    );
+    let list = stripring::schedule(scheduler, typ, max_len);
+    assert_eq!(list, rust::schedule(scheduler, typ, max_len));
+    assert_eq!(
+        stripring::register(scheduler, list.of),
+        rust::register(scheduler, list.of)
+    );
+}
+
+impl Case {
+    /// Any counters, any data, and any length asked, up to that of the buffer.
+    fn random(random: &mut Random, buf_len: fn(u64) -> u64) -> Self {
+        let buf_len = buf_len(random.next());
+        let read = u128::from(random.next()) % (2 * u128::from(buf_len));
+        let data = random.next() % (buf_len + 1);
+        let written = (read + u128::from(data)) % (2 * u128::from(buf_len));
+        let scheduler = Scheduler {
+            buf_len,
+            items_written: written as u64,
+            items_read: read as u64,
+        };
+        let typ = random.next() % 2;
+        Self {
+            scheduler,
+            typ,
+            max_len: random.next() % (buf_len + 1),
+            own: rust::tested(scheduler),
+            own_type: rust::operation_type(typ),
+        }
+    }
+}
+
+/// xorshift64; the start is not 0.
+struct Random(u64);
+
+impl Random {
+    fn next(&mut self) -> u64 {
+        self.0 ^= self.0 << 13;
+        self.0 ^= self.0 >> 7;
+        self.0 ^= self.0 << 17;
+        self.0
+    }
+}

@@ -23,6 +23,14 @@ use Rattle.receiver.proofs.state.OperationalState.normalize.Kinds as Op
 use Rattle.receiver.proofs.state.OperationalState.normalize.Reads as OperationalState-normalize
 use Rattle.receiver.proofs.state.OperationalState.advance_state_towards_termination.Kinds as advance-state-towards-termination-kinds
 use Rattle.receiver.proofs.state.OperationalState.advance_state_towards_termination.Reads as advance-state-towards-termination
+use Rattle.receiver.proofs.call.Call.begin_read.Kinds as Call-begin-read-kinds
+use Rattle.receiver.proofs.call.Call.begin_read.Reads as Call-begin-read
+use Rattle.receiver.proofs.call.Call.begin_service.Kinds as Call-begin-service-kinds
+use Rattle.receiver.proofs.call.Call.begin_service.Reads as Call-begin-service
+use Rattle.receiver.proofs.call.Call.begin_shutdown.Kinds as Call-begin-shutdown-kinds
+use Rattle.receiver.proofs.call.Call.begin_shutdown.Reads as Call-begin-shutdown
+use Rattle.receiver.proofs.call.Call.answered.Kinds as Call-answered-kinds
+use Rattle.receiver.proofs.call.Call.answered.Reads as Call-answered
 
 pub is-interruption-decided : Decides 0 is-interruption-kinds.ps is-interruption-kinds.r is-interruption.Asked is-interruption.Learnt
 is-interruption-decided κs a q z z′ ws ws′ p p′ = (p ∙ sym p′, refl)
@@ -56,3 +64,15 @@ OperationalState-normalize-decided κs a q z z′ ws ws′ p p′ = (p ∙ sym p
 
 pub advance-state-towards-termination-decided : Decides 0 advance-state-towards-termination-kinds.ps advance-state-towards-termination-kinds.r advance-state-towards-termination.Asked advance-state-towards-termination.Learnt
 advance-state-towards-termination-decided κs a q z z′ ws ws′ p p′ = (p ∙ sym p′, refl)
+
+pub Call-begin-read-decided : Decides 0 Call-begin-read-kinds.ps Call-begin-read-kinds.r Call-begin-read.Asked Call-begin-read.Learnt
+Call-begin-read-decided κs a q z z′ ws ws′ p p′ = (p ∙ sym p′, refl)
+
+pub Call-begin-service-decided : Decides 0 Call-begin-service-kinds.ps Call-begin-service-kinds.r Call-begin-service.Asked Call-begin-service.Learnt
+Call-begin-service-decided κs a q z z′ ws ws′ p p′ = (p ∙ sym p′, refl)
+
+pub Call-begin-shutdown-decided : Decides 0 Call-begin-shutdown-kinds.ps Call-begin-shutdown-kinds.r Call-begin-shutdown.Asked Call-begin-shutdown.Learnt
+Call-begin-shutdown-decided κs a q z z′ ws ws′ p p′ = (p ∙ sym p′, refl)
+
+pub Call-answered-decided : Decides 1 Call-answered-kinds.ps Call-answered-kinds.r Call-answered.Asked Call-answered.Learnt
+Call-answered-decided κs a q z z′ ws ws′ p p′ = (p ∙ sym p′, refl)

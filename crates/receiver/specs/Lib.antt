@@ -2,3 +2,4 @@ pub mod Refusal
 pub mod State
 pub mod Answer
 pub mod Receiver
+pub mod Call

@@ -2,9 +2,9 @@
 -- answers that were used, and those that are left; it goes on from there, or refuses the whole call.
 use Prim.Native.Nat.{ℕ, suc, _+_, _-_, _*_, _/_, _%_, _^_, min}
 use mathlib.Core.Bool.{Bool, cond, true, false}
-use mathlib.Core.List.{List, [], _∷_, _++_}
+use mathlib.Core.List.{List, [], _∷_}
 use lib.Dec.{eqb, ltb}
-use lib.ListN.{length, drop}
+use lib.ListN.{length}
 use Rattle.sched.specs.declared.operation.OperationType.the-variants.{Read, Write}
 use Rattle.sched.specs.declared.scheduler.Checked.{Checked}
 use Rattle.sched.specs.declared.scheduler.Checked.the-variants as checked
@@ -17,6 +17,8 @@ use Rattle.copies.specs.Copies.{readyOf}
 use Rattle.copies.specs.Ring.{get}
 use Rattle.receiver.specs.Answer.{interruptedOf, receivedOf, sentOf, shutOf}
 use Rattle.receiver.specs.State.{fitsState, failureIn, isErrno, advanceIn}
+use Rattle.receiver.specs.declared.announcement.Announced.{Announced}
+use Rattle.receiver.specs.declared.announcement.Announced.the-variants as announced
 use Rattle.receiver.specs.declared.answer.Answer.{Answer}
 use Rattle.receiver.specs.declared.answer.Received.{Received}
 use Rattle.receiver.specs.declared.answer.Received.the-variants as received
@@ -37,7 +39,6 @@ use Rattle.receiver.specs.declared.state.OperationalState.{OperationalSt
 use Rattle.receiver.specs.declared.state.OperationalState.the-variants.{Normal, Draining, Terminated}
 use Rattle.receiver.specs.declared.state.PotentialFailure.{PotentialFailure}
 use Rattle.receiver.specs.declared.state.PotentialFailure.the-variants.{Some, None}
-use Rattle.receiver.specs.declared.state.Violation.{Violation}
 use Rattle.receiver.specs.declared.state.Violation.the-variants.{InvalidChunkAnnouncement, ControlOverflow, UnknownHeader, InvalidChunkLength}
 
 -- ---- where a call stands
@@ -143,28 +144,24 @@ unfoldable pub numberFrom : ℕ → List ℕ → ℕ
 numberFrom n [] = n
 numberFrom n (b ∷ bs) = numberFrom (n * 256 + b) bs
 
-pub data Announced : Type 0 where
-  chunk : RingBufferScheduler → ℕ → Announced  -- the scheduler with the chunk written, and the descriptors
-  failed : Failure → Announced
-
 -- The header: 2 bits format, must be 0; 14 bits strip tag; 48 bits length, not 0. Header and body are registered as written, the
 -- header is read; 8 bytes stay free behind the body. A violation leaves the scheduler as it was before the announcement.
 abbrev pub headerIn : RingBufferScheduler → ℕ → ℕ → Announced
 headerIn s fds h =
     cond (eqb (h / 2 ^ 62) 0)
-    (cond (eqb (h % 2 ^ 48) 0) (failed (Protocol InvalidChunkLength))
-    (cond (ltb (spaceIn s - 8) (h % 2 ^ 48)) (failed (Protocol ControlOverflow))
-    (chunk (advancedIn (advancedIn (advancedIn s Write 8) Read 8) Write (h % 2 ^ 48)) fds)))
-    (failed (Protocol UnknownHeader))
+    (cond (eqb (h % 2 ^ 48) 0) (announced.Failed (Protocol InvalidChunkLength))
+    (cond (ltb (spaceIn s - 8) (h % 2 ^ 48)) (announced.Failed (Protocol ControlOverflow))
+    (announced.Chunk (advancedIn (advancedIn (advancedIn s Write 8) Read 8) Write (h % 2 ^ 48)) fds)))
+    (announced.Failed (Protocol UnknownHeader))
 
 abbrev pub announcedIn : List ℕ → RingBufferScheduler → ℕ → Announced
 announcedIn ring s fds =
-    cond (ltb (spaceIn s) 8) (failed (Protocol ControlOverflow))
+    cond (ltb (spaceIn s) 8) (announced.Failed (Protocol ControlOverflow))
     (headerIn s fds (numberFrom 0 (get (s .«buf_len») ring (offsetIn s Read .0) 8)))
 
 -- the byte must be 0; a receive that fails gives its errno
 abbrev pub byteIn : List ℕ → RingBufferScheduler → ℕ → ℕ → Announced
-byteIn ring s b fds = cond (eqb b 0) (announcedIn ring s fds) (failed (Protocol InvalidChunkAnnouncement))
+byteIn ring s b fds = cond (eqb b 0) (announcedIn ring s fds) (announced.Failed (Protocol InvalidChunkAnnouncement))
 
 abbrev pub byReceived : {X : Type 0} → Received → (ℕ → ℕ → X) → (ℕ → X) → X → X
 byReceived (received.Byte b fds) byte errno misfit = byte b fds
@@ -177,7 +174,7 @@ announceIn ring top q s i (a ∷ rest) =
     cond (interruptedOf a) (announceIn ring top q s (suc i) rest)
     (byReceived (receivedOf top a)
     (λ b fds. went (at q s (suc i) rest) (byteIn ring (q .scheduler) b fds))
-    (λ e. went (at q s (suc i) rest) (failed (Io e)))
+    (λ e. went (at q s (suc i) rest) (announced.Failed (Io e)))
     (refused (Misfit (suc i))))
 
 -- ---- a read
@@ -213,8 +210,8 @@ blockedRead (Draining c) p = failedRead c p
 blockedRead (Terminated c) p = failedRead (Io 11) p
 
 abbrev pub announcedRead : ℕ → Went Announced → Went Outcome
-announcedRead asked (went p (chunk s fds)) = handOut asked fds (at (withScheduler (p .rec) s) (p .source) (p .used) (p .rest))
-announcedRead asked (went p (failed e)) = cond (isErrno e 11) (blockedRead (p .rec .state) p) (failedRead e p)
+announcedRead asked (went p (announced.Chunk s fds)) = handOut asked fds (at (withScheduler (p .rec) s) (p .source) (p .used) (p .rest))
+announcedRead asked (went p (announced.Failed e)) = cond (isErrno e 11) (blockedRead (p .rec .state) p) (failedRead e p)
 announcedRead asked (refused r) = refused r
 
 -- in order: the empty destination, 13, the announcement if there is no data

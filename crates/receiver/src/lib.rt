@@ -1,14 +1,20 @@
-// The receiver of a stream of chunks: the port of rosenpass's receiver.rs over scripted socket answers. Its states and the
-// socket's answers are here; reading and acknowledging are not carried over yet.
+// The receiver of a stream of chunks: the port of rosenpass's receiver.rs, without input and output. A call in progress is a value: a
+// host begins one, does what it waits for, and hands in the answer. Calls over a whole run of answers are not carried over yet.
+mod announcement;
 mod answer;
+mod call;
 mod receiver;
 mod refusal;
+mod sound;
 mod state;
 
 pub use answer::Answer;
 pub use answer::Received;
 pub use answer::Sent;
 pub use answer::Shut;
+pub use call::Call;
+pub use call::Ending;
+pub use call::Phase;
 pub use receiver::Ended;
 pub use receiver::Outcome;
 pub use receiver::ReceiverState;

@@ -92,7 +92,7 @@ impl Failure {
         }
     }
 
-    fn is_errno(self, errno: u64) -> bool
+    pub(crate) fn is_errno(self, errno: u64) -> bool
         ensures { λ r. ⌜ r ≡ isErrno self errno ⌝ }
     {
         match self {
@@ -168,7 +168,7 @@ impl OperationalState {
         StateAnswer::Of(self.advance(advanced))
     }
 
-    fn fits(self) -> bool
+    pub(crate) fn fits(self) -> bool
         ensures { λ r. ⌜ r ≡ fitsState self ⌝ }
     {
         match self {
@@ -178,7 +178,7 @@ impl OperationalState {
         }
     }
 
-    fn cached_failure(self) -> PotentialFailure
+    pub(crate) fn cached_failure(self) -> PotentialFailure
         ensures { λ r. ⌜ r ≡ failureIn self ⌝ }
     {
         match self {
@@ -213,7 +213,7 @@ impl OperationalState {
         }
     }
 
-    fn advance(self, advanced: OperationalState) -> OperationalState
+    pub(crate) fn advance(self, advanced: OperationalState) -> OperationalState
         ensures { λ r. ⌜ r ≡ advanceIn self advanced ⌝ }
     {
         let to = advanced.normal();

@@ -1,0 +1,85 @@
+-- Laws of the machine's steps: what a test or a case tells.
+use Prim.Native.Nat.{ℕ, _-_, _^_, _<_, _≤_, _%_, _/_}
+use mathlib.Core.Path.{_≡_, refl, sym, ap, _∙_}
+use mathlib.Core.Bool.{Bool, cond, true, false}
+use mathlib.Core.List.{List}
+use native.Mathlib.Omega.{arith}
+use lib.Dec.{eqb, ltb}
+use borrow.Author.Tests.{ltb-true, ltb-false, eqb-true}
+use Rattle.sched.proofs.Laws.{sound-both, advanced-sound}
+use Rattle.sched.specs.declared.operation.OperationType.the-variants.{Read, Write}
+use Rattle.sched.specs.declared.scheduler.Checked.{Checked}
+use Rattle.sched.specs.declared.scheduler.Checked.the-variants as checked
+use Rattle.sched.specs.declared.scheduler.RingBufferScheduler.{RingBufferScheduler}
+use Rattle.sched.specs.Scheduler.{IsSound, soundOf, spaceIn, advancedIn, offsetIn}
+use Rattle.copies.specs.declared.Ready.the-variants as ready
+use Rattle.copies.specs.declared.Refusal.the-variants.{RingMemory}
+use Rattle.copies.specs.Copies.{readyFrom, readyOf}
+use Rattle.copies.specs.Ring.{get}
+use Rattle.receiver.proofs.ChunkLaws.{read, room}
+use Rattle.receiver.specs.Call.{Handing, Announces, answeredBy, answeredOf}
+use Rattle.receiver.specs.Receiver.{withScheduler, numberFrom, headerIn, byteIn}
+use Rattle.receiver.specs.declared.announcement.Announced.{Announced}
+use Rattle.receiver.specs.declared.announcement.Announced.the-variants as announced
+use Rattle.receiver.specs.declared.answer.Answer.{Answer}
+use Rattle.receiver.specs.declared.call.Call.{Call}
+use Rattle.receiver.specs.declared.call.Phase.{Phase}
+use Rattle.receiver.specs.declared.receiver.ReceiverState.{ReceiverState}
+
+-- a chunk can be handed out
+pub announces-chunk : (a : Announced) (q : ReceiverState) (u : RingBufferScheduler) (fds : ℕ) → a ≡ announced.Chunk u fds → Announces a q → Handing (withScheduler q u) 0
+announces-chunk (announced.Chunk v f) q u fds e h =
+    let same : v ≡ u = cc in
+    record { sound = rw (sym same) (h .0); held = omega arith; counted = h .1 }
+announces-chunk (announced.Failed f) q u fds e h = let z : _≡_ {A = ℕ} 0 1 = cc in absurd (omega arith)
+
+-- what is announced of a sound scheduler is sound
+by-test : (q : ReceiverState) (x y : Announced) (b : Bool) → (b ≡ true → Announces x q) → (b ≡ false → Announces y q) → Announces (cond b x y) q
+by-test q x y true f g = f refl
+by-test q x y false f g = g refl
+
+module _ (q : ReceiverState) (s : RingBufferScheduler) (h : IsSound s) (p : q .«pending_ack_count» < 2 ^ 64 - 1) (fds : ℕ) where
+  header-announces : (n : ℕ) → 8 ≤ spaceIn s → Announces (headerIn s fds n) q
+  header-announces n g =
+      by-test q _ _ (eqb (n / 2 ^ 62) 0)
+      (λ e. by-test q _ _ (eqb (n % 2 ^ 48) 0) (λ e. tt)
+      (λ e. by-test q _ _ (ltb (spaceIn s - 8) (n % 2 ^ 48)) (λ e. tt)
+      (λ e. (advanced-sound (advancedIn (advancedIn s Write 8) Read 8) (read s h g) (n % 2 ^ 48) Write (room s h g (n % 2 ^ 48) (ltb-false _ _ e)), p))))
+      (λ e. tt)
+
+  pub byte-announces : (ring : List ℕ) (b : ℕ) (r : Announced) → r ≡ byteIn ring s b fds → Announces r q
+  byte-announces ring b r e =
+      rw e
+      (by-test q _ _ (eqb b 0)
+      (λ e. by-test q _ _ (ltb (spaceIn s) 8) (λ e. tt)
+      (λ e. header-announces (numberFrom 0 (get (s .«buf_len») ring (offsetIn s Read .0) 8)) (ltb-false _ _ e)))
+      (λ e. tt))
+
+-- a ready record is sound, over memory of its length
+pub ready-sound : (s u : RingBufferScheduler) (n : ℕ) → ready.Sound u ≡ readyOf s n → IsSound s × (n ≡ s .«buf_len»)
+unfolding readyFrom
+ready-sound s u n p = by (soundOf s) refl p
+  where
+    same : (v : RingBufferScheduler) → checked.Sound v ≡ soundOf s → (b : Bool) → eqb n (v .«buf_len») ≡ b → ready.Sound u ≡ cond b (ready.Sound v) (ready.Refused RingMemory) → IsSound s × (n ≡ s .«buf_len»)
+    same v e true q p = (sound-both v s e .0, eqb-true _ _ q ∙ ap (λ (x : RingBufferScheduler). x .«buf_len») (sound-both v s e .1))
+    same v e false q p = let z : _≡_ {A = ℕ} 0 1 = cc in absurd (omega arith)
+
+    by : (c : Checked) → soundOf s ≡ c → ready.Sound u ≡ readyFrom n c → IsSound s × (n ≡ s .«buf_len»)
+    by (checked.Sound v) e p = same v (sym e) (eqb n (v .«buf_len»)) refl p
+    by (checked.Refused r) e p = let z : _≡_ {A = ℕ} 0 1 = cc in absurd (omega arith)
+
+pub by-phase : (c : Call) (ring : List ℕ) (a : Answer) (place : ℕ) (ph : Phase) → c .phase ≡ ph → (r : Call) → r ≡ answeredBy ph c ring a place → r ≡ answeredOf c ring a place
+by-phase c ring a place ph e r p = p ∙ ap (λ (x : Phase). answeredBy x c ring a place) (sym e)
+
+below : (n : ℕ) → n < 2 ^ 64 → (n ≡ 2 ^ 64 - 1 → ⊥) → n < 2 ^ 64 - 1
+below n t f = by (ltb n (2 ^ 64 - 1)) refl
+  where
+    by : (b : Bool) → ltb n (2 ^ 64 - 1) ≡ b → n < 2 ^ 64 - 1
+    by true e = ltb-true _ _ e
+    by false e = absurd (f (omega (arith, t, ltb-false n (2 ^ 64 - 1) e)))
+
+pub ready-handing : (q : ReceiverState) (u : RingBufferScheduler) (n : ℕ) → ready.Sound u ≡ readyOf (q .scheduler) n → (q .«pending_ack_count» ≡ 2 ^ 64 - 1 → ⊥) → q .«pending_ack_count» < 2 ^ 64 → Handing q 0 × (n ≡ q .scheduler .«buf_len»)
+ready-handing q u n p f t = (
+  record { sound = ready-sound (q .scheduler) u n p .0; held = omega arith; counted = below _ t f },
+  ready-sound (q .scheduler) u n p .1,
+)

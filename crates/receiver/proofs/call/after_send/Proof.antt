@@ -1,0 +1,57 @@
+-- By what the answer says, and no more was sent than was asked for.
+use Prim.Native.Nat.{ℕ}
+use mathlib.Core.Path.{sym, ap, _∙_}
+use Rattle.receiver.proofs.CallLaws.{sent-covered}
+use Rattle.receiver.specs.Answer.{sentOf}
+use borrow.Author.Needs.{needs}
+use Rattle.receiver.proofs.call.after_send.Statement.{statement}
+use Rattle.receiver.proofs.call.after_send.Tie as tie
+
+least-requires : tie.Need-least-requires
+least-requires c κs = search needs
+
+sent-requires : tie.Need-sent-requires
+sent-requires c κs = search needs
+
+enum-known-n : tie.Need-enum-known-n
+enum-known-n c = search needs
+
+sent-requires-2 : tie.Need-sent-requires-2
+sent-requires-2 c κs = sent-covered _ (c .before .before .before .before .before .args .receiver) _ (sym (sym (c .before .n .given .1) ∙ c .before .before .before .sent .ensures ∙ ap (λ (x : ℕ). sentOf x (c .before .before .before .before .before .args .answer)) (c .before .before .before .before .least .ensures)))
+
+enum-known-errno : tie.Need-enum-known-errno
+enum-known-errno c = search needs
+
+unsent-requires : tie.Need-unsent-requires
+unsent-requires c κs = search needs
+
+enum-told : tie.Need-enum-told
+enum-told c = search needs
+
+refuse-requires : tie.Need-refuse-requires
+refuse-requires c κs = search needs
+
+returns : tie.Need-returns
+returns c = rw (← (sym (c .before .before .n .given .1) ∙ c .before .before .before .before .sent .ensures ∙ ap (λ (x : ℕ). sentOf x (c .before .before .before .before .before .before .args .answer)) (c .before .before .before .before .before .least .ensures)), c .sent2 .ensures)
+
+returns-2 : tie.Need-returns-2
+returns-2 c = rw (← (sym (c .before .before .errno .given .1) ∙ c .before .before .before .before .sent .ensures ∙ ap (λ (x : ℕ). sentOf x (c .before .before .before .before .before .before .args .answer)) (c .before .before .before .before .before .least .ensures)), c .unsent .ensures)
+
+returns-3 : tie.Need-returns-3
+returns-3 c = rw (← (sym (c .before .enum-told .given .1) ∙ c .before .before .before .sent .ensures ∙ ap (λ (x : ℕ). sentOf x (c .before .before .before .before .before .args .answer)) (c .before .before .before .before .least .ensures)), c .refuse .ensures)
+
+pub after-send-spec : {M : Type 1} → statement M
+after-send-spec =
+    tie.close
+    (tie.spec
+    least-requires
+    sent-requires
+    enum-known-n
+    sent-requires-2
+    enum-known-errno
+    unsent-requires
+    enum-told
+    refuse-requires
+    returns
+    returns-2
+    returns-3)

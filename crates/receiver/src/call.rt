@@ -1,0 +1,584 @@
+// A call in progress, as a value: the record so far, and what the call waits for or comes to. A host begins a call, does what it
+// waits for, and hands in the answer, until the call is over.
+ghost use mathlib.Core.Path.{_≡_};
+ghost use Prim.Native.Nat.{min};
+ghost use lib.ListN.{length};
+ghost use Rattle.sched.specs.Scheduler.{IsSound};
+ghost use Rattle.receiver.specs.Receiver.{withScheduler, withState, withPending, withShutdown, handedOut};
+ghost use Rattle.receiver.specs.Call.{finishedCall, outcomeIn, toldIn, shutOrFinish, shutdownCall, advanceCall, flushCall, serviceCall, drainCall, Covered, sentCall, unsentCall, afterSend, refusedCall, afterShutdown, Handing, Announces, handOutCall, failedCall, blockedCall, announcedCall, afterReceive, receivedCall, answeredOf, liveCall, readCall, beginReadOf, beginServiceOf, beginShutdownOf};
+use crate::announcement::Announced;
+use crate::announcement::recv_chunk_announcement;
+use crate::answer::Answer;
+use crate::answer::Received;
+use crate::answer::Sent;
+use crate::answer::Shut;
+use crate::receiver::Outcome;
+use crate::receiver::ReceiverState;
+use crate::refusal::Refusal;
+use crate::sound::max_operation_len;
+use crate::sound::register;
+use crate::state::Failure;
+use crate::state::OperationalState;
+use crate::state::PotentialFailure;
+use copies::Ready;
+use copies::demand_ring_memory;
+use sched::Checked;
+use sched::OperationType;
+use sched::RingBufferScheduler;
+
+// How a call ends that still services acknowledgements or shuts down: with this outcome whatever comes of that, or unless it
+// fails.
+pub enum Ending {
+    Dropped(Outcome),
+    Told(Outcome),
+}
+
+pub enum Phase {
+    Receive { max_new_fds: u64, dst_len: u64 },
+    Send { batch: u64, ending: Ending },
+    Shutdown(Ending),
+    Finished(Outcome),
+    Refused(Refusal),
+}
+
+pub struct Call {
+    pub receiver: ReceiverState,
+    // the scheduler that a read copies its bytes by
+    pub source: RingBufferScheduler,
+    pub phase: Phase,
+}
+
+impl Ending {
+    fn outcome(self) -> Outcome
+        ensures { λ r. ⌜ r ≡ outcomeIn self ⌝ }
+    {
+        match self {
+            Ending::Dropped(o) => o,
+            Ending::Told(o) => o,
+        }
+    }
+
+    // What is told of a failure.
+    fn told(self, failure: Failure) -> Ending
+        ensures { λ r. ⌜ r ≡ toldIn failure self ⌝ }
+    {
+        match self {
+            Ending::Dropped(o) => Ending::Dropped(o),
+            Ending::Told(_) => Ending::Told(Outcome::Failed(failure)),
+        }
+    }
+}
+
+fn with_scheduler(q: ReceiverState, scheduler: RingBufferScheduler) -> ReceiverState
+    ensures { λ r. ⌜ r ≡ withScheduler q scheduler ⌝ }
+{
+    let state = q.state;
+    ReceiverState {
+        scheduler,
+        state,
+        pending_ack_count: q.pending_ack_count,
+        notification_socket_shutdown_issued: q.notification_socket_shutdown_issued,
+    }
+}
+
+fn with_state(q: ReceiverState, state: OperationalState) -> ReceiverState
+    ensures { λ r. ⌜ r ≡ withState q state ⌝ }
+{
+    let scheduler = q.scheduler;
+    ReceiverState {
+        scheduler,
+        state,
+        pending_ack_count: q.pending_ack_count,
+        notification_socket_shutdown_issued: q.notification_socket_shutdown_issued,
+    }
+}
+
+fn with_pending(q: ReceiverState, pending_ack_count: u64) -> ReceiverState
+    ensures { λ r. ⌜ r ≡ withPending q «pending_ack_count» ⌝ }
+{
+    let scheduler = q.scheduler;
+    let state = q.state;
+    ReceiverState {
+        scheduler,
+        state,
+        pending_ack_count,
+        notification_socket_shutdown_issued: q.notification_socket_shutdown_issued,
+    }
+}
+
+fn with_shutdown(q: ReceiverState) -> ReceiverState
+    ensures { λ r. ⌜ r ≡ withShutdown q ⌝ }
+{
+    let scheduler = q.scheduler;
+    let state = q.state;
+    ReceiverState {
+        scheduler,
+        state,
+        pending_ack_count: q.pending_ack_count,
+        notification_socket_shutdown_issued: true,
+    }
+}
+
+fn finish(receiver: ReceiverState, source: RingBufferScheduler, outcome: Outcome) -> Call
+    ensures { λ r. ⌜ r ≡ finishedCall receiver source outcome ⌝ }
+{
+    let phase = Phase::Finished(outcome);
+    Call {
+        receiver,
+        source,
+        phase,
+    }
+}
+
+// A shutdown is asked for unless the state is Normal or one has succeeded before.
+fn issue_notification_socket_shutdown(
+    receiver: ReceiverState,
+    source: RingBufferScheduler,
+    ending: Ending,
+) -> Call
+    ensures { λ r. ⌜ r ≡ shutdownCall receiver source ending ⌝ }
+{
+    let state = receiver.state;
+    match state {
+        OperationalState::Normal => finish(receiver, source, ending.outcome()),
+        OperationalState::Draining(_) => shut_or_finish(receiver, source, ending),
+        OperationalState::Terminated(_) => shut_or_finish(receiver, source, ending),
+    }
+}
+
+fn shut_or_finish(receiver: ReceiverState, source: RingBufferScheduler, ending: Ending) -> Call
+    ensures { λ r. ⌜ r ≡ shutOrFinish receiver source ending ⌝ }
+{
+    if receiver.notification_socket_shutdown_issued {
+        return finish(receiver, source, ending.outcome());
+    }
+    let phase = Phase::Shutdown(ending);
+    Call {
+        receiver,
+        source,
+        phase,
+    }
+}
+
+// The state advances even if the shutdown then fails.
+fn advance_operational_state_towards_termination(
+    receiver: ReceiverState,
+    source: RingBufferScheduler,
+    to: OperationalState,
+    ending: Ending,
+) -> Call
+    ensures { λ r. ⌜ r ≡ advanceCall to receiver source ending ⌝ }
+{
+    let state = receiver.state;
+    issue_notification_socket_shutdown(with_state(receiver, state.advance(to)), source, ending)
+}
+
+// The next batch, if anything is pending.
+fn flush_chunk_acknowledgements(
+    receiver: ReceiverState,
+    source: RingBufferScheduler,
+    ending: Ending,
+) -> Call
+    ensures { λ r. ⌜ r ≡ flushCall receiver source ending ⌝ }
+{
+    let pending = receiver.pending_ack_count;
+    if pending == 0 {
+        return finish(receiver, source, ending.outcome());
+    }
+    let batch = least(128, pending);
+    let phase = Phase::Send { batch, ending };
+    Call {
+        receiver,
+        source,
+        phase,
+    }
+}
+
+fn least(a: u64, b: u64) -> u64
+    ensures { λ r. ⌜ r ≡ min a b ⌝ }
+{
+    if a <= b { a } else { b }
+}
+
+// A stored failure is answered, and nothing is sent.
+fn service(receiver: ReceiverState, source: RingBufferScheduler, ending: Ending) -> Call
+    ensures { λ r. ⌜ r ≡ serviceCall receiver source ending ⌝ }
+{
+    let state = receiver.state;
+    match state.cached_failure() {
+        PotentialFailure::Some(f) => finish(receiver, source, ending.told(f).outcome()),
+        PotentialFailure::None => flush_chunk_acknowledgements(receiver, source, ending),
+    }
+}
+
+// A failure drains with that reason.
+fn drain(
+    receiver: ReceiverState,
+    source: RingBufferScheduler,
+    failure: Failure,
+    ending: Ending,
+) -> Call
+    ensures { λ r. ⌜ r ≡ drainCall failure receiver source ending ⌝ }
+{
+    advance_operational_state_towards_termination(
+        receiver,
+        source,
+        OperationalState::Draining(failure),
+        ending.told(failure),
+    )
+}
+
+// A send of nothing is failure 5.
+fn sent(receiver: ReceiverState, source: RingBufferScheduler, n: u64, ending: Ending) -> Call
+    requires { ⌜ Covered n receiver ⌝ }
+    ensures { λ r. ⌜ r ≡ sentCall n receiver source ending ⌝ }
+{
+    if n == 0 {
+        return drain(receiver, source, Failure::Io(5), ending);
+    }
+    flush_chunk_acknowledgements(
+        with_pending(receiver, receiver.pending_ack_count - n),
+        source,
+        ending,
+    )
+}
+
+// A send that would block is tried again by a later call.
+fn unsent(receiver: ReceiverState, source: RingBufferScheduler, errno: u64, ending: Ending) -> Call
+    ensures { λ r. ⌜ r ≡ unsentCall errno receiver source ending ⌝ }
+{
+    if errno == Failure::WOULDBLOCK {
+        return finish(receiver, source, ending.outcome());
+    }
+    drain(receiver, source, Failure::Io(errno), ending)
+}
+
+fn refuse(receiver: ReceiverState, source: RingBufferScheduler, refusal: Refusal) -> Call
+    ensures { λ r. ⌜ r ≡ refusedCall receiver source refusal ⌝ }
+{
+    let phase = Phase::Refused(refusal);
+    Call {
+        receiver,
+        source,
+        phase,
+    }
+}
+
+fn after_send(
+    receiver: ReceiverState,
+    source: RingBufferScheduler,
+    ending: Ending,
+    answer: Answer,
+    place: u64,
+) -> Call
+    ensures { λ r. ⌜ r ≡ afterSend receiver source ending answer place ⌝ }
+{
+    match answer.sent(least(128, receiver.pending_ack_count)) {
+        Sent::Sent(n) => sent(receiver, source, n, ending),
+        Sent::Failed(errno) => unsent(receiver, source, errno, ending),
+        Sent::Misfit => refuse(receiver, source, Refusal::Misfit { place }),
+    }
+}
+
+// A failed shutdown is not retried.
+fn after_shutdown(
+    receiver: ReceiverState,
+    source: RingBufferScheduler,
+    ending: Ending,
+    answer: Answer,
+    place: u64,
+) -> Call
+    ensures { λ r. ⌜ r ≡ afterShutdown receiver source ending answer place ⌝ }
+{
+    match answer.shut() {
+        Shut::Done => finish(with_shutdown(receiver), source, ending.outcome()),
+        Shut::Failed(errno) => finish(receiver, source, ending.told(Failure::Io(errno)).outcome()),
+        Shut::Misfit => refuse(receiver, source, Refusal::Misfit { place }),
+    }
+}
+
+// A chunk that is read to its end is acknowledged.
+fn handed_out(q: ReceiverState, n: u64) -> ReceiverState
+    requires { ⌜ Handing q n ⌝ }
+    ensures { λ r. ⌜ r ≡ handedOut q n ⌝ }
+{
+    let source = q.scheduler;
+    let scheduler = register(source, OperationType::Read, n);
+    let after = with_scheduler(q, scheduler);
+    if max_operation_len(scheduler, OperationType::Read) == 0 {
+        return with_pending(after, q.pending_ack_count + 1);
+    }
+    after
+}
+
+// The bytes themselves are copied once the call is over; servicing does not change what was read.
+fn read_chunk_bytes(receiver: ReceiverState, asked: u64, fds: u64) -> Call
+    requires { ⌜ Handing receiver 0 ⌝ }
+    ensures { λ r. ⌜ r ≡ handOutCall asked fds receiver ⌝ }
+{
+    let source = receiver.scheduler;
+    let n = least(asked, max_operation_len(source, OperationType::Read));
+    service(
+        handed_out(receiver, n),
+        source,
+        Ending::Dropped(Outcome::Read { n, fds }),
+    )
+}
+
+// The failure is answered, whatever comes of the shutdown.
+fn terminate_immediately(
+    receiver: ReceiverState,
+    source: RingBufferScheduler,
+    failure: Failure,
+) -> Call
+    ensures { λ r. ⌜ r ≡ failedCall failure receiver source ⌝ }
+{
+    advance_operational_state_towards_termination(
+        receiver,
+        source,
+        OperationalState::Terminated(failure),
+        Ending::Dropped(Outcome::Failed(failure)),
+    )
+}
+
+// Nothing more comes while draining: the stream ends with its cached reason.
+fn terminate_draining(receiver: ReceiverState, source: RingBufferScheduler) -> Call
+    ensures { λ r. ⌜ r ≡ blockedCall receiver source ⌝ }
+{
+    let state = receiver.state;
+    match state {
+        OperationalState::Normal => finish(
+            receiver,
+            source,
+            Outcome::Failed(Failure::Io(Failure::WOULDBLOCK)),
+        ),
+        OperationalState::Draining(f) => terminate_immediately(receiver, source, f),
+        OperationalState::Terminated(_) => terminate_immediately(
+            receiver,
+            source,
+            Failure::Io(Failure::WOULDBLOCK),
+        ),
+    }
+}
+
+fn after_announcement(
+    receiver: ReceiverState,
+    source: RingBufferScheduler,
+    announced: Announced,
+    asked: u64,
+) -> Call
+    requires { ⌜ Announces announced receiver ⌝ }
+    ensures { λ r. ⌜ r ≡ announcedCall announced asked receiver source ⌝ }
+{
+    match announced {
+        Announced::Chunk { scheduler, fds } => read_chunk_bytes(
+            with_scheduler(receiver, scheduler),
+            asked,
+            fds,
+        ),
+        Announced::Failed(f) => {
+            if f.is_errno(Failure::WOULDBLOCK) {
+                return terminate_draining(receiver, source);
+            }
+            terminate_immediately(receiver, source, f)
+        }
+    }
+}
+
+fn after_receive(
+    receiver: ReceiverState,
+    source: RingBufferScheduler,
+    ring: &[u8],
+    received: Received,
+    asked: u64,
+    place: u64,
+) -> Call
+    requires { ⌜ Handing receiver 0 × (length (now ring) ≡ receiver .scheduler .«buf_len») ⌝ }
+    ensures { λ r. ⌜ r ≡ afterReceive receiver source (now (ring .entry)) received asked place ⌝ }
+{
+    let scheduler = receiver.scheduler;
+    match received {
+        Received::Byte { byte, fds } => after_announcement(
+            receiver,
+            source,
+            recv_chunk_announcement(ring, scheduler, byte, fds),
+            asked,
+        ),
+        Received::Failed(errno) => after_announcement(
+            receiver,
+            source,
+            Announced::Failed(Failure::Io(errno)),
+            asked,
+        ),
+        Received::Misfit => refuse(receiver, source, Refusal::Misfit { place }),
+    }
+}
+
+// The record is tested where the ring is touched.
+fn received(
+    receiver: ReceiverState,
+    source: RingBufferScheduler,
+    ring: &[u8],
+    received: Received,
+    asked: u64,
+    place: u64,
+) -> Call
+    ensures { λ r. ⌜ r ≡ receivedCall receiver source (now (ring .entry)) received asked place ⌝ }
+{
+    let scheduler = receiver.scheduler;
+    match demand_ring_memory(scheduler, ring.len()) {
+        Ready::Sound(_) => {
+            if receiver.pending_ack_count == 18446744073709551615 {
+                return refuse(receiver, source, Refusal::PendingFull);
+            }
+            after_receive(receiver, source, ring, received, asked, place)
+        }
+        Ready::Refused(e) => refuse(receiver, source, Refusal::Copy(e)),
+    }
+}
+
+// In order: the empty destination, 13, the announcement if there is no data.
+fn read_live(receiver: ReceiverState, max_new_fds: u64, dst_len: u64) -> Call
+    requires { ⌜ IsSound (receiver .scheduler) ⌝ }
+    ensures { λ r. ⌜ r ≡ liveCall receiver «max_new_fds» «dst_len» ⌝ }
+{
+    let source = receiver.scheduler;
+    if dst_len == 0 {
+        return finish(receiver, source, Outcome::Read { n: 0, fds: 0 });
+    }
+    if receiver.pending_ack_count == 18446744073709551615 {
+        return refuse(receiver, source, Refusal::PendingFull);
+    }
+    if max_operation_len(source, OperationType::Read) == 0 {
+        let phase = Phase::Receive {
+            max_new_fds,
+            dst_len,
+        };
+        return Call {
+            receiver,
+            source,
+            phase,
+        };
+    }
+    read_chunk_bytes(receiver, dst_len, 0)
+}
+
+// A stream that is terminated answers its reason.
+fn read(receiver: ReceiverState, max_new_fds: u64, dst_len: u64) -> Call
+    requires { ⌜ IsSound (receiver .scheduler) ⌝ }
+    ensures { λ r. ⌜ r ≡ readCall receiver «max_new_fds» «dst_len» ⌝ }
+{
+    let source = receiver.scheduler;
+    let state = receiver.state;
+    match state {
+        OperationalState::Normal => read_live(receiver, max_new_fds, dst_len),
+        OperationalState::Draining(_) => read_live(receiver, max_new_fds, dst_len),
+        OperationalState::Terminated(f) => finish(receiver, source, Outcome::Failed(f)),
+    }
+}
+
+impl Call {
+    // A read into a destination of `dst_len` bytes, over ring memory of `ring_len`: 1 to 5, 9, 12 with place 0, and then the rules.
+    pub fn begin_read(
+        receiver: ReceiverState,
+        ring_len: usize,
+        max_new_fds: u64,
+        dst_len: u64,
+    ) -> Call
+        ensures { λ r. ⌜ r ≡ beginReadOf receiver «ring_len» «max_new_fds» «dst_len» ⌝ }
+    {
+        let scheduler = receiver.scheduler;
+        let state = receiver.state;
+        match demand_ring_memory(scheduler, ring_len) {
+            Ready::Sound(_) => {
+                if state.fits() {
+                    return read(receiver, max_new_fds, dst_len);
+                }
+                refuse(receiver, scheduler, Refusal::Misfit { place: 0 })
+            }
+            Ready::Refused(e) => refuse(receiver, scheduler, Refusal::Copy(e)),
+        }
+    }
+
+    pub fn begin_service(receiver: ReceiverState) -> Call
+        ensures { λ r. ⌜ r ≡ beginServiceOf receiver ⌝ }
+    {
+        let scheduler = receiver.scheduler;
+        let state = receiver.state;
+        match scheduler.demand_soundness() {
+            Checked::Sound(_) => {
+                if state.fits() {
+                    return service(receiver, scheduler, Ending::Told(Outcome::Done));
+                }
+                refuse(receiver, scheduler, Refusal::Misfit { place: 0 })
+            }
+            Checked::Refused(e) => refuse(
+                receiver,
+                scheduler,
+                Refusal::Copy(copies::Refusal::Scheduler(e)),
+            ),
+        }
+    }
+
+    pub fn begin_shutdown(receiver: ReceiverState) -> Call
+        ensures { λ r. ⌜ r ≡ beginShutdownOf receiver ⌝ }
+    {
+        let scheduler = receiver.scheduler;
+        let state = receiver.state;
+        match scheduler.demand_soundness() {
+            Checked::Sound(_) => {
+                if state.fits() {
+                    return advance_operational_state_towards_termination(
+                        receiver,
+                        scheduler,
+                        OperationalState::Draining(Failure::Io(Failure::SHUTDOWN)),
+                        Ending::Told(Outcome::Done),
+                    );
+                }
+                refuse(receiver, scheduler, Refusal::Misfit { place: 0 })
+            }
+            Checked::Refused(e) => refuse(
+                receiver,
+                scheduler,
+                Refusal::Copy(copies::Refusal::Scheduler(e)),
+            ),
+        }
+    }
+
+    // The call after the answer at this place, counted from 1, to what it waits for. An interruption leaves it waiting; a call that is
+    // over stays as it is.
+    pub fn answered(self, ring: &[u8], answer: Answer, place: u64) -> Call
+        ensures { λ r. ⌜ r ≡ answeredOf self (now (ring .entry)) answer place ⌝ }
+    {
+        let receiver = self.receiver;
+        let source = self.source;
+        let phase = self.phase;
+        match phase {
+            Phase::Receive {
+                max_new_fds,
+                dst_len,
+            } => {
+                if answer.is_interruption() {
+                    return self;
+                }
+                received(
+                    receiver,
+                    source,
+                    ring,
+                    answer.received(max_new_fds),
+                    dst_len,
+                    place,
+                )
+            }
+            Phase::Send { batch: _, ending } => {
+                if answer.is_interruption() {
+                    return self;
+                }
+                after_send(receiver, source, ending, answer, place)
+            }
+            Phase::Shutdown(ending) => after_shutdown(receiver, source, ending, answer, place),
+            Phase::Finished(_) => self,
+            Phase::Refused(_) => self,
+        }
+    }
+}

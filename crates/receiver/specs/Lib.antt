@@ -3,3 +3,4 @@ pub mod State
 pub mod Answer
 pub mod Receiver
 pub mod Call
+pub mod Drive

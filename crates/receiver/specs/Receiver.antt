@@ -2,9 +2,9 @@
 -- answers that were used, and those that are left; it goes on from there, or refuses the whole call.
 use Prim.Native.Nat.{ℕ, suc, _+_, _-_, _*_, _/_, _%_, _^_, min}
 use mathlib.Core.Bool.{Bool, cond, true, false}
-use mathlib.Core.List.{List, [], _∷_}
+use mathlib.Core.List.{List, [], _∷_, _++_}
 use lib.Dec.{eqb, ltb}
-use lib.ListN.{length}
+use lib.ListN.{length, drop}
 use Rattle.sched.specs.declared.operation.OperationType.the-variants.{Read, Write}
 use Rattle.sched.specs.declared.scheduler.Checked.{Checked}
 use Rattle.sched.specs.declared.scheduler.Checked.the-variants as checked
@@ -276,3 +276,29 @@ shutdownFrom (refused r) = refused r
 
 abbrev pub shutdownOf : ReceiverState → List Answer → Went Outcome
 shutdownOf q answers = soundFrom (soundOf (q .scheduler)) (fitting q (shutdownFrom (advanceTo (Draining (Io 32)) (begin q answers))))
+
+-- ---- what a read leaves
+-- its answer, and the destination
+pub record Delivery : Type 0 where
+  pub answer : Ended
+  pub memory : List ℕ
+
+abbrev pub delivery : Ended → List ℕ → Delivery
+delivery r dst = record { answer = r; memory = dst }
+
+-- the n bytes from the read offset on go to the front of the destination; the rest of it stays
+abbrev pub destinationFor : Outcome → RingBufferScheduler → List ℕ → List ℕ → List ℕ
+destinationFor (outcome.Read n fds) s ring dst = get (s .«buf_len») ring (offsetIn s Read .0) n ++ drop n dst
+destinationFor outcome.Done s ring dst = dst
+destinationFor (outcome.Failed f) s ring dst = dst
+
+-- a refused read leaves the destination as it was
+abbrev pub deliveryFrom : Went Outcome → List ℕ → List ℕ → Delivery
+deliveryFrom (went p o) ring dst = delivery (ended.Accepted (p .rec) o (p .used)) (destinationFor o (p .source) ring dst)
+deliveryFrom (refused r) ring dst = delivery (ended.Refused r) dst
+
+abbrev pub readImplDelivery : ReceiverState → List ℕ → List ℕ → ℕ → List Answer → Delivery
+readImplDelivery q ring dst top answers = deliveryFrom (readImplOf q ring (length dst) top answers) ring dst
+
+abbrev pub readDelivery : ReceiverState → List ℕ → List ℕ → ℕ → List Answer → Delivery
+readDelivery q ring dst top answers = deliveryFrom (readOf q ring (length dst) top answers) ring dst

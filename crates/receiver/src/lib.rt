@@ -3,6 +3,7 @@
 mod announcement;
 mod answer;
 mod call;
+mod drive;
 mod receiver;
 mod refusal;
 mod sound;
@@ -15,6 +16,8 @@ pub use answer::Shut;
 pub use call::Call;
 pub use call::Ending;
 pub use call::Phase;
+pub use drive::Driven;
+pub use drive::Fetched;
 pub use receiver::Ended;
 pub use receiver::Outcome;
 pub use receiver::ReceiverState;

@@ -1,0 +1,147 @@
+// A call over a run of answers: the driver fetches answer after answer, and stops when the call is over or the run is used up.
+ghost use mathlib.Core.Path.{_≡_};
+ghost use Rattle.receiver.specs.Drive.{fetchedOf, overOf, retriesOf, drivenOf, endedOf, deliveredFor, deliveryOf, endOfStreamFor, endOfStreamIn};
+ghost use Rattle.receiver.specs.Receiver.{delivery};
+use crate::answer::Answer;
+use crate::call::Call;
+use crate::call::Phase;
+use crate::receiver::Ended;
+use crate::receiver::Outcome;
+use crate::refusal::Refusal;
+use crate::state::Failure;
+use sched::RingBufferScheduler;
+
+pub enum Fetched {
+    Got(Answer),
+    Missing,
+}
+
+// A call, and how many answers it used.
+pub struct Driven {
+    pub call: Call,
+    pub used: u64,
+}
+
+impl Call {
+    // A call that is over waits for nothing more.
+    pub fn is_over(self) -> bool
+        ensures { λ r. ⌜ r ≡ overOf self ⌝ }
+    {
+        let phase = self.phase;
+        match phase {
+            Phase::Receive { .. } => false,
+            Phase::Send { .. } => false,
+            Phase::Shutdown(_) => false,
+            Phase::Finished(_) => true,
+            Phase::Refused(_) => true,
+        }
+    }
+
+    // An interruption is waited out by a receive and by a send; a shutdown is not tried again.
+    pub fn retries(self, answer: Answer) -> bool
+        ensures { λ r. ⌜ r ≡ retriesOf self answer ⌝ }
+    {
+        let phase = self.phase;
+        match phase {
+            Phase::Receive { .. } => answer.is_interruption(),
+            Phase::Send { .. } => answer.is_interruption(),
+            Phase::Shutdown(_) => false,
+            Phase::Finished(_) => false,
+            Phase::Refused(_) => false,
+        }
+    }
+}
+
+impl Driven {
+    // A call that still waits where the run is used up is refused with 11.
+    pub(crate) fn ended(self) -> Ended
+        ensures { λ r. ⌜ r ≡ endedOf self ⌝ }
+    {
+        let call = self.call;
+        let phase = call.phase;
+        let receiver = call.receiver;
+        match phase {
+            Phase::Receive { .. } => Ended::Refused(Refusal::AnswerMissing),
+            Phase::Send { .. } => Ended::Refused(Refusal::AnswerMissing),
+            Phase::Shutdown(_) => Ended::Refused(Refusal::AnswerMissing),
+            Phase::Finished(outcome) => Ended::Accepted {
+                receiver,
+                outcome,
+                used: self.used,
+            },
+            Phase::Refused(e) => Ended::Refused(e),
+        }
+    }
+
+    // The destination is written last, by a read that is accepted.
+    pub(crate) fn deliver(self, ring: &[u8], dst: &mut [u8]) -> Ended
+        ensures { λ r. ⌜ delivery r (now (dst .exit)) ≡ deliveryOf self (now (ring .entry)) (now (dst .entry)) ⌝ }
+    {
+        let call = self.call;
+        let source = call.source;
+        match self.ended() {
+            Ended::Accepted {
+                receiver,
+                outcome,
+                used,
+            } => {
+                deliver_by(outcome, source, ring, dst);
+                Ended::Accepted {
+                    receiver,
+                    outcome,
+                    used,
+                }
+            }
+            Ended::Refused(e) => Ended::Refused(e),
+        }
+    }
+}
+
+fn deliver_by(outcome: Outcome, source: RingBufferScheduler, ring: &[u8], dst: &mut [u8])
+    ensures { λ _. ⌜ now (dst .exit) ≡ deliveredFor outcome source (now (ring .entry)) (now (dst .entry)) ⌝ }
+{
+    match outcome {
+        Outcome::Read { .. } => {
+            copies::read(source, ring, dst);
+        }
+        Outcome::Done => {}
+        Outcome::Failed(_) => {}
+    }
+}
+
+impl Outcome {
+    // The end of the stream is told as a read of 0 bytes.
+    fn end_of_stream(self) -> Outcome
+        ensures { λ r. ⌜ r ≡ endOfStreamFor self ⌝ }
+    {
+        match self {
+            Outcome::Read { n, fds } => Outcome::Read { n, fds },
+            Outcome::Done => Outcome::Done,
+            Outcome::Failed(f) => {
+                if f.is_errno(Failure::SHUTDOWN) {
+                    return Outcome::Read { n: 0, fds: 0 };
+                }
+                Outcome::Failed(f)
+            }
+        }
+    }
+}
+
+impl Ended {
+    pub(crate) fn end_of_stream(self) -> Ended
+        ensures { λ r. ⌜ r ≡ endOfStreamIn self ⌝ }
+    {
+        match self {
+            Ended::Accepted {
+                receiver,
+                outcome,
+                used,
+            } => Ended::Accepted {
+                receiver,
+                outcome: outcome.end_of_stream(),
+                used,
+            },
+            Ended::Refused(e) => Ended::Refused(e),
+        }
+    }
+}

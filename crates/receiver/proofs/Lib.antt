@@ -4,5 +4,6 @@ pub mod ChunkLaws
 pub mod SoundLaws
 pub mod CallLaws
 pub mod AnsweredLaws
+pub mod DriveLaws
 pub mod Rows
 pub mod Decided

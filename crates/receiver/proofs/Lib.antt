@@ -5,5 +5,7 @@ pub mod SoundLaws
 pub mod CallLaws
 pub mod AnsweredLaws
 pub mod DriveLaws
+pub mod Comes
+pub mod Serviced
 pub mod Rows
 pub mod Decided

@@ -87,10 +87,8 @@ askShutdown p = askShutdownOf (p .rec) (p .source) (p .used) (p .rest)
 
 abbrev pub shutdownIn : OperationalState → Bool → At → Went PotentialFailure
 shutdownIn Normal issued p = went p None
-shutdownIn (Draining f) true p = went p None
-shutdownIn (Draining f) false p = askShutdown p
-shutdownIn (Terminated f) true p = went p None
-shutdownIn (Terminated f) false p = askShutdown p
+shutdownIn (Draining f) issued p = cond issued (went p None) (askShutdown p)
+shutdownIn (Terminated f) issued p = cond issued (went p None) (askShutdown p)
 
 -- the state advances even if the shutdown fails; what is answered is the shutdown's errno, if it failed
 abbrev pub advanceTo : OperationalState → At → Went PotentialFailure

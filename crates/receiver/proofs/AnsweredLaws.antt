@@ -33,27 +33,37 @@ announces-chunk (announced.Chunk v f) q u fds e h =
     record { sound = rw (sym same) (h .0); held = omega arith; counted = h .1 }
 announces-chunk (announced.Failed f) q u fds e h = let z : _≡_ {A = ℕ} 0 1 = cc in absurd (omega arith)
 
--- what is announced of a sound scheduler is sound
-by-test : (q : ReceiverState) (x y : Announced) (b : Bool) → (b ≡ true → Announces x q) → (b ≡ false → Announces y q) → Announces (cond b x y) q
-by-test q x y true f g = f refl
-by-test q x y false f g = g refl
+-- what is announced of a sound scheduler is sound, and of its length
+abbrev pub Chunked : RingBufferScheduler → Announced → Type 0
+Chunked s (announced.Chunk u fds) = IsSound u × (u .«buf_len» ≡ s .«buf_len»)
+Chunked s (announced.Failed f) = Unit {0}
 
-module _ (q : ReceiverState) (s : RingBufferScheduler) (h : IsSound s) (p : q .«pending_ack_count» < 2 ^ 64 - 1) (fds : ℕ) where
-  header-announces : (n : ℕ) → 8 ≤ spaceIn s → Announces (headerIn s fds n) q
-  header-announces n g =
-      by-test q _ _ (eqb (n / 2 ^ 62) 0)
-      (λ e. by-test q _ _ (eqb (n % 2 ^ 48) 0) (λ e. tt)
-      (λ e. by-test q _ _ (ltb (spaceIn s - 8) (n % 2 ^ 48)) (λ e. tt)
-      (λ e. (advanced-sound (advancedIn (advancedIn s Write 8) Read 8) (read s h g) (n % 2 ^ 48) Write (room s h g (n % 2 ^ 48) (ltb-false _ _ e)), p))))
+by-test : (s : RingBufferScheduler) (x y : Announced) (b : Bool) → (b ≡ true → Chunked s x) → (b ≡ false → Chunked s y) → Chunked s (cond b x y)
+by-test s x y true f g = f refl
+by-test s x y false f g = g refl
+
+module _ (s : RingBufferScheduler) (h : IsSound s) (fds : ℕ) where
+  header-chunked : (n : ℕ) → 8 ≤ spaceIn s → Chunked s (headerIn s fds n)
+  header-chunked n g =
+      by-test s _ _ (eqb (n / 2 ^ 62) 0)
+      (λ e. by-test s _ _ (eqb (n % 2 ^ 48) 0) (λ e. tt)
+      (λ e. by-test s _ _ (ltb (spaceIn s - 8) (n % 2 ^ 48)) (λ e. tt)
+      (λ e. (advanced-sound (advancedIn (advancedIn s Write 8) Read 8) (read s h g) (n % 2 ^ 48) Write (room s h g (n % 2 ^ 48) (ltb-false _ _ e)), refl))))
       (λ e. tt)
 
-  pub byte-announces : (ring : List ℕ) (b : ℕ) (r : Announced) → r ≡ byteIn ring s b fds → Announces r q
-  byte-announces ring b r e =
-      rw e
-      (by-test q _ _ (eqb b 0)
-      (λ e. by-test q _ _ (ltb (spaceIn s) 8) (λ e. tt)
-      (λ e. header-announces (numberFrom 0 (get (s .«buf_len») ring (offsetIn s Read .0) 8)) (ltb-false _ _ e)))
-      (λ e. tt))
+  pub byte-chunked : (ring : List ℕ) (b : ℕ) → Chunked s (byteIn ring s b fds)
+  byte-chunked ring b =
+      by-test s _ _ (eqb b 0)
+      (λ e. by-test s _ _ (ltb (spaceIn s) 8) (λ e. tt)
+      (λ e. header-chunked (numberFrom 0 (get (s .«buf_len») ring (offsetIn s Read .0) 8)) (ltb-false _ _ e)))
+      (λ e. tt)
+
+chunk-announces : (s : RingBufferScheduler) (q : ReceiverState) → q .«pending_ack_count» < 2 ^ 64 - 1 → (r : Announced) → Chunked s r → Announces r q
+chunk-announces s q p (announced.Chunk u fds) k = (k .0, p)
+chunk-announces s q p (announced.Failed f) k = tt
+
+pub byte-announces : (q : ReceiverState) (s : RingBufferScheduler) → IsSound s → q .«pending_ack_count» < 2 ^ 64 - 1 → (fds : ℕ) (ring : List ℕ) (b : ℕ) (r : Announced) → r ≡ byteIn ring s b fds → Announces r q
+byte-announces q s h p fds ring b r e = chunk-announces s q p r (rw e (byte-chunked s h fds ring b))
 
 -- a ready record is sound, over memory of its length
 pub ready-sound : (s u : RingBufferScheduler) (n : ℕ) → ready.Sound u ≡ readyOf s n → IsSound s × (n ≡ s .«buf_len»)

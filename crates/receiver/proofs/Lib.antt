@@ -6,6 +6,10 @@ pub mod CallLaws
 pub mod AnsweredLaws
 pub mod DriveLaws
 pub mod Comes
-pub mod Serviced
+pub mod ComesServiced
+pub mod ComesRead
+pub mod Kept
+pub mod Moved
+pub mod Driven
 pub mod Rows
 pub mod Decided

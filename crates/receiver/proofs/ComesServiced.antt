@@ -8,8 +8,8 @@ use Rattle.sched.specs.declared.scheduler.RingBufferScheduler.{RingBufferSchedu
 use Rattle.receiver.proofs.Comes.{Came, done, never, cameFrom, comes, over, given-up, send-missing, shutdown-missing, sends, shuts}
 use Rattle.receiver.specs.Answer.{interruptedOf, sentOf, shutOf}
 use Rattle.receiver.specs.State.{failureIn, advanceIn}
-use Rattle.receiver.specs.Receiver.{At, at, Went, went, refused, withState, withPending, batchIn, bySent, shutBy, askShutdownOf, shutdownIn, advanceTo, flushIn, flushed, drained, serviceBy, serviceIn, dropped}
-use Rattle.receiver.specs.Call.{call, finishedCall, outcomeIn, toldIn, shutOrFinishBy, shutdownBy, shutdownCall, advanceCall, flushCall, serviceCallBy, serviceCall, sentCall, unsentCall, misfitCall, afterSend, afterShut}
+use Rattle.receiver.specs.Receiver.{at, Went, went, refused, withState, withPending, batchIn, bySent, shutBy, askShutdownOf, shutdownIn, advanceTo, flushIn, flushed, drained, serviceBy, serviceIn, dropped}
+use Rattle.receiver.specs.Call.{call, finishedCall, outcomeIn, toldIn, shutOrFinishBy, shutdownBy, advanceCall, flushCall, serviceCallBy, serviceCall, sentCall, unsentCall, misfitCall, afterSend, afterShut}
 use Rattle.receiver.specs.declared.answer.Answer.{Answer}
 use Rattle.receiver.specs.declared.answer.Sent.{Sent}
 use Rattle.receiver.specs.declared.answer.Sent.the-variants as sent
@@ -18,7 +18,7 @@ use Rattle.receiver.specs.declared.answer.Shut.the-variants as shut
 use Rattle.receiver.specs.declared.call.Call.{Call}
 use Rattle.receiver.specs.declared.call.Ending.{Ending}
 use Rattle.receiver.specs.declared.call.Ending.the-variants.{Dropped, Told}
-use Rattle.receiver.specs.declared.call.Phase.the-variants.{Send, Shutdown}
+use Rattle.receiver.specs.declared.call.Phase.the-variants.{Send}
 use Rattle.receiver.specs.declared.receiver.Outcome.{Outcome}
 use Rattle.receiver.specs.declared.receiver.Outcome.the-variants as outcome
 use Rattle.receiver.specs.declared.receiver.ReceiverState.{ReceiverState}

@@ -1,5 +1,5 @@
 -- Laws of the machine's steps: what a test or a case tells.
-use Prim.Native.Nat.{ℕ, _-_, _^_, _<_, _≤_, _%_, _/_}
+use Prim.Native.Nat.{ℕ, zero, suc, _-_, _^_, _<_, _≤_, _%_, _/_}
 use mathlib.Core.Path.{_≡_, refl, sym, ap, _∙_}
 use mathlib.Core.Bool.{Bool, cond, true, false}
 use mathlib.Core.List.{List}
@@ -11,12 +11,12 @@ use Rattle.sched.specs.declared.operation.OperationType.the-variants.{Read, Wri
 use Rattle.sched.specs.declared.scheduler.Checked.{Checked}
 use Rattle.sched.specs.declared.scheduler.Checked.the-variants as checked
 use Rattle.sched.specs.declared.scheduler.RingBufferScheduler.{RingBufferScheduler}
-use Rattle.sched.specs.Scheduler.{IsSound, soundOf, spaceIn, advancedIn, offsetIn}
+use Rattle.sched.specs.Scheduler.{IsSound, soundOf, dataIn, spaceIn, advancedIn, offsetIn}
 use Rattle.copies.specs.declared.Ready.the-variants as ready
 use Rattle.copies.specs.declared.Refusal.the-variants.{RingMemory}
 use Rattle.copies.specs.Copies.{readyFrom, readyOf}
 use Rattle.copies.specs.Ring.{get}
-use Rattle.receiver.proofs.ChunkLaws.{read, room}
+use Rattle.receiver.proofs.ChunkLaws.{announced, held}
 use Rattle.receiver.specs.Call.{Handing, Announces, answeredBy, answeredOf}
 use Rattle.receiver.specs.Receiver.{withScheduler, numberFrom, headerIn, byteIn}
 use Rattle.receiver.specs.declared.announcement.Announced.{Announced}
@@ -33,22 +33,26 @@ announces-chunk (announced.Chunk v f) q u fds e h =
     record { sound = rw (sym same) (h .0); held = omega arith; counted = h .1 }
 announces-chunk (announced.Failed f) q u fds e h = let z : _≡_ {A = ℕ} 0 1 = cc in absurd (omega arith)
 
--- what is announced of a sound scheduler is sound, and of its length
+-- what is announced of a sound scheduler is sound, of its length, and holds data
 abbrev pub Chunked : RingBufferScheduler → Announced → Type 0
-Chunked s (announced.Chunk u fds) = IsSound u × (u .«buf_len» ≡ s .«buf_len»)
+Chunked s (announced.Chunk u fds) = IsSound u × (u .«buf_len» ≡ s .«buf_len») × (1 ≤ dataIn u)
 Chunked s (announced.Failed f) = Unit {0}
 
 by-test : (s : RingBufferScheduler) (x y : Announced) (b : Bool) → (b ≡ true → Chunked s x) → (b ≡ false → Chunked s y) → Chunked s (cond b x y)
 by-test s x y true f g = f refl
 by-test s x y false f g = g refl
 
+some : (n d : ℕ) → eqb n 0 ≡ false → n ≤ d → 1 ≤ d
+some zero d z l = let y : _≡_ {A = ℕ} 0 1 = cc in absurd (omega arith)
+some (suc n) d z l = omega (arith, l)
+
 module _ (s : RingBufferScheduler) (h : IsSound s) (fds : ℕ) where
   header-chunked : (n : ℕ) → 8 ≤ spaceIn s → Chunked s (headerIn s fds n)
   header-chunked n g =
       by-test s _ _ (eqb (n / 2 ^ 62) 0)
       (λ e. by-test s _ _ (eqb (n % 2 ^ 48) 0) (λ e. tt)
-      (λ e. by-test s _ _ (ltb (spaceIn s - 8) (n % 2 ^ 48)) (λ e. tt)
-      (λ e. (advanced-sound (advancedIn (advancedIn s Write 8) Read 8) (read s h g) (n % 2 ^ 48) Write (room s h g (n % 2 ^ 48) (ltb-false _ _ e)), refl))))
+      (λ z. by-test s _ _ (ltb (spaceIn s - 8) (n % 2 ^ 48)) (λ e. tt)
+      (λ e. (announced s h g (n % 2 ^ 48) (ltb-false _ _ e), refl, some (n % 2 ^ 48) _ z (held s h g (n % 2 ^ 48) (ltb-false _ _ e))))))
       (λ e. tt)
 
   pub byte-chunked : (ring : List ℕ) (b : ℕ) → Chunked s (byteIn ring s b fds)

@@ -29,6 +29,13 @@ module _ (s : RingBufferScheduler) (h : IsSound s) (g : 8 ≤ spaceIn s) where
   pub room : (n : ℕ) → n ≤ spaceIn s - 8 → n ≤ spaceIn (advancedIn (advancedIn s Write 8) Read 8)
   room n l = omega (arith, same, g)
 
+  pub announced : (n : ℕ) → n ≤ spaceIn s - 8 → IsSound (advancedIn (advancedIn (advancedIn s Write 8) Read 8) Write n)
+  announced n l = advanced-sound (advancedIn (advancedIn s Write 8) Read 8) read n Write (room n l)
+
+  pub held : (n : ℕ) → n ≤ spaceIn s - 8 → n ≤ dataIn (advancedIn (advancedIn (advancedIn s Write 8) Read 8) Write n)
+  held n l =
+      omega (arith, advanced-greatest (advancedIn (advancedIn s Write 8) Read 8) read n Write (room n l), room n l, read .fill, announced n l .fill)
+
 -- the tests of the space, where it was asked for as `m`
 module _ (m g : ℕ) (e : m ≡ g) where
   pub over : (n : ℕ) → m - 8 < n → ltb (g - 8) n ≡ true

@@ -11,5 +11,7 @@ pub mod ComesRead
 pub mod Kept
 pub mod Moved
 pub mod Driven
+pub mod Spent
+pub mod PendingSum
 pub mod Rows
 pub mod Decided

@@ -4,3 +4,4 @@ pub mod Answer
 pub mod Receiver
 pub mod Call
 pub mod Drive
+pub mod Pending

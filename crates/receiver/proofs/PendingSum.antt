@@ -1,0 +1,192 @@
+-- The pending count over any list of calls: what it was, and one for each chunk that was handed out whole, less all that was sent.
+-- Answer by answer, what is pending and what the used answers say was sent make up the same sum.
+use Prim.Native.Nat.{ℕ, suc, _+_, _-_, _^_, _≤_, min}
+use mathlib.Core.Path.{_≡_, refl, sym, ap, _∙_}
+use mathlib.Core.Bool.{Bool, cond, true, false}
+use mathlib.Core.List.{List, [], _∷_}
+use native.Mathlib.Omega.{arith}
+use lib.Dec.{eqb}
+use lib.ListN.{length, take, drop}
+use borrow.Author.Tests.{eqb-true, ne-eqb}
+use Rattle.sched.specs.declared.operation.OperationType.the-variants.{Read}
+use Rattle.sched.specs.declared.scheduler.Checked.{Checked}
+use Rattle.sched.specs.declared.scheduler.Checked.the-variants as checked
+use Rattle.sched.specs.declared.scheduler.RingBufferScheduler.{RingBufferScheduler}
+use Rattle.sched.specs.Scheduler.{IsSound, soundOf, dataIn, advancedIn}
+use Rattle.copies.specs.declared.Ready.{Ready}
+use Rattle.copies.specs.declared.Ready.the-variants as ready
+use Rattle.copies.specs.Copies.{readyOf}
+use Rattle.receiver.proofs.AnsweredLaws.{Chunked, byte-chunked, ready-sound}
+use Rattle.receiver.proofs.CallLaws.{sent-covered}
+use Rattle.receiver.proofs.Spent.{drop-more, sent-more, interrupted-sends, shut-sends, received-sends, sent-sends, failed-sends}
+use Rattle.receiver.specs.Answer.{interruptedOf, receivedOf, sentOf, shutOf}
+use Rattle.receiver.specs.State.{fitsState, failureIn, isErrno, advanceIn}
+use Rattle.receiver.specs.Receiver.{At, at, Went, went, refused, withScheduler, withState, withPending, withShutdown, shutBy, askShutdownOf, shutdownIn, advanceTo, batchIn, bySent, flushIn, drained, flushed, serviceBy, serviceIn, byteIn, byReceived, announceIn, handedOut, dropped, handOut, answering, failedRead, blockedRead, announcedRead, liveRead, readIn, endedFrom, fitting, soundFrom, readyFor, begin, readImplOf, endOfStream, readOf, serviceOf, shutdownFrom, shutdownOf}
+use Rattle.receiver.specs.Pending.{Asked, reads, readsImpl, services, shuts, wentOf, answersOf, sentBy, sentIn, wholeIn, after, allSent, allWhole, nextOf}
+use Rattle.receiver.specs.declared.announcement.Announced.{Announced}
+use Rattle.receiver.specs.declared.announcement.Announced.the-variants as announced
+use Rattle.receiver.specs.declared.answer.Answer.{Answer}
+use Rattle.receiver.specs.declared.answer.Received.{Received}
+use Rattle.receiver.specs.declared.answer.Received.the-variants as received
+use Rattle.receiver.specs.declared.answer.Sent.{Sent}
+use Rattle.receiver.specs.declared.answer.Sent.the-variants as sent
+use Rattle.receiver.specs.declared.answer.Shut.{Shut}
+use Rattle.receiver.specs.declared.answer.Shut.the-variants as shut
+use Rattle.receiver.specs.declared.receiver.Outcome.{Outcome}
+use Rattle.receiver.specs.declared.receiver.Outcome.the-variants as outcome
+use Rattle.receiver.specs.declared.receiver.ReceiverState.{ReceiverState}
+use Rattle.receiver.specs.declared.refusal.Refusal.the-variants.{AnswerMissing, Misfit, PendingFull}
+use Rattle.receiver.specs.declared.state.Failure.{Failure}
+use Rattle.receiver.specs.declared.state.Failure.the-variants.{Io}
+use Rattle.receiver.specs.declared.state.OperationalState.{OperationalState}
+use Rattle.receiver.specs.declared.state.OperationalState.the-variants.{Normal, Draining, Terminated}
+use Rattle.receiver.specs.declared.state.PotentialFailure.{PotentialFailure}
+use Rattle.receiver.specs.declared.state.PotentialFailure.the-variants.{Some, None}
+
+-- of the run xs, i answers are used and `rest` is left; pending and sent make up `total`; the scheduler is u
+module _ (xs : List Answer) (total : ℕ) (u : RingBufferScheduler) where
+  pub record Spent (q : ReceiverState) (i : ℕ) (rest : List Answer) : Type 0 where
+    pub left : drop i xs ≡ rest
+    pub sum : q .«pending_ack_count» + sentIn (take i xs) ≡ total
+    pub same : q .scheduler ≡ u
+
+  abbrev SpentIn : {X : Type 0} → Went X → Type 0
+  SpentIn (went p x) = Spent (p .rec) (p .used) (p .rest)
+  SpentIn (refused r) = Unit {0}
+
+  either : {X : Type 0} (b : Bool) (x y : Went X) → (b ≡ true → SpentIn x) → (b ≡ false → SpentIn y) → SpentIn (cond b x y)
+  either true x y f g = f refl
+  either false x y f g = g refl
+
+  -- one answer more is used
+  spend : (q r : ReceiverState) (i : ℕ) (a : Answer) (rest : List Answer) → Spent q i (a ∷ rest) → r .scheduler ≡ q .scheduler → r .«pending_ack_count» + sentBy a ≡ q .«pending_ack_count» → Spent r (suc i) rest
+  spend q r i a rest h e n =
+      record { left = drop-more a rest i xs (h .left); sum = omega (arith, sent-more a rest i xs (h .left), h .sum, n); same = e ∙ h .same }
+
+  -- one that sends nothing
+  pass : (q r : ReceiverState) (i : ℕ) (a : Answer) (rest : List Answer) → Spent q i (a ∷ rest) → r .scheduler ≡ q .scheduler → r .«pending_ack_count» ≡ q .«pending_ack_count» → sentBy a ≡ 0 → Spent r (suc i) rest
+  pass q r i a rest h e n z = spend q r i a rest h e (omega (arith, n, z))
+
+  -- ---- a shutdown
+  module _ (s : RingBufferScheduler) where
+    shut-spent : (q : ReceiverState) (i : ℕ) (a : Answer) (rest : List Answer) → Spent q i (a ∷ rest) → (x : Shut) → shutOf a ≡ x → SpentIn (shutBy q s (suc i) rest x)
+    shut-spent q i a rest h shut.Done e = pass q (withShutdown q) i a rest h refl refl (shut-sends a shut.Done e (λ z. let y : _≡_ {A = ℕ} 0 1 = cc in omega arith))
+    shut-spent q i a rest h (shut.Failed n) e = pass q q i a rest h refl refl (shut-sends a (shut.Failed n) e (λ z. let y : _≡_ {A = ℕ} 0 1 = cc in omega arith))
+    shut-spent q i a rest h shut.Misfit e = tt
+
+    ask-spent : (q : ReceiverState) (i : ℕ) (answers : List Answer) → Spent q i answers → SpentIn (askShutdownOf q s i answers)
+    ask-spent q i [] h = tt
+    ask-spent q i (a ∷ rest) h = shut-spent q i a rest h (shutOf a) refl
+
+    shutdown-spent : (q : ReceiverState) (i : ℕ) (answers : List Answer) → Spent q i answers → (b : Bool) (st : OperationalState) → SpentIn (shutdownIn st b (at q s i answers))
+    shutdown-spent q i answers h b Normal = h
+    shutdown-spent q i answers h b (Draining f) = either b (went (at q s i answers) None) (askShutdownOf q s i answers) (λ e. h) (λ e. ask-spent q i answers h)
+    shutdown-spent q i answers h b (Terminated f) = either b (went (at q s i answers) None) (askShutdownOf q s i answers) (λ e. h) (λ e. ask-spent q i answers h)
+
+  advance-spent : (to : OperationalState) (p : At) → Spent (p .rec) (p .used) (p .rest) → SpentIn (advanceTo to p)
+  advance-spent to p h =
+      shutdown-spent (p .source) (withState (p .rec) (advanceIn (p .rec .state) to)) (p .used) (p .rest)
+      (record { left = h .left; sum = h .sum; same = h .same }) (p .rec .«notification_socket_shutdown_issued») (advanceIn (p .rec .state) to)
+
+  -- ---- acknowledgements
+  module _ (s : RingBufferScheduler) where
+    module _ (i : ℕ) (a : Answer) (rest : List Answer) (q : ReceiverState) (h : Spent q i (a ∷ rest)) (ih : (r : ReceiverState) → Spent r (suc i) rest → SpentIn (flushIn r s (suc i) rest)) where
+      covered : (n : ℕ) → sentOf (batchIn q) a ≡ sent.Sent n → Spent (withPending q (q .«pending_ack_count» - n)) (suc i) rest
+      covered n e = spend q (withPending q (q .«pending_ack_count» - n)) i a rest h refl (omega (arith, sent-sends a (batchIn q) n e, sent-covered n q a e))
+
+      none-sent : (n : ℕ) → sentOf (batchIn q) a ≡ sent.Sent n → n ≡ 0 → Spent q (suc i) rest
+      none-sent n e z = pass q q i a rest h refl refl (sent-sends a (batchIn q) n e ∙ z)
+
+      sent-spent : (x : Sent) → sentOf (batchIn q) a ≡ x →
+          SpentIn
+          (bySent x (λ n. cond (eqb n 0) (went (at q s (suc i) rest) (Some (Io 5))) (flushIn (withPending q (q .«pending_ack_count» - n)) s (suc i) rest))
+          (λ n. cond (eqb n 11) (went (at q s (suc i) rest) None) (went (at q s (suc i) rest) (Some (Io n))))
+          (refused (Misfit (suc i))))
+      sent-spent (sent.Sent n) e =
+          either (eqb n 0) (went (at q s (suc i) rest) (Some (Io 5))) (flushIn (withPending q (q .«pending_ack_count» - n)) s (suc i) rest)
+          (λ z. none-sent n e (eqb-true n 0 z)) (λ z. ih (withPending q (q .«pending_ack_count» - n)) (covered n e))
+      sent-spent (sent.Failed n) e =
+          either (eqb n 11) (went (at q s (suc i) rest) None) (went (at q s (suc i) rest) (Some (Io n)))
+          (λ z. pass q q i a rest h refl refl (failed-sends a (batchIn q) n e)) (λ z. pass q q i a rest h refl refl (failed-sends a (batchIn q) n e))
+      sent-spent sent.Misfit e = tt
+
+    flush-spent : (answers : List Answer) (i : ℕ) (q : ReceiverState) → Spent q i answers → SpentIn (flushIn q s i answers)
+    unfolding flushIn
+    flush-spent [] i q h = either (eqb (q .«pending_ack_count») 0) (went (at q s i []) None) (refused AnswerMissing) (λ e. h) (λ e. tt)
+    flush-spent (a ∷ rest) i q h =
+        either (eqb (q .«pending_ack_count») 0) (went (at q s i (a ∷ rest)) None) _ (λ e. h)
+        (λ e. either (interruptedOf a) (flushIn q s (suc i) rest) _
+        (λ z. flush-spent rest (suc i) q (pass q q i a rest h refl refl (interrupted-sends a z)))
+        (λ z. sent-spent i a rest q h (flush-spent rest (suc i)) (sentOf (batchIn q) a) refl))
+
+  -- ---- what a call comes to that hands nothing out
+  abbrev Sums : Went Outcome → Type 0
+  Sums (went p o) = (p .rec .«pending_ack_count» + sentIn (take (p .used) xs) ≡ total) × (p .rec .scheduler ≡ u) × (wholeIn (p .rec) o ≡ 0)
+  Sums (refused r) = Unit {0}
+
+  drained-sums : (f : Failure) (w : Went PotentialFailure) → SpentIn w → Sums (drained f w)
+  drained-sums f (went p None) h = (h .sum, h .same, refl)
+  drained-sums f (went p (Some g)) h = (h .sum, h .same, refl)
+  drained-sums f (refused r) h = tt
+
+  flushed-sums : (w : Went PotentialFailure) → SpentIn w → Sums (flushed w)
+  flushed-sums (went p None) h = (h .sum, h .same, refl)
+  flushed-sums (went p (Some f)) h = drained-sums f (advanceTo (Draining f) p) (advance-spent (Draining f) p h)
+  flushed-sums (refused r) h = tt
+
+  service-by : (x : PotentialFailure) (p : At) → Spent (p .rec) (p .used) (p .rest) → Sums (serviceBy x p)
+  service-by (Some f) p h = (h .sum, h .same, refl)
+  service-by None p h = flushed-sums (flushIn (p .rec) (p .source) (p .used) (p .rest)) (flush-spent (p .source) (p .rest) (p .used) (p .rec) h)
+
+  service-sums : (p : At) → Spent (p .rec) (p .used) (p .rest) → Sums (serviceIn p)
+  service-sums p h = service-by (failureIn (p .rec .state)) p h
+
+  shutdown-sums : (w : Went PotentialFailure) → SpentIn w → Sums (shutdownFrom w)
+  shutdown-sums (went p None) h = (h .sum, h .same, refl)
+  shutdown-sums (went p (Some f)) h = (h .sum, h .same, refl)
+  shutdown-sums (refused r) h = tt
+
+  failed-sums : (f : Failure) (w : Went PotentialFailure) → SpentIn w → Sums (answering f w)
+  failed-sums f (went p x) h = (h .sum, h .same, refl)
+  failed-sums f (refused r) h = tt
+
+-- ---- a call from pending n, over the answers xs
+module _ (xs : List Answer) (n : ℕ) where
+  abbrev Balanced : Went Outcome → Type 0
+  Balanced (went p o) = p .rec .«pending_ack_count» + sentIn (take (p .used) xs) ≡ n + wholeIn (p .rec) o
+  Balanced (refused r) = Unit {0}
+
+  one-of : (b : Bool) (x y : Went Outcome) → (b ≡ true → Balanced x) → (b ≡ false → Balanced y) → Balanced (cond b x y)
+  one-of true x y f g = f refl
+  one-of false x y f g = g refl
+
+  balanced : (u : RingBufferScheduler) (w : Went Outcome) → Sums xs n u w → Balanced w
+  balanced u (went p o) h = omega (arith, h .0, h .2)
+  balanced u (refused r) h = tt
+
+  -- ---- bytes in hand
+  drops : (total : ℕ) (u : RingBufferScheduler) (m fds : ℕ) (w : Went Outcome) → Sums xs total u w →
+      ((q : ReceiverState) → q .scheduler ≡ u → total ≡ n + wholeIn q (outcome.Read m fds)) → Balanced (dropped m fds w)
+  drops total u m fds (went p o) h f = h .0 ∙ f (p .rec) (h .1)
+  drops total u m fds (refused r) h f = tt
+
+  whole-is : (v : RingBufferScheduler) (m fds : ℕ) → (m ≡ 0 → ⊥) → (b : Bool) → eqb (dataIn v) 0 ≡ b → (q : ReceiverState) → q .scheduler ≡ v → cond b 1 0 ≡ wholeIn q (outcome.Read m fds)
+  whole-is v m fds f b e q h = rw (ne-eqb m 0 f, ap (λ (x : RingBufferScheduler). eqb (dataIn x) 0) h ∙ e)
+
+  module _ (q : ReceiverState) (s : RingBufferScheduler) (i : ℕ) (rest : List Answer) (u : RingBufferScheduler) (h : Spent xs n u q i rest) where
+    handed : (m fds : ℕ) → (m ≡ 0 → ⊥) → (v : RingBufferScheduler) (b : Bool) → eqb (dataIn v) 0 ≡ b →
+        Balanced (dropped m fds (serviceIn (at (cond b (withPending (withScheduler q v) (q .«pending_ack_count» + 1)) (withScheduler q v)) s i rest)))
+    handed m fds f v true e =
+        drops (n + 1) v m fds (serviceIn (at (withPending (withScheduler q v) (q .«pending_ack_count» + 1)) s i rest))
+        (service-sums xs (n + 1) v (at (withPending (withScheduler q v) (q .«pending_ack_count» + 1)) s i rest)
+        (record { left = h .left; sum = omega (arith, h .sum); same = refl }))
+        (λ r k. ap (_+_ n) (whole-is v m fds f true e r k))
+    handed m fds f v false e =
+        drops n v m fds (serviceIn (at (withScheduler q v) s i rest))
+        (service-sums xs n v (at (withScheduler q v) s i rest) (record { left = h .left; sum = h .sum; same = refl }))
+        (λ r k. omega (arith, whole-is v m fds f false e r k))
+
+  hand-out-balanced : (asked fds : ℕ) (p : At) (u : RingBufferScheduler) → Spent xs n u (p .rec) (p .used) (p .rest) → (min asked (dataIn (p .rec .scheduler)) ≡ 0 → ⊥) → Balanced (handOut asked fds p)
+  hand-out-balanced asked fds p u h f =
+      handed (p .rec) (p .rec .scheduler) (p .used) (p .rest) u h (min asked (dataIn (p .rec .scheduler))) fds f
+      (advancedIn (p .rec .scheduler) Read (min asked (dataIn (p .rec .scheduler)))) (eqb (dataIn (advancedIn (p .rec .scheduler) Read (min asked (dataIn (p .rec .scheduler))))) 0) refl

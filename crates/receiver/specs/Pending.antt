@@ -1,0 +1,83 @@
+-- The pending count over any list of calls: what it was, and one for each chunk that was handed out whole, less all that was sent.
+use Prim.Native.Nat.{ℕ, _+_}
+use mathlib.Core.Bool.{cond}
+use mathlib.Core.List.{List, [], _∷_}
+use lib.Dec.{eqb}
+use lib.ListN.{take}
+use Rattle.sched.specs.Scheduler.{dataIn}
+use Rattle.receiver.specs.Answer.{isSent}
+use Rattle.receiver.specs.Receiver.{Went, endedFrom, readImplOf, readOf, serviceOf, shutdownOf}
+use Rattle.receiver.specs.declared.answer.Answer.{Answer}
+use Rattle.receiver.specs.declared.receiver.Ended.{Ended}
+use Rattle.receiver.specs.declared.receiver.Ended.the-variants.{Accepted, Refused}
+use Rattle.receiver.specs.declared.receiver.Outcome.{Outcome}
+use Rattle.receiver.specs.declared.receiver.Outcome.the-variants as outcome
+use Rattle.receiver.specs.declared.receiver.ReceiverState.{ReceiverState}
+
+-- a call, with what is lent to it: the ring, the destination's length and the most descriptors of a read, and the answers
+pub data Asked : Type 0 where
+  reads : List ℕ → ℕ → ℕ → List Answer → Asked
+  readsImpl : List ℕ → ℕ → ℕ → List Answer → Asked
+  services : List Answer → Asked
+  shuts : List Answer → Asked
+
+abbrev pub wentOf : ReceiverState → Asked → Went Outcome
+wentOf q (reads ring asked top answers) = readOf q ring asked top answers
+wentOf q (readsImpl ring asked top answers) = readImplOf q ring asked top answers
+wentOf q (services answers) = serviceOf q answers
+wentOf q (shuts answers) = shutdownOf q answers
+
+abbrev pub answersOf : Asked → List Answer
+answersOf (reads ring asked top answers) = answers
+answersOf (readsImpl ring asked top answers) = answers
+answersOf (services answers) = answers
+answersOf (shuts answers) = answers
+
+-- what answers say was sent
+abbrev pub sentBy : Answer → ℕ
+sentBy a = cond (isSent a) (a .value) 0
+
+abbrev pub sentIn : List Answer → ℕ
+sentIn [] = 0
+sentIn (a ∷ rest) = sentBy a + sentIn rest
+
+-- a chunk is handed out whole by a read of some bytes that leaves no data
+abbrev pub wholeIn : ReceiverState → Outcome → ℕ
+wholeIn q (outcome.Read n fds) = cond (eqb n 0) 0 (cond (eqb (dataIn (q .scheduler)) 0) 1 0)
+wholeIn q outcome.Done = 0
+wholeIn q (outcome.Failed f) = 0
+
+-- of a call: what it sent, by the answers that it used; whether it handed a chunk out whole; the record after it
+abbrev pub sentOver : List Answer → Ended → ℕ
+sentOver answers (Accepted q o used) = sentIn (take used answers)
+sentOver answers (Refused r) = 0
+
+abbrev pub wholeOver : Ended → ℕ
+wholeOver (Accepted q o used) = wholeIn q o
+wholeOver (Refused r) = 0
+
+abbrev pub nextOver : ReceiverState → Ended → ReceiverState
+nextOver q (Accepted r o used) = r
+nextOver q (Refused r) = q
+
+abbrev pub sentOf : ReceiverState → Asked → ℕ
+sentOf q c = sentOver (answersOf c) (endedFrom (wentOf q c))
+
+abbrev pub wholeOf : ReceiverState → Asked → ℕ
+wholeOf q c = wholeOver (endedFrom (wentOf q c))
+
+abbrev pub nextOf : ReceiverState → Asked → ReceiverState
+nextOf q c = nextOver q (endedFrom (wentOf q c))
+
+-- over a list of calls
+abbrev pub after : ReceiverState → List Asked → ReceiverState
+after q [] = q
+after q (c ∷ cs) = after (nextOf q c) cs
+
+abbrev pub allSent : ReceiverState → List Asked → ℕ
+allSent q [] = 0
+allSent q (c ∷ cs) = sentOf q c + allSent (nextOf q c) cs
+
+abbrev pub allWhole : ReceiverState → List Asked → ℕ
+allWhole q [] = 0
+allWhole q (c ∷ cs) = wholeOf q c + allWhole (nextOf q c) cs

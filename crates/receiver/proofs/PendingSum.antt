@@ -1,6 +1,6 @@
 -- The pending count over any list of calls: what it was, and one for each chunk that was handed out whole, less all that was sent.
 -- Answer by answer, what is pending and what the used answers say was sent make up the same sum.
-use Prim.Native.Nat.{ℕ, suc, _+_, _-_, _^_, _≤_, min}
+use Prim.Native.Nat.{ℕ, zero, suc, _+_, _-_, _^_, min}
 use mathlib.Core.Path.{_≡_, refl, sym, ap, _∙_}
 use mathlib.Core.Bool.{Bool, cond, true, false}
 use mathlib.Core.List.{List, [], _∷_}
@@ -21,8 +21,8 @@ use Rattle.receiver.proofs.CallLaws.{sent-covered}
 use Rattle.receiver.proofs.Spent.{drop-more, sent-more, interrupted-sends, shut-sends, received-sends, sent-sends, failed-sends}
 use Rattle.receiver.specs.Answer.{interruptedOf, receivedOf, sentOf, shutOf}
 use Rattle.receiver.specs.State.{fitsState, failureIn, isErrno, advanceIn}
-use Rattle.receiver.specs.Receiver.{At, at, Went, went, refused, withScheduler, withState, withPending, withShutdown, shutBy, askShutdownOf, shutdownIn, advanceTo, batchIn, bySent, flushIn, drained, flushed, serviceBy, serviceIn, byteIn, byReceived, announceIn, handedOut, dropped, handOut, answering, failedRead, blockedRead, announcedRead, liveRead, readIn, endedFrom, fitting, soundFrom, readyFor, begin, readImplOf, endOfStream, readOf, serviceOf, shutdownFrom, shutdownOf}
-use Rattle.receiver.specs.Pending.{Asked, reads, readsImpl, services, shuts, wentOf, answersOf, sentBy, sentIn, wholeIn, after, allSent, allWhole, nextOf}
+use Rattle.receiver.specs.Receiver.{At, at, Went, went, refused, withScheduler, withState, withPending, withShutdown, shutBy, askShutdownOf, shutdownIn, advanceTo, batchIn, bySent, flushIn, drained, flushed, serviceBy, serviceIn, byteIn, byReceived, announceIn, dropped, handOut, answering, failedRead, blockedRead, announcedRead, readIn, endedFrom, fitting, soundFrom, readyFor, begin, readImplOf, endOfStream, serviceOf, shutdownFrom, shutdownOf}
+use Rattle.receiver.specs.Pending.{Asked, reads, readsImpl, services, shuts, wentOf, answersOf, sentBy, sentIn, wholeIn, nextOver, sentOver, wholeOver, nextOf, after, allSent, allWhole}
 use Rattle.receiver.specs.declared.announcement.Announced.{Announced}
 use Rattle.receiver.specs.declared.announcement.Announced.the-variants as announced
 use Rattle.receiver.specs.declared.answer.Answer.{Answer}
@@ -190,3 +190,140 @@ module _ (xs : List Answer) (n : ℕ) where
   hand-out-balanced asked fds p u h f =
       handed (p .rec) (p .rec .scheduler) (p .used) (p .rest) u h (min asked (dataIn (p .rec .scheduler))) fds f
       (advancedIn (p .rec .scheduler) Read (min asked (dataIn (p .rec .scheduler)))) (eqb (dataIn (advancedIn (p .rec .scheduler) Read (min asked (dataIn (p .rec .scheduler))))) 0) refl
+
+  -- ---- an announcement
+  failed-balanced : (f : Failure) (p : At) (u : RingBufferScheduler) → Spent xs n u (p .rec) (p .used) (p .rest) → Balanced (failedRead f p)
+  failed-balanced f p u h =
+      balanced u (failedRead f p) (failed-sums xs n u f (advanceTo (Terminated f) p) (advance-spent xs n u (Terminated f) p h))
+
+  blocked-balanced : (st : OperationalState) (p : At) (u : RingBufferScheduler) → Spent xs n u (p .rec) (p .used) (p .rest) → Balanced (blockedRead st p)
+  blocked-balanced Normal p u h = omega (arith, h .sum)
+  blocked-balanced (Draining f) p u h = failed-balanced f p u h
+  blocked-balanced (Terminated f) p u h = failed-balanced (Io 11) p u h
+
+  module _ (asked : ℕ) (some : asked ≡ 0 → ⊥) where
+    announced-balanced : (p : At) (u : RingBufferScheduler) → Spent xs n u (p .rec) (p .used) (p .rest) → (s : RingBufferScheduler) (x : Announced) → Chunked s x → Balanced (announcedRead asked (went p x))
+    announced-balanced p u h s (announced.Chunk v fds) k =
+        hand-out-balanced asked fds (at (withScheduler (p .rec) v) (p .source) (p .used) (p .rest)) v (record { left = h .left; sum = h .sum; same = refl })
+        (λ z. some (omega (arith, z, k .2)))
+    announced-balanced p u h s (announced.Failed f) k =
+        one-of (isErrno f 11) (blockedRead (p .rec .state) p) (failedRead f p) (λ e. blocked-balanced (p .rec .state) p u h) (λ e. failed-balanced f p u h)
+
+    module _ (ring : List ℕ) (top : ℕ) (q : ReceiverState) (s : RingBufferScheduler) (sound : IsSound (q .scheduler)) where
+      module _ (i : ℕ) (a : Answer) (rest : List Answer) (u : RingBufferScheduler) (h : Spent xs n u q i (a ∷ rest)) where
+        passed : (x : Received) → receivedOf top a ≡ x → (x ≡ received.Misfit → ⊥) → Spent xs n u q (suc i) rest
+        passed x e f = pass xs n u q q i a rest h refl refl (received-sends a top x e f)
+
+        received-balanced : (x : Received) → receivedOf top a ≡ x →
+            Balanced
+            (announcedRead asked
+            (byReceived x (λ b fds. went (at q s (suc i) rest) (byteIn ring (q .scheduler) b fds)) (λ m. went (at q s (suc i) rest) (announced.Failed (Io m))) (refused (Misfit (suc i)))))
+        received-balanced (received.Byte b fds) e =
+            announced-balanced (at q s (suc i) rest) u (passed (received.Byte b fds) e (λ z. let y : _≡_ {A = ℕ} 0 1 = cc in omega arith)) (q .scheduler) (byteIn ring (q .scheduler) b fds) (byte-chunked (q .scheduler) sound fds ring b)
+        received-balanced (received.Failed m) e =
+            announced-balanced (at q s (suc i) rest) u (passed (received.Failed m) e (λ z. let y : _≡_ {A = ℕ} 0 1 = cc in omega arith)) (q .scheduler) (announced.Failed (Io m)) tt
+        received-balanced received.Misfit e = tt
+
+      waits : (b : Bool) (x y : Went Announced) → (b ≡ true → Balanced (announcedRead asked x)) → Balanced (announcedRead asked y) → Balanced (announcedRead asked (cond b x y))
+      waits true x y f g = f refl
+      waits false x y f g = g
+
+      receive-balanced : (answers : List Answer) (i : ℕ) (u : RingBufferScheduler) → Spent xs n u q i answers → Balanced (announcedRead asked (announceIn ring top q s i answers))
+      unfolding announceIn
+      receive-balanced [] i u h = tt
+      receive-balanced (a ∷ rest) i u h =
+          waits (interruptedOf a) (announceIn ring top q s (suc i) rest) _
+          (λ z. receive-balanced rest (suc i) u (pass xs n u q q i a rest h refl refl (interrupted-sends a z)))
+          (received-balanced i a rest u h (receivedOf top a) refl)
+
+-- ---- the calls
+module _ (q : ReceiverState) (answers : List Answer) where
+  abbrev start : At
+  start = begin q answers
+
+  abbrev Kept : Went Outcome → Type 0
+  Kept w = Balanced answers (q .«pending_ack_count») w
+
+  begins : Spent answers (q .«pending_ack_count») (q .scheduler) q 0 answers
+  begins = record { left = refl; sum = omega arith; same = refl }
+
+  fits : (w : Went Outcome) → Kept w → (b : Bool) → Kept (cond b w (refused (Misfit 0)))
+  fits w h true = h
+  fits w h false = tt
+
+  sound-first : (x : Checked) (w : Went Outcome) → Kept w → Kept (soundFrom x w)
+  sound-first (checked.Sound s) w h = h
+  sound-first (checked.Refused e) w h = tt
+
+  service-kept : Kept (serviceOf q answers)
+  service-kept =
+      sound-first (soundOf (q .scheduler)) (fitting q (serviceIn start))
+      (fits (serviceIn start) (balanced answers (q .«pending_ack_count») (q .scheduler) (serviceIn start) (service-sums answers (q .«pending_ack_count») (q .scheduler) start begins)) (fitsState (q .state)))
+
+  abbrev shutting : Went PotentialFailure
+  shutting = advanceTo (Draining (Io 32)) start
+
+  shutdown-kept : Kept (shutdownOf q answers)
+  shutdown-kept =
+      sound-first (soundOf (q .scheduler)) (fitting q (shutdownFrom shutting))
+      (fits (shutdownFrom shutting)
+      (balanced answers (q .«pending_ack_count») (q .scheduler) (shutdownFrom shutting)
+      (shutdown-sums answers (q .«pending_ack_count») (q .scheduler) shutting (advance-spent answers (q .«pending_ack_count») (q .scheduler) (Draining (Io 32)) start begins)))
+      (fitsState (q .state)))
+
+  module _ (ring : List ℕ) (asked top : ℕ) where
+    module _ (sound : IsSound (q .scheduler)) where
+      abbrev either-way : Bool → Went Outcome
+      either-way b = cond b (announcedRead asked (announceIn ring top q (q .scheduler) 0 answers)) (handOut asked 0 start)
+
+      unread : (asked ≡ 0 → ⊥) → (b : Bool) → eqb (dataIn (q .scheduler)) 0 ≡ b → Kept (either-way b)
+      unread f true e = receive-balanced answers (q .«pending_ack_count») asked f ring top q (q .scheduler) sound answers 0 (q .scheduler) begins
+      unread f false e = hand-out-balanced answers (q .«pending_ack_count») asked 0 start (q .scheduler) begins (λ z. by (dataIn (q .scheduler)) e f z)
+        where
+          by : (d : ℕ) → eqb d 0 ≡ false → (asked ≡ 0 → ⊥) → min asked d ≡ 0 → ⊥
+          by zero k g z = let y : _≡_ {A = ℕ} 0 1 = cc in omega arith
+          by (suc d) k g z = g (omega (arith, z))
+
+      live : (b : Bool) → eqb asked 0 ≡ b → Kept (cond b (went start (outcome.Read 0 0)) (cond (eqb (q .«pending_ack_count») (2 ^ 64 - 1)) (refused PendingFull) (either-way (eqb (dataIn (q .scheduler)) 0))))
+      live true e = omega arith
+      live false e = one-of answers (q .«pending_ack_count») (eqb (q .«pending_ack_count») (2 ^ 64 - 1)) (refused PendingFull) (either-way (eqb (dataIn (q .scheduler)) 0)) (λ z. tt) (λ z. unread (λ y. by asked e y) (eqb (dataIn (q .scheduler)) 0) refl)
+        where
+          by : (m : ℕ) → eqb m 0 ≡ false → m ≡ 0 → ⊥
+          by zero k y = let x : _≡_ {A = ℕ} 0 1 = cc in omega arith
+          by (suc m) k y = omega arith
+
+      by-state : (st : OperationalState) → Kept (readIn st ring asked top start)
+      by-state Normal = live (eqb asked 0) refl
+      by-state (Draining f) = live (eqb asked 0) refl
+      by-state (Terminated f) = omega arith
+
+    ready-first : (x : Ready) → readyOf (q .scheduler) (length ring) ≡ x → Kept (readyFor x (fitting q (readIn (q .state) ring asked top start)))
+    ready-first (ready.Sound u) e = fits (readIn (q .state) ring asked top start) (by-state (ready-sound (q .scheduler) u (length ring) (sym e) .0) (q .state)) (fitsState (q .state))
+    ready-first (ready.Refused e) h = tt
+
+    read-impl-kept : Kept (readImplOf q ring asked top answers)
+    read-impl-kept = ready-first (readyOf (q .scheduler) (length ring)) refl
+
+  -- the end of the stream hands nothing out
+  end-kept : (w : Went Outcome) → Kept w → Kept (endOfStream w)
+  end-kept (went p (outcome.Read m fds)) h = h
+  end-kept (went p outcome.Done) h = h
+  end-kept (went p (outcome.Failed f)) h = one-of answers (q .«pending_ack_count») (isErrno f 32) (went p (outcome.Read 0 0)) (went p (outcome.Failed f)) (λ e. h) (λ e. h)
+  end-kept (refused r) h = tt
+
+call-balanced : (q : ReceiverState) (c : Asked) → Balanced (answersOf c) (q .«pending_ack_count») (wentOf q c)
+call-balanced q (reads ring asked top answers) = end-kept q answers (readImplOf q ring asked top answers) (read-impl-kept q answers ring asked top)
+call-balanced q (readsImpl ring asked top answers) = read-impl-kept q answers ring asked top
+call-balanced q (services answers) = service-kept q answers
+call-balanced q (shuts answers) = shutdown-kept q answers
+
+-- a refused call changes nothing and sends nothing
+counted : (q : ReceiverState) (answers : List Answer) (w : Went Outcome) → Balanced answers (q .«pending_ack_count») w →
+    nextOver q (endedFrom w) .«pending_ack_count» + sentOver answers (endedFrom w) ≡ q .«pending_ack_count» + wholeOver (endedFrom w)
+counted q answers (went p o) h = h
+counted q answers (refused r) h = refl
+
+-- pending + all sent = pending at the start + chunks handed out whole
+pub pending-sum : (cs : List Asked) (q : ReceiverState) → after q cs .«pending_ack_count» + allSent q cs ≡ q .«pending_ack_count» + allWhole q cs
+pending-sum [] q = refl
+pending-sum (c ∷ cs) q = let h = counted q (answersOf c) (wentOf q c) (call-balanced q c) in let k = pending-sum cs (nextOf q c) in omega (arith, h, k)

@@ -1,5 +1,5 @@
 -- What was sent, by the answers that were used: the steps of the rules.
-use Prim.Native.Nat.{ℕ, zero, suc, _+_, _-_, _≤_}
+use Prim.Native.Nat.{ℕ, zero, suc, _+_}
 use mathlib.Core.Path.{_≡_, refl, sym, ap, _∙_}
 use mathlib.Core.Bool.{Bool, cond, true, false}
 use mathlib.Core.List.{List, [], _∷_}

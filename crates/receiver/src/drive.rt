@@ -22,6 +22,16 @@ pub struct Driven {
     pub used: u64,
 }
 
+pub fn fetch(answers: &[Answer], i: u64) -> Fetched
+    ensures { λ r. ⌜ r ≡ fetchedOf (now (answers .entry)) i ⌝ }
+{
+    if i < answers.len() as u64 {
+        Fetched::Got(answers[i as usize])
+    } else {
+        Fetched::Missing
+    }
+}
+
 impl Call {
     // A call that is over waits for nothing more.
     pub fn is_over(self) -> bool
@@ -50,6 +60,31 @@ impl Call {
             Phase::Refused(_) => false,
         }
     }
+}
+
+// Each turn waits out the interruptions, and hands the first other answer to the call.
+pub(crate) fn drive(call: Call, ring: &[u8], answers: &[Answer]) -> Driven
+    ensures { λ r. ⌜ r ≡ drivenOf call (now (ring .entry)) (now (answers .entry)) ⌝ }
+{
+    let mut c = call;
+    let mut i: u64 = 0;
+    'batches: loop {
+        if c.is_over() {
+            break 'batches;
+        }
+        let answer = loop {
+            let Fetched::Got(a) = fetch(answers, i) else {
+                break 'batches;
+            };
+            i += 1;
+            if c.retries(a) {
+                continue;
+            }
+            break a;
+        };
+        c = c.answered(ring, answer, i);
+    }
+    Driven { call: c, used: i }
 }
 
 impl Driven {

@@ -206,9 +206,11 @@ soundCall (checked.Refused e) q c = refusedCall q (q .scheduler) (Copy (Schedule
 abbrev pub beginReadOf : ReceiverState → ℕ → ℕ → ℕ → Call
 beginReadOf q n top asked = readyCall (readyOf (q .scheduler) n) q (fittingCall q (readCall q top asked))
 
+abbrev pub testedCall : ReceiverState → Call → Call
+testedCall q c = soundCall (soundOf (q .scheduler)) q (fittingCall q c)
+
 abbrev pub beginServiceOf : ReceiverState → Call
-beginServiceOf q = soundCall (soundOf (q .scheduler)) q (fittingCall q (serviceCall q (q .scheduler) (Told outcome.Done)))
+beginServiceOf q = testedCall q (serviceCall q (q .scheduler) (Told outcome.Done))
 
 abbrev pub beginShutdownOf : ReceiverState → Call
-beginShutdownOf q =
-    soundCall (soundOf (q .scheduler)) q (fittingCall q (advanceCall (Draining (Io 32)) q (q .scheduler) (Told outcome.Done)))
+beginShutdownOf q = testedCall q (advanceCall (Draining (Io 32)) q (q .scheduler) (Told outcome.Done))

@@ -5,7 +5,7 @@ ghost use Prim.Native.Nat.{min};
 ghost use lib.ListN.{length};
 ghost use Rattle.sched.specs.Scheduler.{IsSound};
 ghost use Rattle.receiver.specs.Receiver.{withScheduler, withState, withPending, withShutdown, handedOut};
-ghost use Rattle.receiver.specs.Call.{finishedCall, outcomeIn, toldIn, shutOrFinish, shutdownCall, advanceCall, flushCall, serviceCall, drainCall, Covered, sentCall, unsentCall, afterSend, refusedCall, afterShutdown, Handing, Announces, handOutCall, failedCall, blockedCall, announcedCall, afterReceive, receivedCall, answeredOf, liveCall, readCall, beginReadOf, beginServiceOf, beginShutdownOf};
+ghost use Rattle.receiver.specs.Call.{finishedCall, outcomeIn, toldIn, shutOrFinish, shutdownCall, advanceCall, flushCall, serviceCall, drainCall, Covered, sentCall, unsentCall, afterSend, refusedCall, afterShutdown, Handing, Announces, handOutCall, failedCall, blockedCall, announcedCall, afterReceive, receivedCall, answeredOf, liveCall, readCall, testedCall, beginReadOf, beginServiceOf, beginShutdownOf};
 use crate::announcement::Announced;
 use crate::announcement::recv_chunk_announcement;
 use crate::answer::Answer;
@@ -477,6 +477,27 @@ fn read(receiver: ReceiverState, max_new_fds: u64, dst_len: u64) -> Call
     }
 }
 
+// The call, if the record passes its tests: 1 to 5, then 12 with place 0.
+fn tested(receiver: ReceiverState, call: Call) -> Call
+    ensures { λ r. ⌜ r ≡ testedCall receiver call ⌝ }
+{
+    let scheduler = receiver.scheduler;
+    let state = receiver.state;
+    match scheduler.demand_soundness() {
+        Checked::Sound(_) => {
+            if state.fits() {
+                return call;
+            }
+            refuse(receiver, scheduler, Refusal::Misfit { place: 0 })
+        }
+        Checked::Refused(e) => refuse(
+            receiver,
+            scheduler,
+            Refusal::Copy(copies::Refusal::Scheduler(e)),
+        ),
+    }
+}
+
 impl Call {
     // A read into a destination of `dst_len` bytes, over ring memory of `ring_len`: 1 to 5, 9, 12 with place 0, and then the rules.
     pub fn begin_read(
@@ -503,46 +524,26 @@ impl Call {
     pub fn begin_service(receiver: ReceiverState) -> Call
         ensures { λ r. ⌜ r ≡ beginServiceOf receiver ⌝ }
     {
-        let scheduler = receiver.scheduler;
-        let state = receiver.state;
-        match scheduler.demand_soundness() {
-            Checked::Sound(_) => {
-                if state.fits() {
-                    return service(receiver, scheduler, Ending::Told(Outcome::Done));
-                }
-                refuse(receiver, scheduler, Refusal::Misfit { place: 0 })
-            }
-            Checked::Refused(e) => refuse(
-                receiver,
-                scheduler,
-                Refusal::Copy(copies::Refusal::Scheduler(e)),
-            ),
-        }
+        let source = receiver.scheduler;
+        tested(
+            receiver,
+            service(receiver, source, Ending::Told(Outcome::Done)),
+        )
     }
 
     pub fn begin_shutdown(receiver: ReceiverState) -> Call
         ensures { λ r. ⌜ r ≡ beginShutdownOf receiver ⌝ }
     {
-        let scheduler = receiver.scheduler;
-        let state = receiver.state;
-        match scheduler.demand_soundness() {
-            Checked::Sound(_) => {
-                if state.fits() {
-                    return advance_operational_state_towards_termination(
-                        receiver,
-                        scheduler,
-                        OperationalState::Draining(Failure::Io(Failure::SHUTDOWN)),
-                        Ending::Told(Outcome::Done),
-                    );
-                }
-                refuse(receiver, scheduler, Refusal::Misfit { place: 0 })
-            }
-            Checked::Refused(e) => refuse(
+        let source = receiver.scheduler;
+        tested(
+            receiver,
+            advance_operational_state_towards_termination(
                 receiver,
-                scheduler,
-                Refusal::Copy(copies::Refusal::Scheduler(e)),
+                source,
+                OperationalState::Draining(Failure::Io(Failure::SHUTDOWN)),
+                Ending::Told(Outcome::Done),
             ),
-        }
+        )
     }
 
     // The call after the answer at this place, counted from 1, to what it waits for. An interruption leaves it waiting; a call that is

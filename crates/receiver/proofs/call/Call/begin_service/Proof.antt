@@ -1,50 +1,16 @@
--- By the tests.
-use mathlib.Core.Path.{sym, _∙_}
+-- Servicing, of a record that passes its tests.
 use borrow.Author.Needs.{needs}
 use Rattle.receiver.proofs.call.Call.begin_service.Statement.{statement}
 use Rattle.receiver.proofs.call.Call.begin_service.Tie as tie
 
-demand-soundness-requires : tie.Need-demand-soundness-requires
-demand-soundness-requires c κs = search needs
-
-enum-told : tie.Need-enum-told
-enum-told c = search needs
-
-fits-requires : tie.Need-fits-requires
-fits-requires c κs = search needs
-
 service-requires : tie.Need-service-requires
 service-requires c κs = search needs
 
+tested-requires : tie.Need-tested-requires
+tested-requires c κs = search needs
+
 returns : tie.Need-returns
-returns c = rw (← (sym (c .before .before .before .enum-told .given .1) ∙ c .before .before .before .before .before .demand-soundness .ensures), sym (c .before .before .fits2 .ensures) ∙ c .before .if1 .taken, c .service .ensures)
-
-refuse-requires : tie.Need-refuse-requires
-refuse-requires c κs = search needs
-
-enum-known-e : tie.Need-enum-known-e
-enum-known-e c = search needs
-
-refuse-requires-2 : tie.Need-refuse-requires-2
-refuse-requires-2 c κs = search needs
-
-returns-2 : tie.Need-returns-2
-returns-2 c = rw (← (sym (c .before .before .before .enum-told .given .1) ∙ c .before .before .before .before .before .demand-soundness .ensures), sym (c .before .before .fits2 .ensures) ∙ c .before .if1 .left, c .refuse .ensures)
-
-returns-3 : tie.Need-returns-3
-returns-3 c = rw (← (sym (c .before .before .e .given .1) ∙ c .before .before .before .before .demand-soundness .ensures), c .refuse2 .ensures)
+returns c = rw (c .tested .ensures, c .before .service .ensures)
 
 pub begin-service-spec : {M : Type 1} → statement M
-begin-service-spec =
-    tie.close
-    (tie.spec
-    demand-soundness-requires
-    enum-told
-    fits-requires
-    service-requires
-    returns
-    refuse-requires
-    enum-known-e
-    refuse-requires-2
-    returns-2
-    returns-3)
+begin-service-spec = tie.close (tie.spec service-requires tested-requires returns)

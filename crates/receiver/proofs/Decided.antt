@@ -23,6 +23,8 @@ use Rattle.receiver.proofs.state.OperationalState.normalize.Kinds as Op
 use Rattle.receiver.proofs.state.OperationalState.normalize.Reads as OperationalState-normalize
 use Rattle.receiver.proofs.state.OperationalState.advance_state_towards_termination.Kinds as advance-state-towards-termination-kinds
 use Rattle.receiver.proofs.state.OperationalState.advance_state_towards_termination.Reads as advance-state-towards-termination
+use Rattle.receiver.proofs.receiver.ReceiverState.new.Kinds as ReceiverState-new-kinds
+use Rattle.receiver.proofs.receiver.ReceiverState.new.Reads as ReceiverState-new
 use Rattle.receiver.proofs.call.Call.begin_read.Kinds as Call-begin-read-kinds
 use Rattle.receiver.proofs.call.Call.begin_read.Reads as Call-begin-read
 use Rattle.receiver.proofs.call.Call.begin_service.Kinds as Call-begin-service-kinds
@@ -64,6 +66,9 @@ OperationalState-normalize-decided κs a q z z′ ws ws′ p p′ = (p ∙ sym p
 
 pub advance-state-towards-termination-decided : Decides 0 advance-state-towards-termination-kinds.ps advance-state-towards-termination-kinds.r advance-state-towards-termination.Asked advance-state-towards-termination.Learnt
 advance-state-towards-termination-decided κs a q z z′ ws ws′ p p′ = (p ∙ sym p′, refl)
+
+pub ReceiverState-new-decided : Decides 0 ReceiverState-new-kinds.ps ReceiverState-new-kinds.r ReceiverState-new.Asked ReceiverState-new.Learnt
+ReceiverState-new-decided κs a q z z′ ws ws′ p p′ = (p ∙ sym p′, refl)
 
 pub Call-begin-read-decided : Decides 0 Call-begin-read-kinds.ps Call-begin-read-kinds.r Call-begin-read.Asked Call-begin-read.Learnt
 Call-begin-read-decided κs a q z z′ ws ws′ p p′ = (p ∙ sym p′, refl)

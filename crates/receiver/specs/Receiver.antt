@@ -26,6 +26,8 @@ use Rattle.receiver.specs.declared.answer.Sent.{Sent}
 use Rattle.receiver.specs.declared.answer.Sent.the-variants as sent
 use Rattle.receiver.specs.declared.answer.Shut.{Shut}
 use Rattle.receiver.specs.declared.answer.Shut.the-variants as shut
+use Rattle.receiver.specs.declared.receiver.ReceiverAnswer.{ReceiverAnswer}
+use Rattle.receiver.specs.declared.receiver.ReceiverAnswer.the-variants as made
 use Rattle.receiver.specs.declared.receiver.ReceiverState.{ReceiverState}
 use Rattle.receiver.specs.declared.receiver.Ended.{Ended}
 use Rattle.receiver.specs.declared.receiver.Ended.the-variants as ended
@@ -70,6 +72,15 @@ withShutdown q = receiver (q .scheduler) (q .state) (q .«pending_ack_count») t
 
 abbrev pub at : ReceiverState → RingBufferScheduler → ℕ → List Answer → At
 at q s i rest = record { rec = q; source = s; used = i; rest = rest }
+
+-- ---- making one
+-- 1 to 5, then a stream that is normal, with nothing pending
+abbrev pub receiverFrom : Checked → ReceiverAnswer
+receiverFrom (checked.Sound s) = made.Of (receiver s Normal 0 false)
+receiverFrom (checked.Refused e) = made.Refused (Copy (Scheduler e))
+
+abbrev pub receiverOf : RingBufferScheduler → ReceiverAnswer
+receiverOf s = receiverFrom (soundOf s)
 
 -- ---- advancing the state
 -- a shutdown is asked for unless the state is Normal or one has succeeded before; a failed one is not retried

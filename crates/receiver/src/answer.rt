@@ -5,6 +5,7 @@ ghost use Rattle.receiver.specs.State.{fitsErrno};
 
 // Kind 0: received a byte, `value`, with a count of descriptors. 1: closed. 2: failed with the errno `value`. 3: sent `value`
 // bytes. 4: done. Numbers that a kind does not use are not looked at.
+#[repr(C)]
 pub struct Answer {
     pub kind: u64,
     pub value: u64,

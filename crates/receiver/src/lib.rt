@@ -20,6 +20,7 @@ pub use drive::Driven;
 pub use drive::Fetched;
 pub use receiver::Ended;
 pub use receiver::Outcome;
+pub use receiver::ReceiverAnswer;
 pub use receiver::ReceiverState;
 pub use refusal::Refusal;
 pub use state::Failure;

@@ -1,7 +1,10 @@
 // The receiver's record, and what its calls come to.
+ghost use mathlib.Core.Path.{_≡_};
+ghost use Rattle.receiver.specs.Receiver.{receiverOf};
 use crate::refusal::Refusal;
 use crate::state::Failure;
 use crate::state::OperationalState;
+use sched::Checked;
 use sched::RingBufferScheduler;
 
 pub struct ReceiverState {
@@ -9,6 +12,11 @@ pub struct ReceiverState {
     pub state: OperationalState,
     pub pending_ack_count: u64,
     pub notification_socket_shutdown_issued: bool,
+}
+
+pub enum ReceiverAnswer {
+    Of(ReceiverState),
+    Refused(Refusal),
 }
 
 // What an accepted call answers: bytes read with a count of descriptors, done, or a failure.
@@ -26,4 +34,23 @@ pub enum Ended {
         used: u64,
     },
     Refused(Refusal),
+}
+
+impl ReceiverState {
+    // The ring's bytes and the socket stay with the host.
+    pub fn new(scheduler: RingBufferScheduler) -> ReceiverAnswer
+        ensures { λ r. ⌜ r ≡ receiverOf scheduler ⌝ }
+    {
+        match scheduler.demand_soundness() {
+            Checked::Sound(scheduler) => ReceiverAnswer::Of(ReceiverState {
+                scheduler,
+                state: OperationalState::Normal,
+                pending_ack_count: 0,
+                notification_socket_shutdown_issued: false,
+            }),
+            Checked::Refused(e) => ReceiverAnswer::Refused(Refusal::Copy(copies::Refusal::Scheduler(
+                e,
+            ))),
+        }
+    }
 }

@@ -173,6 +173,22 @@ use Rattle.stripring.proofs.reading_end.stripring_reading_end_send.Kind
 use Rattle.stripring.proofs.reading_end.stripring_reading_end_send.Reads as stripring-reading-end-send
 use Rattle.stripring.proofs.reading_end.stripring_reading_end_take.Kinds as stripring-reading-end-take-kinds
 use Rattle.stripring.proofs.reading_end.stripring_reading_end_take.Reads as stripring-reading-end-take
+use Rattle.stripring.proofs.failure.stripring_failure_normalize.Kinds as stripring-failure-normalize-kinds
+use Rattle.stripring.proofs.failure.stripring_failure_normalize.Reads as stripring-failure-normalize
+use Rattle.stripring.proofs.failure.stripring_failure_advance_failure_towards_error.Kinds as stripring-failure-advance-failure-towards-error-kinds
+use Rattle.stripring.proofs.failure.stripring_failure_advance_failure_towards_error.Reads as stripring-failure-advance-failure-towards-error
+use Rattle.stripring.proofs.state.stripring_state_failure.Kinds as stripring-state-failure-kinds
+use Rattle.stripring.proofs.state.stripring_state_failure.Reads as stripring-state-failure
+use Rattle.stripring.proofs.state.stripring_state_with_failure.Kinds as stripring-state-with-failure-kinds
+use Rattle.stripring.proofs.state.stripring_state_with_failure.Reads as stripring-state-with-failure
+use Rattle.stripring.proofs.state.stripring_state_with_potential_failure.Kinds as stripring-state-with-potential-failure-kinds
+use Rattle.stripring.proofs.state.stripring_state_with_potential_failure.Reads as stripring-state-with-potential-failure
+use Rattle.stripring.proofs.state.stripring_state_normalize.Kinds as stripring-state-normalize-kinds
+use Rattle.stripring.proofs.state.stripring_state_normalize.Reads as stripring-state-normalize
+use Rattle.stripring.proofs.state.stripring_state_advance_state_towards_termination.Kinds as stripring-state-advance-state-towards-termination-kinds
+use Rattle.stripring.proofs.state.stripring_state_advance_state_towards_termination.Reads as stripring-state-advance-state-towards-termination
+use Rattle.stripring.proofs.receiver_record.stripring_receiver_new.Kinds as stripring-receiver-new-kinds
+use Rattle.stripring.proofs.receiver_record.stripring_receiver_new.Reads as stripring-receiver-new
 
 pub stripring-modulus-new-full-range-decided : Decides 0 stripring-modulus-new-full-range-kinds.ps stripring-modulus-new-full-range-kinds.r stripring-modulus-new-full-range.Asked stripring-modulus-new-full-range.Learnt
 stripring-modulus-new-full-range-decided κs a q z z′ ws ws′ p p′ = (p ∙ sym p′, refl)
@@ -437,3 +453,27 @@ stripring-reading-end-send-decided κs a q z z′ ws ws′ p p′ = (p ∙ sym p
 
 pub stripring-reading-end-take-decided : Decides 0 stripring-reading-end-take-kinds.ps stripring-reading-end-take-kinds.r stripring-reading-end-take.Asked stripring-reading-end-take.Learnt
 stripring-reading-end-take-decided κs a q z z′ ws ws′ p p′ = (p ∙ sym p′, refl)
+
+pub stripring-failure-normalize-decided : Decides 0 stripring-failure-normalize-kinds.ps stripring-failure-normalize-kinds.r stripring-failure-normalize.Asked stripring-failure-normalize.Learnt
+stripring-failure-normalize-decided κs a q z z′ ws ws′ p p′ = (p ∙ sym p′, refl)
+
+pub stripring-failure-advance-failure-towards-error-decided : Decides 0 stripring-failure-advance-failure-towards-error-kinds.ps stripring-failure-advance-failure-towards-error-kinds.r stripring-failure-advance-failure-towards-error.Asked stripring-failure-advance-failure-towards-error.Learnt
+stripring-failure-advance-failure-towards-error-decided κs a q z z′ ws ws′ p p′ = (p ∙ sym p′, refl)
+
+pub stripring-state-failure-decided : Decides 0 stripring-state-failure-kinds.ps stripring-state-failure-kinds.r stripring-state-failure.Asked stripring-state-failure.Learnt
+stripring-state-failure-decided κs a q z z′ ws ws′ p p′ = (p ∙ sym p′, refl)
+
+pub stripring-state-with-failure-decided : Decides 0 stripring-state-with-failure-kinds.ps stripring-state-with-failure-kinds.r stripring-state-with-failure.Asked stripring-state-with-failure.Learnt
+stripring-state-with-failure-decided κs a q z z′ ws ws′ p p′ = (p ∙ sym p′, refl)
+
+pub stripring-state-with-potential-failure-decided : Decides 0 stripring-state-with-potential-failure-kinds.ps stripring-state-with-potential-failure-kinds.r stripring-state-with-potential-failure.Asked stripring-state-with-potential-failure.Learnt
+stripring-state-with-potential-failure-decided κs a q z z′ ws ws′ p p′ = (p ∙ sym p′, refl)
+
+pub stripring-state-normalize-decided : Decides 0 stripring-state-normalize-kinds.ps stripring-state-normalize-kinds.r stripring-state-normalize.Asked stripring-state-normalize.Learnt
+stripring-state-normalize-decided κs a q z z′ ws ws′ p p′ = (p ∙ sym p′, refl)
+
+pub stripring-state-advance-state-towards-termination-decided : Decides 0 stripring-state-advance-state-towards-termination-kinds.ps stripring-state-advance-state-towards-termination-kinds.r stripring-state-advance-state-towards-termination.Asked stripring-state-advance-state-towards-termination.Learnt
+stripring-state-advance-state-towards-termination-decided κs a q z z′ ws ws′ p p′ = (p ∙ sym p′, refl)
+
+pub stripring-receiver-new-decided : Decides 0 stripring-receiver-new-kinds.ps stripring-receiver-new-kinds.r stripring-receiver-new.Asked stripring-receiver-new.Learnt
+stripring-receiver-new-decided κs a q z z′ ws ws′ p p′ = (p ∙ sym p′, refl)

@@ -8,6 +8,8 @@ use Rattle.copies.specs.declared.Refusal as copies
 use Rattle.copies.specs.Copies as of-copies
 use Rattle.ends.specs.declared.refusal.Refusal as ends
 use Rattle.ends.specs.Ends as of-ends
+use Rattle.receiver.specs.declared.refusal.Refusal as receiver
+use Rattle.receiver.specs.Refusal as of-receiver
 use Rattle.stripring.specs.declared.flat.Refusal.{Refusal}
 
 abbrev pub refusalOf : ℕ → ℕ → ℕ → ℕ → Refusal
@@ -28,3 +30,6 @@ flatCopyRefusal e = refusalWith (of-copies.numberOf e) (of-copies.valuesOf e)
 
 abbrev pub flatEndRefusal : ends.Refusal → Refusal
 flatEndRefusal e = refusalWith (of-ends.numberOf e) (of-ends.valuesOf e)
+
+abbrev pub flatReceiverRefusal : receiver.Refusal → Refusal
+flatReceiverRefusal e = refusalWith (of-receiver.numberOf e) (of-receiver.valuesOf e)

@@ -9,3 +9,7 @@ pub mod Scheduler
 pub mod Copy
 pub mod WritingEnd
 pub mod ReadingEnd
+pub mod Failure
+pub mod State
+pub mod Outcome
+pub mod Receiver

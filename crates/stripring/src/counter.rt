@@ -54,7 +54,7 @@ pub(crate) fn flat_amount(a: AmountAnswer) -> U64Answer
     }
 }
 
-fn bool_number(b: bool) -> u64
+pub(crate) fn bool_number(b: bool) -> u64
     ensures { λ r. ⌜ r ≡ boolNumber b ⌝ }
 {
     if b { 1 } else { 0 }

@@ -1,6 +1,6 @@
 // The flat structs that the libraries' values go out in and a host's come in, with the flat forms of their refusals.
 ghost use mathlib.Core.Path.{_≡_};
-ghost use Rattle.stripring.specs.Flat.{refusalOf, noRefusal, flatRefusal, flatCopyRefusal, flatEndRefusal};
+ghost use Rattle.stripring.specs.Flat.{refusalOf, noRefusal, flatRefusal, flatCopyRefusal, flatEndRefusal, flatReceiverRefusal};
 use crate::operation::type_number;
 
 // The number of a refusal and its values, those that it lacks 0. Number 0, with values 0, is no refusal.
@@ -86,6 +86,41 @@ pub struct WrittenCounter {
 #[repr(C)]
 pub struct ReadCounter {
     pub counter: u64,
+}
+
+// Kind 0 is an errno, any other a violation (1 in answers): 1 for `InvalidChunkAnnouncement`, 2 for `ControlOverflow`, 3 for
+// `UnknownHeader` and 4 for `InvalidChunkLength`; of a host's any other number is 4.
+#[repr(C)]
+pub struct Failure {
+    pub kind: u64,
+    pub value: u64,
+}
+
+// Kind 0 is normal, 1 draining and any other terminated (2 in answers). The failure of a normal one is zeros in answers and not
+// looked at in a host's.
+#[repr(C)]
+pub struct State {
+    pub kind: u64,
+    pub failure: Failure,
+}
+
+// A shutdown was issued unless the last is 0; it is 1 in answers.
+#[repr(C)]
+pub struct Receiver {
+    pub scheduler: Scheduler,
+    pub state: State,
+    pub pending_ack_count: u64,
+    pub notification_socket_shutdown_issued: u64,
+}
+
+// Kind 0 is a read, 1 done and any other failed (2 in answers). What a kind does not use is 0 in answers and not looked at in a
+// host's.
+#[repr(C)]
+pub struct Outcome {
+    pub kind: u64,
+    pub n: u64,
+    pub fds: u64,
+    pub failure: Failure,
 }
 
 // An answer: where it is refused, every field but the refusal is 0. A bool is 0 or 1; a fill state 0 for empty, 1 for partial
@@ -193,6 +228,41 @@ pub struct ReadCounterAnswer {
     pub counter: ReadCounter,
 }
 
+#[repr(C)]
+pub struct FailureAnswer {
+    pub refusal: Refusal,
+    pub failure: Failure,
+}
+
+// A failure where `some` is 1; none where it is 0.
+#[repr(C)]
+pub struct PotentialFailureAnswer {
+    pub refusal: Refusal,
+    pub some: u64,
+    pub failure: Failure,
+}
+
+#[repr(C)]
+pub struct StateAnswer {
+    pub refusal: Refusal,
+    pub state: State,
+}
+
+#[repr(C)]
+pub struct ReceiverAnswer {
+    pub refusal: Refusal,
+    pub receiver: Receiver,
+}
+
+// The receiver after a call, what the call came to, and how many of the socket's answers it used.
+#[repr(C)]
+pub struct EndedAnswer {
+    pub refusal: Refusal,
+    pub receiver: Receiver,
+    pub outcome: Outcome,
+    pub used: u64,
+}
+
 fn refusal_of(number: u64, a: u64, b: u64, c: u64) -> Refusal
     ensures { λ r. ⌜ r ≡ refusalOf number a b c ⌝ }
 {
@@ -249,5 +319,16 @@ pub(crate) fn flat_end_refusal(e: ends::Refusal) -> Refusal
     match e {
         ends::Refusal::Copy(e) => flat_copy_refusal(e),
         ends::Refusal::RanBack => refusal_of(10, 0, 0, 0),
+    }
+}
+
+pub(crate) fn flat_receiver_refusal(e: receiver::Refusal) -> Refusal
+    ensures { λ r. ⌜ r ≡ flatReceiverRefusal e ⌝ }
+{
+    match e {
+        receiver::Refusal::Copy(e) => flat_copy_refusal(e),
+        receiver::Refusal::AnswerMissing => refusal_of(11, 0, 0, 0),
+        receiver::Refusal::Misfit { place } => refusal_of(12, place, 0, 0),
+        receiver::Refusal::PendingFull => refusal_of(13, 0, 0, 0),
     }
 }

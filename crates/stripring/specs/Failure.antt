@@ -1,0 +1,50 @@
+-- What a host's failure stands for, and the flat forms of the answers that are one.
+use Prim.Native.Nat.{ℕ}
+use mathlib.Core.Bool.{cond}
+use lib.Dec.{eqb}
+use Rattle.receiver.specs.State.{violationNumber}
+use Rattle.receiver.specs.declared.state.Failure as receiver-failure
+use Rattle.receiver.specs.declared.state.Failure.the-variants.{Io, Protocol}
+use Rattle.receiver.specs.declared.state.FailureAnswer as receiver-answer
+use Rattle.receiver.specs.declared.state.FailureAnswer.the-variants as answer
+use Rattle.receiver.specs.declared.state.PotentialFailure.{PotentialFailure}
+use Rattle.receiver.specs.declared.state.PotentialFailure.the-variants.{Some, None}
+use Rattle.receiver.specs.declared.state.PotentialFailureAnswer as receiver-potential
+use Rattle.receiver.specs.declared.state.PotentialFailureAnswer.the-variants as potential
+use Rattle.receiver.specs.declared.state.Violation.{Violation}
+use Rattle.receiver.specs.declared.state.Violation.the-variants.{InvalidChunkAnnouncement, ControlOverflow, UnknownHeader, InvalidChunkLength}
+use Rattle.stripring.specs.declared.flat.Failure.{Failure}
+use Rattle.stripring.specs.declared.flat.FailureAnswer.{FailureAnswer}
+use Rattle.stripring.specs.declared.flat.PotentialFailureAnswer.{PotentialFailureAnswer}
+use Rattle.stripring.specs.Flat.{noRefusal, flatReceiverRefusal}
+
+-- any number but 1, 2 and 3 is the fourth
+unfoldable pub violationAt : ℕ → Violation
+violationAt n =
+    cond (eqb n 1) InvalidChunkAnnouncement
+    (cond (eqb n 2) ControlOverflow
+    (cond (eqb n 3) UnknownHeader InvalidChunkLength))
+
+-- kind 0 is an errno, any other a violation
+unfoldable pub failureAt : Failure → receiver-failure.Failure
+failureAt f = cond (eqb (f .kind) 0) (Io (f .value)) (Protocol (violationAt (f .value)))
+
+-- where the number is 0 the failure is not looked at
+unfoldable pub potentialFailureAt : ℕ → Failure → PotentialFailure
+potentialFailureAt n f = cond (eqb n 0) None (Some (failureAt f))
+
+abbrev pub noFailure : Failure
+noFailure = record { kind = 0; value = 0 }
+
+abbrev pub flatFailure : receiver-failure.Failure → Failure
+flatFailure (Io e) = record { kind = 0; value = e }
+flatFailure (Protocol v) = record { kind = 1; value = violationNumber v }
+
+abbrev pub flatFailureAnswer : receiver-answer.FailureAnswer → FailureAnswer
+flatFailureAnswer (answer.Of f) = record { refusal = noRefusal; failure = flatFailure f }
+flatFailureAnswer (answer.Refused e) = record { refusal = flatReceiverRefusal e; failure = noFailure }
+
+abbrev pub flatPotentialFailure : receiver-potential.PotentialFailureAnswer → PotentialFailureAnswer
+flatPotentialFailure (potential.Of (Some f)) = record { refusal = noRefusal; some = 1; failure = flatFailure f }
+flatPotentialFailure (potential.Of None) = record { refusal = noRefusal; some = 0; failure = noFailure }
+flatPotentialFailure (potential.Refused e) = record { refusal = flatReceiverRefusal e; some = 0; failure = noFailure }

@@ -1,0 +1,129 @@
+// Why a stream fails. Every call tests the failures that it is given.
+ghost use mathlib.Core.Path.{_≡_};
+ghost use Rattle.receiver.specs.State.{violationNumber, normalizeFailureOf, towardsErrorOf};
+ghost use Rattle.stripring.specs.Failure.{violationAt, failureAt, potentialFailureAt, noFailure, flatFailure, flatFailureAnswer, flatPotentialFailure};
+use crate::flat::Failure;
+use crate::flat::FailureAnswer;
+use crate::flat::PotentialFailureAnswer;
+use crate::flat::flat_receiver_refusal;
+use crate::flat::no_refusal;
+use receiver::PotentialFailure;
+use receiver::Violation;
+
+fn violation(number: u64) -> Violation
+    ensures { λ r. ⌜ r ≡ violationAt number ⌝ }
+{
+    if number == 1 {
+        return Violation::InvalidChunkAnnouncement;
+    }
+    if number == 2 {
+        return Violation::ControlOverflow;
+    }
+    if number == 3 {
+        return Violation::UnknownHeader;
+    }
+    Violation::InvalidChunkLength
+}
+
+pub(crate) fn failure(f: Failure) -> receiver::Failure
+    ensures { λ r. ⌜ r ≡ failureAt f ⌝ }
+{
+    if f.kind == 0 {
+        return receiver::Failure::Io(f.value);
+    }
+    receiver::Failure::Protocol(violation(f.value))
+}
+
+pub(crate) fn potential_failure(some: u64, f: Failure) -> PotentialFailure
+    ensures { λ r. ⌜ r ≡ potentialFailureAt some f ⌝ }
+{
+    if some == 0 {
+        return PotentialFailure::None;
+    }
+    PotentialFailure::Some(failure(f))
+}
+
+fn violation_number(v: Violation) -> u64
+    ensures { λ r. ⌜ r ≡ violationNumber v ⌝ }
+{
+    match v {
+        Violation::InvalidChunkAnnouncement => 1,
+        Violation::ControlOverflow => 2,
+        Violation::UnknownHeader => 3,
+        Violation::InvalidChunkLength => 4,
+    }
+}
+
+pub(crate) fn no_failure() -> Failure
+    ensures { λ r. ⌜ r ≡ noFailure ⌝ }
+{
+    Failure { kind: 0, value: 0 }
+}
+
+pub(crate) fn flat_failure(f: receiver::Failure) -> Failure
+    ensures { λ r. ⌜ r ≡ flatFailure f ⌝ }
+{
+    match f {
+        receiver::Failure::Io(value) => Failure { kind: 0, value },
+        receiver::Failure::Protocol(v) => Failure {
+            kind: 1,
+            value: violation_number(v),
+        },
+    }
+}
+
+fn flat_failure_answer(a: receiver::FailureAnswer) -> FailureAnswer
+    ensures { λ r. ⌜ r ≡ flatFailureAnswer a ⌝ }
+{
+    match a {
+        receiver::FailureAnswer::Of(f) => FailureAnswer {
+            refusal: no_refusal(),
+            failure: flat_failure(f),
+        },
+        receiver::FailureAnswer::Refused(e) => FailureAnswer {
+            refusal: flat_receiver_refusal(e),
+            failure: no_failure(),
+        },
+    }
+}
+
+pub(crate) fn flat_potential_failure(a: receiver::PotentialFailureAnswer) -> PotentialFailureAnswer
+    ensures { λ r. ⌜ r ≡ flatPotentialFailure a ⌝ }
+{
+    match a {
+        receiver::PotentialFailureAnswer::Of(p) => match p {
+            PotentialFailure::Some(f) => PotentialFailureAnswer {
+                refusal: no_refusal(),
+                some: 1,
+                failure: flat_failure(f),
+            },
+            PotentialFailure::None => PotentialFailureAnswer {
+                refusal: no_refusal(),
+                some: 0,
+                failure: no_failure(),
+            },
+        },
+        receiver::PotentialFailureAnswer::Refused(e) => PotentialFailureAnswer {
+            refusal: flat_receiver_refusal(e),
+            some: 0,
+            failure: no_failure(),
+        },
+    }
+}
+
+#[no_mangle]
+pub extern "C" fn stripring_failure_normalize(f: Failure) -> FailureAnswer
+    ensures { λ r. ⌜ r ≡ flatFailureAnswer (normalizeFailureOf (failureAt f)) ⌝ }
+{
+    flat_failure_answer(failure(f).normalize())
+}
+
+#[no_mangle]
+pub extern "C" fn stripring_failure_advance_failure_towards_error(
+    c: Failure,
+    e: Failure,
+) -> FailureAnswer
+    ensures { λ r. ⌜ r ≡ flatFailureAnswer (towardsErrorOf (failureAt c) (failureAt e)) ⌝ }
+{
+    flat_failure_answer(failure(c).advance_failure_towards_error(failure(e)))
+}

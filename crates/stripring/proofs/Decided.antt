@@ -189,6 +189,14 @@ use Rattle.stripring.proofs.state.stripring_state_advance_state_towards
 use Rattle.stripring.proofs.state.stripring_state_advance_state_towards_termination.Reads as stripring-state-advance-state-towards-termination
 use Rattle.stripring.proofs.receiver_record.stripring_receiver_new.Kinds as stripring-receiver-new-kinds
 use Rattle.stripring.proofs.receiver_record.stripring_receiver_new.Reads as stripring-receiver-new
+use Rattle.stripring.proofs.call.stripring_call_begin_read.Kinds as stripring-call-begin-read-kinds
+use Rattle.stripring.proofs.call.stripring_call_begin_read.Reads as stripring-call-begin-read
+use Rattle.stripring.proofs.call.stripring_call_begin_service.Kinds as stripring-call-begin-service-kinds
+use Rattle.stripring.proofs.call.stripring_call_begin_service.Reads as stripring-call-begin-service
+use Rattle.stripring.proofs.call.stripring_call_begin_shutdown.Kinds as stripring-call-begin-shutdown-kinds
+use Rattle.stripring.proofs.call.stripring_call_begin_shutdown.Reads as stripring-call-begin-shutdown
+use Rattle.stripring.proofs.call.stripring_call_answered.Kinds as stripring-call-answered-kinds
+use Rattle.stripring.proofs.call.stripring_call_answered.Reads as stripring-call-answered
 
 pub stripring-modulus-new-full-range-decided : Decides 0 stripring-modulus-new-full-range-kinds.ps stripring-modulus-new-full-range-kinds.r stripring-modulus-new-full-range.Asked stripring-modulus-new-full-range.Learnt
 stripring-modulus-new-full-range-decided κs a q z z′ ws ws′ p p′ = (p ∙ sym p′, refl)
@@ -477,3 +485,15 @@ stripring-state-advance-state-towards-termination-decided κs a q z z′ ws ws�
 
 pub stripring-receiver-new-decided : Decides 0 stripring-receiver-new-kinds.ps stripring-receiver-new-kinds.r stripring-receiver-new.Asked stripring-receiver-new.Learnt
 stripring-receiver-new-decided κs a q z z′ ws ws′ p p′ = (p ∙ sym p′, refl)
+
+pub stripring-call-begin-read-decided : Decides 0 stripring-call-begin-read-kinds.ps stripring-call-begin-read-kinds.r stripring-call-begin-read.Asked stripring-call-begin-read.Learnt
+stripring-call-begin-read-decided κs a q z z′ ws ws′ p p′ = (p ∙ sym p′, refl)
+
+pub stripring-call-begin-service-decided : Decides 0 stripring-call-begin-service-kinds.ps stripring-call-begin-service-kinds.r stripring-call-begin-service.Asked stripring-call-begin-service.Learnt
+stripring-call-begin-service-decided κs a q z z′ ws ws′ p p′ = (p ∙ sym p′, refl)
+
+pub stripring-call-begin-shutdown-decided : Decides 0 stripring-call-begin-shutdown-kinds.ps stripring-call-begin-shutdown-kinds.r stripring-call-begin-shutdown.Asked stripring-call-begin-shutdown.Learnt
+stripring-call-begin-shutdown-decided κs a q z z′ ws ws′ p p′ = (p ∙ sym p′, refl)
+
+pub stripring-call-answered-decided : Decides 1 stripring-call-answered-kinds.ps stripring-call-answered-kinds.r stripring-call-answered.Asked stripring-call-answered.Learnt
+stripring-call-answered-decided κs a q z z′ ws ws′ p p′ = (p ∙ sym p′, refl)

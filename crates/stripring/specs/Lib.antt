@@ -13,3 +13,5 @@ pub mod Failure
 pub mod State
 pub mod Outcome
 pub mod Receiver
+pub mod Refusal
+pub mod Call

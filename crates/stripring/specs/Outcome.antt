@@ -1,8 +1,17 @@
--- The flat form of what an accepted call of the receiver comes to. What a kind does not use is 0.
+-- What a host's outcome stands for, and the flat form of one. What a kind does not use is 0.
+use mathlib.Core.Bool.{cond}
+use lib.Dec.{eqb}
 use Rattle.receiver.specs.declared.receiver.Outcome as receiver
 use Rattle.receiver.specs.declared.receiver.Outcome.the-variants.{Read, Done, Failed}
 use Rattle.stripring.specs.declared.flat.Outcome.{Outcome}
-use Rattle.stripring.specs.Failure.{noFailure, flatFailure}
+use Rattle.stripring.specs.Failure.{failureAt, noFailure, flatFailure}
+
+-- kind 0 is a read, 1 done, any other failed
+unfoldable pub outcomeAt : Outcome → receiver.Outcome
+outcomeAt o =
+    cond (eqb (o .kind) 0) (Read (o .n) (o .fds))
+    (cond (eqb (o .kind) 1) Done
+    (Failed (failureAt (o .failure))))
 
 abbrev pub noOutcome : Outcome
 noOutcome = record { kind = 0; n = 0; fds = 0; failure = noFailure }

@@ -123,6 +123,35 @@ pub struct Outcome {
     pub failure: Failure,
 }
 
+// The outcome that a call still ends with: whatever comes of what it waits for where `told` is 0, and else (1 in answers) unless
+// that fails.
+#[repr(C)]
+pub struct Ending {
+    pub told: u64,
+    pub outcome: Outcome,
+}
+
+// Kind 0 waits for a receive of a byte with at most `max_new_fds` descriptors, 1 for a send of `batch` bytes and 2 for a shutdown;
+// 3 is finished and any other refused (4 in answers). What a kind does not use is 0 in answers and not looked at in a host's.
+#[repr(C)]
+pub struct Phase {
+    pub kind: u64,
+    pub max_new_fds: u64,
+    pub dst_len: u64,
+    pub batch: u64,
+    pub ending: Ending,
+    pub outcome: Outcome,
+    pub refusal: Refusal,
+}
+
+// A call in progress. A read that is finished copies its bytes by `source`.
+#[repr(C)]
+pub struct Call {
+    pub receiver: Receiver,
+    pub source: Scheduler,
+    pub phase: Phase,
+}
+
 // An answer: where it is refused, every field but the refusal is 0. A bool is 0 or 1; a fill state 0 for empty, 1 for partial
 // and 2 for full; a layout 0 for `DataFreeData` and 1 for `FreeDataFree`.
 #[repr(C)]

@@ -1,5 +1,6 @@
 // The face of the libraries for C and Rust: numbers and flat structs in and out, so that any bits of a host's are legal input.
 mod block;
+mod call;
 mod copy;
 mod counter;
 mod diff;
@@ -11,6 +12,7 @@ mod operation;
 mod outcome;
 mod reading_end;
 mod receiver_record;
+mod refusal;
 mod scheduler;
 mod state;
 mod writing_end;

@@ -1,9 +1,23 @@
 // What an accepted call of the receiver comes to.
 ghost use mathlib.Core.Path.{_≡_};
-ghost use Rattle.stripring.specs.Outcome.{noOutcome, flatOutcome};
+ghost use Rattle.stripring.specs.Outcome.{outcomeAt, noOutcome, flatOutcome};
+use crate::failure::failure;
 use crate::failure::flat_failure;
 use crate::failure::no_failure;
 use crate::flat::Outcome;
+
+pub(crate) fn outcome(o: Outcome) -> receiver::Outcome
+    ensures { λ r. ⌜ r ≡ outcomeAt o ⌝ }
+{
+    let f = o.failure;
+    if o.kind == 0 {
+        return receiver::Outcome::Read { n: o.n, fds: o.fds };
+    }
+    if o.kind == 1 {
+        return receiver::Outcome::Done;
+    }
+    receiver::Outcome::Failed(failure(f))
+}
 
 pub(crate) fn no_outcome() -> Outcome
     ensures { λ r. ⌜ r ≡ noOutcome ⌝ }

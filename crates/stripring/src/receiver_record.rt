@@ -27,16 +27,16 @@ fn issued(number: u64) -> bool
     number != 0
 }
 
-pub(crate) fn receiver_state(r: Receiver) -> ReceiverState
-    ensures { λ x. ⌜ x ≡ receiverAt r ⌝ }
+pub(crate) fn receiver_state(q: Receiver) -> ReceiverState
+    ensures { λ r. ⌜ r ≡ receiverAt q ⌝ }
 {
-    let s = r.scheduler;
-    let operational = r.state;
+    let s = q.scheduler;
+    let operational = q.state;
     ReceiverState {
         scheduler: scheduler(s),
         state: state(operational),
-        pending_ack_count: r.pending_ack_count,
-        notification_socket_shutdown_issued: issued(r.notification_socket_shutdown_issued),
+        pending_ack_count: q.pending_ack_count,
+        notification_socket_shutdown_issued: issued(q.notification_socket_shutdown_issued),
     }
 }
 

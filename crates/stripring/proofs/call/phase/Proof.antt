@@ -1,0 +1,52 @@
+-- The five cases of the definition.
+use borrow.Author.Tests.{eq-eqb, ne-eqb}
+use Rattle.stripring.specs.Call.{phaseAt}
+use borrow.Author.Needs.{needs}
+use Rattle.stripring.proofs.call.phase.Statement.{statement}
+use Rattle.stripring.proofs.call.phase.Tie as tie
+
+returns : tie.Need-returns
+unfolding phaseAt
+returns c = rw (eq-eqb _ _ (c .if1 .taken))
+
+ending-requires : tie.Need-ending-requires
+ending-requires c κs = search needs
+
+returns-2 : tie.Need-returns-2
+unfolding phaseAt
+returns-2 c = rw (ne-eqb _ _ (c .before .before .before .if1 .left), eq-eqb _ _ (c .before .if2 .taken), c .ending .ensures)
+
+ending-requires-2 : tie.Need-ending-requires-2
+ending-requires-2 c κs = search needs
+
+returns-3 : tie.Need-returns-3
+unfolding phaseAt
+returns-3 c = rw (ne-eqb _ _ (c .before .before .before .before .before .if1 .left), ne-eqb _ _ (c .before .before .before .if2 .left), eq-eqb _ _ (c .before .if3 .taken), c .ending2 .ensures)
+
+outcome-requires : tie.Need-outcome-requires
+outcome-requires c κs = search needs
+
+returns-4 : tie.Need-returns-4
+unfolding phaseAt
+returns-4 c = rw (ne-eqb _ _ (c .before .before .before .before .before .before .before .if1 .left), ne-eqb _ _ (c .before .before .before .before .before .if2 .left), ne-eqb _ _ (c .before .before .before .if3 .left), eq-eqb _ _ (c .before .if4 .taken), c .outcome .ensures)
+
+receiver-refusal-requires : tie.Need-receiver-refusal-requires
+receiver-refusal-requires c κs = search needs
+
+returns-5 : tie.Need-returns-5
+unfolding phaseAt
+returns-5 c = rw (ne-eqb _ _ (c .before .before .before .before .before .before .before .if1 .left), ne-eqb _ _ (c .before .before .before .before .before .if2 .left), ne-eqb _ _ (c .before .before .before .if3 .left), ne-eqb _ _ (c .before .if4 .left), c .receiver-refusal .ensures)
+
+pub phase-spec : {M : Type 1} → statement M
+phase-spec =
+    tie.close
+    (tie.spec
+    returns
+    ending-requires
+    returns-2
+    ending-requires-2
+    returns-3
+    outcome-requires
+    returns-4
+    receiver-refusal-requires
+    returns-5)

@@ -13,5 +13,7 @@ pub mod Moved
 pub mod Driven
 pub mod Spent
 pub mod PendingSum
+pub mod Thin
+pub mod Begun
 pub mod Rows
 pub mod Decided

@@ -5,3 +5,4 @@ pub mod Receiver
 pub mod Call
 pub mod Drive
 pub mod Pending
+pub mod Run

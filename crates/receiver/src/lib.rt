@@ -6,6 +6,7 @@ mod call;
 mod drive;
 mod receiver;
 mod refusal;
+mod run;
 mod sound;
 mod state;
 

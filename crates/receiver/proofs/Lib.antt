@@ -15,5 +15,6 @@ pub mod Spent
 pub mod PendingSum
 pub mod Thin
 pub mod Begun
+pub mod Reading
 pub mod Rows
 pub mod Decided

@@ -12,19 +12,19 @@ use base.Fml.{Lft, Share, Fml, ftrue, flft}
 use prog.Wp.{Heap, WpFn, Tables}
 use ghost.Atoms.{Atoms}
 use contract.Monad.{fact}
-use types.Kit.{Given, ‵, _⊛_, ⋆, _$_, _∵_, !, qed, move, split, join, fjoin, suffices, frame, done}
+use types.Kit.{Given, ‵, _⊛_, ⋆, _$_, _∵_, !, qed, move, fjoin, suffices, frame, done}
 use sound.WpLaws.{WpFn-mono}
-use denote.RattleType.{RattleType}
+use denote.RattleType.{owns}
 use denote.Laws.{Is}
 use denote.Plain.{uint-vals, uint-tells}
 use denote.Builtin.{u8, u64}
 use denote.Ref.{RefT}
-use denote.Slice.{sliceVal, MutSlice, ShrSlice, Room, finally, slice-vals, mut-slice-tells, shr-slice-tells}
+use denote.Slice.{MutSlice, ShrSlice, Room, finally, slice-vals, mut-slice-tells, shr-slice-tells}
 use denote.Signature.{plain, shrSliceOf}
 use denote.Steps.{nothing}
 use denote.Struct.Laws as LL
 use denote.Triple.Clauses.{Clauses, closing}
-use denote.Triple.Entry.{Args, Vals, onEntry}
+use denote.Triple.Entry.{onEntry}
 use denote.Triple.Spec.{Meets}
 use denote.Triple.Walked.{says, Stays, stay-dropped, gave-slice, walkOf, goes-dropped, goes-gave-slice, ends-at, walked, walk-meets}
 use denote.Exit.{yes}
@@ -32,23 +32,11 @@ use Rattle.receiver.specs.declared.answer.Answer.{Answer}
 use Rattle.receiver.specs.declared.receiver.Ended.{Ended}
 use Rattle.receiver.specs.declared.receiver.ReceiverState.{ReceiverState}
 use Rattle.receiver.specs.Receiver.{Delivery, delivery}
-use Rattle.receiver.proofs.answer.Answer as T
+use Rattle.receiver.proofs.Thin.{R, Re, qval, lent}
 use Rattle.receiver.proofs.receiver.Ended as E
 use Rattle.receiver.proofs.receiver.ReceiverState as Q
 use Rattle.receiver.proofs.receiver.ReceiverState.Laws as Q′
 use Rattle.receiver.proofs.receiver.ReceiverState.read_with_fds as f
-
-abbrev pub R : RattleType
-R = T.the-row
-
-abbrev pub Re : RattleType
-Re = Q.the-row
-
-abbrev pub qval : ReceiverState → Val
-qval = LL.val Q.the-type Q′.the-laws
-
-abbrev pub lent : {X : Type 0} → RefT (List X) → Val
-lent r = sliceVal (r .ptr) (length (r .now))
 
 -- what is read: the receiver, the ring, the destination, the most descriptors, and the run
 abbrev pub Reads : Type 0
@@ -57,31 +45,36 @@ Reads = ReceiverState → List ℕ → List ℕ → ℕ → List Answer → Deli
 abbrev pub reading : {M : Type 1} (𝓤 : URA M) → Reads → Clauses 𝓤 f.ended
 reading 𝓤 reads κs a = record { ghost = Unit {0}; requires = λ _. emp 𝓤; ensures = λ _ r z. fact 𝓤 (delivery r (z .1 .1 .0 .now) ≡ reads (a .0) (a .1 .0 .now) (a .1 .1 .0 .now) (a .1 .1 .1 .0) (a .1 .1 .1 .1 .0 .now)) }
 
-abbrev pub stayed : Stays (f.ended .signature .params) (f.ended .kept)
+abbrev stayed : Stays (f.ended .signature .params) (f.ended .kept)
 stayed = (stay-dropped (plain (λ _. Re)) yes, (stay-dropped (shrSliceOf (0 ∷ []) tt (plain (λ _. u8))) yes, (gave-slice (1 ∷ []) tt (plain (λ _. u8)), (stay-dropped (plain (λ _. u64)) yes, (stay-dropped (shrSliceOf (2 ∷ []) tt (plain (λ _. R))) yes, tt)))))
+
+-- the parameters, and their machine values
+module _ (q : ReceiverState) (ring dst : RefT (List ℕ)) (m : ℕ) (answers : RefT (List Answer)) where
+  abbrev pub given : ReceiverState × (RefT (List ℕ) × (RefT (List ℕ) × (ℕ × (RefT (List Answer) × Unit {0}))))
+  given = (q, (ring, (dst, (m, (answers, tt)))))
+
+  abbrev pub spelt : List Val × (List Val × (List Val × (List Val × (List Val × Unit {0}))))
+  spelt = (qval q ∷ [], (lent ring ∷ [], (lent dst ∷ [], (vint w64 m ∷ [], (lent answers ∷ [], tt)))))
+
+  abbrev pub Owned : Lft → Lft → Lft → Fml
+  Owned κ₀ κ₁ κ₂ = owns (Re ∷ ShrSlice (named 0) κ₀ u8 ∷ MutSlice (named 1) κ₁ u8 ∷ u64 ∷ ShrSlice (named 2) κ₂ R ∷ []) given spelt
 
 module _ (reads : Reads) {M : Type 1} (𝓤 : URA M) (H : Heap 𝓤) (A : Atoms 𝓤) where
   module _ (κ₀ κ₁ κ₂ : Lft) (s₀ s₁ s₂ : Share) (q : ReceiverState) (ring dst : RefT (List ℕ)) (m : ℕ) (answers : RefT (List Answer)) where
-    abbrev pub x : Args f.signature (κ₀, (κ₁, (κ₂, tt)))
-    x = (q, (ring, (dst, (m, (answers, tt)))))
-
-    abbrev pub at : Vals f.signature (κ₀, (κ₁, (κ₂, tt)))
-    at = (qval q ∷ [], (lent ring ∷ [], (lent dst ∷ [], (vint w64 m ∷ [], (lent answers ∷ [], tt)))))
-
     abbrev pub Post : Val → SProp 𝓤
-    Post = walkOf 𝓤 H A f.ended stayed (reading 𝓤 reads) .post (((κ₀, (κ₁, (κ₂, tt))), (s₀, (s₁, (s₂, tt))), tt, x, at), tt)
+    Post = walkOf 𝓤 H A f.ended stayed (reading 𝓤 reads) .post (((κ₀, (κ₁, (κ₂, tt))), (s₀, (s₁, (s₂, tt))), tt, given q ring dst m answers, spelt q ring dst m answers), tt)
 
     pub exits : Given 𝓤 H A → (r : Ended) (v : Val) (ws : List ℕ) → delivery r ws ≡ reads q (ring .now) (dst .now) m (answers .now) → length ws ≡ length (dst .now)
         → ent 𝓤 (⋆ 𝓤 H A ((‵ (flft κ₀ s₀) ⊛ ‵ (flft κ₁ s₁) ⊛ ‵ (flft κ₂ s₂) ⊛ ‵ ftrue) ∷ ‵ (finally u8 (dst .name) ws) ∷ ‵ (E.the-row .own r (v ∷ [])) ∷ [])) (Post v)
     exits W r v ws e l =
         qed W ((‵ (flft κ₀ s₀) ⊛ ‵ (flft κ₁ s₁) ⊛ ‵ (flft κ₂ s₂) ⊛ ‵ ftrue) ∷ ‵ (finally u8 (dst .name) ws) ∷ ‵ (E.the-row .own r (v ∷ [])) ∷ []) ∵
-        suffices ! _ (ends-at 𝓤 H A f.ended stayed (reading 𝓤 reads) W (((κ₀, (κ₁, (κ₂, tt))), (s₀, (s₁, (s₂, tt))), tt, x, at), tt) v r (tt, (tt, (ws, (tt, (tt, tt))))) (tt, (tt, (l, (tt, (tt, tt)))))) $ says ! e $ frame ! $
+        suffices ! _ (ends-at 𝓤 H A f.ended stayed (reading 𝓤 reads) W (((κ₀, (κ₁, (κ₂, tt))), (s₀, (s₁, (s₂, tt))), tt, given q ring dst m answers, spelt q ring dst m answers), tt) v r (tt, (tt, (ws, (tt, (tt, tt))))) (tt, (tt, (l, (tt, (tt, tt)))))) $ says ! e $ frame ! $
         nothing ! $ nothing ! $ fjoin ! $ nothing ! $ fjoin ! $ move ! (1 ∷ 0 ∷ []) $ fjoin ! $ nothing ! $ fjoin ! $ nothing ! $ fjoin ! $ frame ! $ done !
 
     -- what a walk of the code is to show, of the parameters that a caller passes
     abbrev pub Walk : (𝓣 : Tables 𝓤 H) → Fn → Type 1
     Walk 𝓣 code = Is Re q (qval q ∷ []) → Room u8 (length (ring .now)) → Room u8 (length (dst .now)) → m < 2 ^ 64 → Room R (length (answers .now))
-        → ent 𝓤 (onEntry 𝓤 H A f.signature (κ₀, (κ₁, (κ₂, tt))) (s₀, (s₁, (s₂, tt))) x at) (WpFn 𝓤 H (𝓣 .C) (𝓣 .Λ) code (qval q ∷ lent ring ∷ lent dst ∷ vint w64 m ∷ lent answers ∷ []) Post)
+        → ent 𝓤 (onEntry 𝓤 H A f.signature (κ₀, (κ₁, (κ₂, tt))) (s₀, (s₁, (s₂, tt))) (given q ring dst m answers) (spelt q ring dst m answers)) (WpFn 𝓤 H (𝓣 .C) (𝓣 .Λ) code (qval q ∷ lent ring ∷ lent dst ∷ vint w64 m ∷ lent answers ∷ []) Post)
 
   pub meets : (W : Given 𝓤 H A) (𝓣 : Tables 𝓤 H) (code : Fn)
       → ((κ₀ κ₁ κ₂ : Lft) (s₀ s₁ s₂ : Share) (q : ReceiverState) (ring dst : RefT (List ℕ)) (m : ℕ) (answers : RefT (List Answer)) → Walk κ₀ κ₁ κ₂ s₀ s₁ s₂ q ring dst m answers 𝓣 code)

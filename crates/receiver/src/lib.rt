@@ -1,5 +1,5 @@
 // The receiver of a stream of chunks: the port of rosenpass's receiver.rs, without input and output. A call in progress is a value: a
-// host begins one, does what it waits for, and hands in the answer. Calls over a whole run of answers are not carried over yet.
+// host begins one, does what it waits for, and hands in the answer; or it hands in a whole run of answers at once.
 mod announcement;
 mod answer;
 mod call;

@@ -15,16 +15,15 @@ use prog.Wp.{Heap, Tables}
 use ghost.Atoms.{Atoms, sem}
 use contract.Monad.{Fun}
 use contract.Running.{givenOf, tables, tablesOf}
-use types.Kit.{Given, ‵, raw, _⊛_, _$_, _∵_, !, qed, by, move, keep, drop, use1, split, join, fsplit, fjoin, feqL, frame, done}
+use types.Kit.{Given, ‵, raw, _⊛_, _$_, _∵_, !, qed, by, move, keep, drop, use1, split, join, fsplit, fjoin, feqL}
 use types.Part.{agg, whole, sub, look-in}
 use types.Run.{look, init, forget, stop, hop, fld, from, load, addr, of-opd, and-then, no-more, assigns, land, returns, enter, alloc1, alloc0, params1, pass1, pass0, free1, free0}
 use sound.WpLaws.{fmOf}
-use denote.RattleType.{owns}
 use denote.Laws.{Is}
 use denote.Plain.{uint-makes}
 use denote.Builtin.{u8, u64, usize}
 use denote.Ref.{RefT}
-use denote.Slice.{MutSlice, ShrSlice, shr-slice-copy}
+use denote.Slice.{ShrSlice, shr-slice-copy}
 use denote.Steps.{owned, nothing}
 use denote.Struct.Laws as LL
 use denote.Enum.Laws as EL
@@ -39,8 +38,8 @@ use Rattle.receiver.specs.Call.{beginReadOf}
 use Rattle.receiver.specs.Drive.{drivenOf, deliveryOf}
 use Rattle.receiver.specs.Receiver.{delivery, readImplDelivery}
 use Rattle.receiver.proofs.Driven.{read-impl-delivered}
-use Rattle.receiver.proofs.Thin.{asks, calls}
-use Rattle.receiver.proofs.Reading.{R, Re, qval, lent, exits, Walk, meets}
+use Rattle.receiver.proofs.Thin.{Re, qval, lent, asks, calls}
+use Rattle.receiver.proofs.Reading.{Owned, exits, Walk, meets}
 use Rattle.receiver.proofs.call.Call as C
 use Rattle.receiver.proofs.call.Call.Laws as C′
 use Rattle.receiver.proofs.drive.Driven as D
@@ -95,7 +94,7 @@ module _ {M : Type 1} (𝓤 : URA M) (H : Heap 𝓤) (A : Atoms 𝓤) (W : Given
   walk : Walk readImplDelivery 𝓤 H A κ₀ κ₁ κ₂ s₀ s₁ s₂ q ring dst m answers 𝓣 code.function
   walk iq room₀ room₁ gm room₂ =
       qed W ((‵ (flft κ₀ s₀) ⊛ ‵ (flft κ₁ s₁) ⊛ ‵ (flft κ₂ s₂) ⊛ ‵ ftrue)
-      ∷ ‵ (owns (Re ∷ ShrSlice (named 0) κ₀ u8 ∷ MutSlice (named 1) κ₁ u8 ∷ u64 ∷ ShrSlice (named 2) κ₂ R ∷ []) (q, (ring, (dst, (m, (answers, tt))))) (qval q ∷ [], (lent ring ∷ [], (lent dst ∷ [], (vint w64 m ∷ [], (lent answers ∷ [], tt)))))) ∷ []) ∵
+      ∷ ‵ (Owned q ring dst m answers κ₀ κ₁ κ₂) ∷ []) ∵
       enter ! (𝓣 .C) (𝓣 .Λ) code.function (qval q ∷ lent ring ∷ lent dst ∷ vint w64 m ∷ lent answers ∷ []) _ $
       alloc1 ! (λ l₀. alloc1 ! (λ l₁. alloc1 ! (λ l₂. alloc1 ! (λ l₃. alloc1 ! (λ l₄. alloc1 ! (λ l₅. alloc1 ! (λ l₆. alloc1 ! (λ l₇. alloc1 ! (λ l₈. alloc1 ! (λ l₉. alloc1 ! (λ l₁₀. alloc1 ! (λ l₁₁. alloc1 ! (λ l₁₂. alloc0 ! $ params1 ! $
       pass1 ! (init ! 22 refl (LL.lawful Q.the-type Q′.the-laws 𝓤 H A W .typed q _ iq .0)) $ pass1 ! (init ! 20 refl (tt, (tt, (record { fits = room₀ .0 }, tt)))) $ pass1 ! (init ! 18 refl (tt, (tt, (record { fits = room₁ .0 }, tt)))) $

@@ -41,6 +41,10 @@ use Rattle.receiver.proofs.call.Call.begin_shutdown.Kinds as Call-begin
 use Rattle.receiver.proofs.call.Call.begin_shutdown.Reads as Call-begin-shutdown
 use Rattle.receiver.proofs.call.Call.answered.Kinds as Call-answered-kinds
 use Rattle.receiver.proofs.call.Call.answered.Reads as Call-answered
+use Rattle.receiver.proofs.call.Call.is_over.Kinds as Call-is-over-kinds
+use Rattle.receiver.proofs.call.Call.is_over.Reads as Call-is-over
+use Rattle.receiver.proofs.call.Call.retries.Kinds as Call-retries-kinds
+use Rattle.receiver.proofs.call.Call.retries.Reads as Call-retries
 
 pub is-interruption-decided : Decides 0 is-interruption-kinds.ps is-interruption-kinds.r is-interruption.Asked is-interruption.Learnt
 is-interruption-decided κs a q z z′ ws ws′ p p′ = (p ∙ sym p′, refl)
@@ -86,6 +90,12 @@ Call-begin-service-decided κs a q z z′ ws ws′ p p′ = (p ∙ sym p′, ref
 
 pub Call-begin-shutdown-decided : Decides 0 Call-begin-shutdown-kinds.ps Call-begin-shutdown-kinds.r Call-begin-shutdown.Asked Call-begin-shutdown.Learnt
 Call-begin-shutdown-decided κs a q z z′ ws ws′ p p′ = (p ∙ sym p′, refl)
+
+pub Call-is-over-decided : Decides 0 Call-is-over-kinds.ps Call-is-over-kinds.r Call-is-over.Asked Call-is-over.Learnt
+Call-is-over-decided κs a q z z′ ws ws′ p p′ = (p ∙ sym p′, refl)
+
+pub Call-retries-decided : Decides 0 Call-retries-kinds.ps Call-retries-kinds.r Call-retries.Asked Call-retries.Learnt
+Call-retries-decided κs a q z z′ ws ws′ p p′ = (p ∙ sym p′, refl)
 
 pub Call-answered-decided : Decides 1 Call-answered-kinds.ps Call-answered-kinds.r Call-answered.Asked Call-answered.Learnt
 Call-answered-decided κs a q z z′ ws ws′ p p′ = (p ∙ sym p′, refl)

@@ -1,7 +1,7 @@
 -- The receiver's rules, in direct style over the list of the socket's answers. A step works on the record so far, the number of
 -- answers that were used, and those that are left; it goes on from there, or refuses the whole call.
 use Prim.Native.Nat.{ℕ, suc, _+_, _-_, _*_, _/_, _%_, _^_, min}
-use mathlib.Core.Bool.{Bool, cond, true}
+use mathlib.Core.Bool.{Bool, cond, true, false}
 use mathlib.Core.List.{List, [], _∷_, _++_}
 use lib.Dec.{eqb, ltb}
 use lib.ListN.{length, drop}

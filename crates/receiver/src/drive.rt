@@ -1,7 +1,8 @@
 // A call over a run of answers: the driver fetches answer after answer, and stops when the call is over or the run is used up.
 ghost use mathlib.Core.Path.{_≡_};
-ghost use Rattle.receiver.specs.Drive.{fetchedOf, overOf, retriesOf, drivenOf, endedOf, deliveredFor, deliveryOf, endOfStreamFor, endOfStreamIn};
+ghost use Rattle.receiver.specs.Drive.{overOf, retriesOf, drivenOf, endedOf, deliveredFor, deliveryOf, endOfStreamFor, endOfStreamIn};
 ghost use Rattle.receiver.specs.Receiver.{delivery};
+ghost use Rattle.receiver.specs.Run.{FetchLeaves};
 use crate::answer::Answer;
 use crate::call::Call;
 use crate::call::Phase;
@@ -23,7 +24,7 @@ pub struct Driven {
 }
 
 pub fn fetch(answers: &[Answer], i: u64) -> Fetched
-    ensures { λ r. ⌜ r ≡ fetchedOf (now (answers .entry)) i ⌝ }
+    ensures { λ r. ⌜ FetchLeaves (now (answers .entry)) i r ⌝ }
 {
     if i < answers.len() as u64 {
         Fetched::Got(answers[i as usize])

@@ -90,7 +90,7 @@ module _ {M : Type 1} (𝓤 : URA M) (H : Heap 𝓤) (A : Atoms 𝓤) (W : Given
       move ! (4 ∷ []) $ fsplit ! $ drop ! $ fsplit ! $ drop ! $ fsplit ! $ fsplit ! $ move ! (1 ∷ []) $ feqL ! (λ l.
       -- [the last bytes; true; the result; true; true; the tokens]
       move ! (5 ∷ []) $ use1 W (‵ (flft κ₀ s₀) ⊛ ‵ (flft κ₁ s₁) ⊛ ‵ (flft κ₂ s₂) ⊛ ‵ ftrue) (id⊢ 𝓤 _) $ keep ! (0 ∷ 1 ∷ 3 ∷ []) $
-      by ! (exits readDelivery 𝓤 H A κ₀ κ₁ κ₂ s₀ s₁ s₂ q ring dst m answers W p w (ws .1 .1 .0) (ap (λ (z : Ended). delivery z (ws .1 .1 .0)) k ∙ read-delivered q (ring .now) (dst .now) m (answers .now) r (ws .1 .1 .0) e) l)))))))))))))
+      by ! (exits readDelivery 𝓤 H A κ₀ κ₁ κ₂ s₀ s₁ s₂ q ring dst m answers W p w (ws .1 .1 .0) (ap (λ (z : Ended). delivery z (ws .1 .1 .0)) k ∙ read-delivered (ring .now) (dst .now) q m (answers .now) r (ws .1 .1 .0) e) l)))))))))))))
 
 pub read-with-fds-spec : {M : Type 1} → stated.statement M
 unfolding code.routine tablesOf

@@ -136,7 +136,7 @@ module _ {M : Type 1} (𝓤 : URA M) (H : Heap 𝓤) (A : Atoms 𝓤) (W : Given
       -- [the last bytes; true; the result; the tokens of ring and dst; the run's token and true]
       move ! (3 ∷ []) $ use1 W (‵ (flft κ₀ s₀) ⊛ ‵ (flft κ₁ s₁) ⊛ ‵ ftrue) (id⊢ 𝓤 _) $ split ! $ move ! (1 ∷ []) $ split ! $ move ! (0 ∷ 6 ∷ []) $ join ! $ move ! (2 ∷ 0 ∷ []) $ join ! $
       keep ! (0 ∷ 2 ∷ 4 ∷ []) $
-      by ! (exits readImplDelivery 𝓤 H A κ₀ κ₁ κ₂ s₀ s₁ s₂ q ring dst m answers W r w (us .1 .1 .0) (h ∙ ap (λ (z : Driven). deliveryOf z (ring .now) (dst .now)) (k ∙ ap (λ (z : Call). drivenOf z (ring .now) (answers .now)) e) ∙ read-impl-delivered q (ring .now) (dst .now) m (answers .now)) l))))))))))))))))))
+      by ! (exits readImplDelivery 𝓤 H A κ₀ κ₁ κ₂ s₀ s₁ s₂ q ring dst m answers W r w (us .1 .1 .0) (h ∙ ap (λ (z : Driven). deliveryOf z (ring .now) (dst .now)) (k ∙ ap (λ (z : Call). drivenOf z (ring .now) (answers .now)) e) ∙ read-impl-delivered (ring .now) (dst .now) q m (answers .now)) l))))))))))))))))))
 
 pub read-with-fds-impl-spec : {M : Type 1} → stated.statement M
 unfolding code.routine tablesOf

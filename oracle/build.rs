@@ -48,13 +48,19 @@ fn check_unchanged(source: &Path, sums: &Path) {
     );
 }
 
-/// `pub mod NAME;` for the file of one line of SHA256SUMS.
+/// `pub mod NAME;` for the file of one line of SHA256SUMS. receiver.rs is included by a module of
+/// its name instead, among stand-ins for the crates that it uses.
 fn module(source: &Path, line: &str) -> String {
     let (_, file) = line.split_once("  ").expect("SUM  FILE");
     let path = source.join(file);
     println!("cargo::rerun-if-changed={}", path.display());
-    let name = path.file_stem().unwrap().to_str().unwrap();
-    format!("#[path = {path:?}]\npub mod {name};\n")
+    match path.file_stem().unwrap().to_str().unwrap() {
+        "receiver" => {
+            println!("cargo::rustc-env=ROSENPASS_RECEIVER={}", path.display());
+            String::new()
+        }
+        name => format!("#[path = {path:?}]\npub mod {name};\n"),
+    }
 }
 
 fn link_stripring(oracle: &Path) {

@@ -1,6 +1,7 @@
 //! The copies, and those of the ends: the static library against the scheduler of sched.rs and a
 //! loop over single bytes.
 
+use crate::memory::Memory;
 use crate::numbers::Random;
 use crate::sched_inputs::{any_scheduler, length, sound_scheduler};
 use crate::stripring::copy_calls;
@@ -15,8 +16,6 @@ const SEED: u64 = 1;
 /// The longest ring of a random input that has its memory. A power of two, so that a buffer length
 /// near a greater one is met by memory that fits only its low bits.
 const LONG: u64 = 4096;
-/// Bytes before, between and behind what is lent.
-const APART: usize = 32;
 
 pub fn run() -> bool {
     small() & random()
@@ -120,28 +119,4 @@ fn copied(writes: bool, [l, written, read]: [u64; 3], memory: &mut Memory) -> An
     let s = scheduler.try_register_operation(&operations)?;
     let numbers = [s.buf_len(), s.items_written(), s.items_read(), n as u64];
     Ok(numbers.as_slice().into())
-}
-
-/// A ring, and a source or a destination, with other bytes around them.
-#[derive(Clone, Debug, PartialEq)]
-struct Memory {
-    bytes: Vec<u8>,
-    ring: usize,
-    other: usize,
-}
-
-impl Memory {
-    fn new(random: &mut Random, ring: u64, other: u64) -> Self {
-        let (ring, other) = (ring as usize, other as usize);
-        let mut bytes = vec![0; ring + other + 3 * APART];
-        for chunk in bytes.chunks_mut(8) {
-            chunk.copy_from_slice(&random.next().to_le_bytes()[..chunk.len()]);
-        }
-        Self { bytes, ring, other }
-    }
-
-    fn parts(&mut self) -> (&mut [u8], &mut [u8]) {
-        let (front, back) = self.bytes[APART..].split_at_mut(self.ring + APART);
-        (&mut front[..self.ring], &mut back[..self.other])
-    }
 }

@@ -1,8 +1,11 @@
 //! The judge: runs the unchanged Rust beside what it is compared with (see README.md).
 
+mod memory;
 mod modular_u8;
 mod numbers;
+mod receiver_inputs;
 mod record_modular;
+mod record_receiver;
 mod record_sched;
 mod sched_inputs;
 mod sched_paper;
@@ -14,6 +17,8 @@ mod copies;
 mod ends;
 #[cfg(feature = "judge")]
 mod modular;
+#[cfg(feature = "judge")]
+mod receiver;
 #[cfg(feature = "judge")]
 mod sched;
 #[cfg(feature = "judge")]
@@ -31,9 +36,12 @@ fn main() -> ExitCode {
         "sched" => sched::run(),
         #[cfg(feature = "judge")]
         "copies" => copies::run() & ends::run(),
+        #[cfg(feature = "judge")]
+        "receiver" => receiver::run(),
         "sched-paper" => sched_paper::run(),
         "record-modular" => record_modular::run(),
         "record-sched" => record_sched::run(),
+        "record-receiver" => record_receiver::run(),
         _ => {
             eprintln!(
                 "usage: oracle modular-u8|modular|sched|copies|sched-paper|record-modular|record-sched"

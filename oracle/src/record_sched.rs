@@ -13,7 +13,7 @@ const H: u64 = 1 << 63;
 const LENGTHS: [u64; 5] = [0, 1, 3, 4, M];
 
 /// The sound ones empty, partly filled and full, in one piece and come round; then each refusal.
-const SCHEDULERS: [[u64; 3]; 22] = [
+pub const SCHEDULERS: [[u64; 3]; 22] = [
     [1, 0, 0],
     [1, 1, 0],
     [1, 0, 1],

@@ -11,10 +11,11 @@ use crate::rosenpass::sched::{
 };
 use crate::standins::u64uint::U64USize;
 
-pub struct Call {
+/// A call that takes numbers alone.
+pub struct Call<P: 'static = Part> {
     /// The static library's name for it, without `stripring_`.
     pub name: &'static str,
-    pub takes: &'static [Part],
+    pub takes: &'static [P],
     pub answer: fn(&Input) -> Answer,
 }
 
@@ -50,8 +51,11 @@ impl Part {
     }
 }
 
+/// The most numbers that a call takes or answers.
+pub const MOST: usize = 14;
+
 /// The numbers of what a call takes, one part after the other; the rest is 0.
-pub type Input = [u64; 12];
+pub type Input = [u64; MOST];
 
 /// What is answered, or a refusal.
 pub type Answer = Result<Numbers, Refusal>;
@@ -59,10 +63,10 @@ pub type Answer = Result<Numbers, Refusal>;
 /// The refusal's number in document 01 and its extra values.
 pub struct Refusal(pub Numbers);
 
-/// Up to 12 numbers; those that are not used are 0.
+/// Those that are not used are 0.
 #[derive(Clone, Copy, Default)]
 pub struct Numbers {
-    pub all: [u64; 12],
+    pub all: [u64; MOST],
     used: usize,
 }
 
@@ -96,8 +100,10 @@ pub fn line(answer: &Answer) -> Vec<u64> {
 
 /// An answer as the static library lays it out: the refusal's number and three values, then what
 /// is answered; 0 where there is nothing.
-pub fn row(answer: &Answer) -> [u64; 16] {
-    let mut row = [0; 16];
+pub type Row = [u64; 4 + MOST];
+
+pub fn row(answer: &Answer) -> Row {
+    let mut row = Row::default();
     match answer {
         Ok(numbers) => row[4..].copy_from_slice(&numbers.all),
         Err(Refusal(numbers)) => row[..4].copy_from_slice(&numbers.all[..4]),
@@ -105,11 +111,11 @@ pub fn row(answer: &Answer) -> [u64; 16] {
     row
 }
 
-pub const fn call(
+pub const fn call<P>(
     name: &'static str,
-    takes: &'static [Part],
+    takes: &'static [P],
     answer: fn(&Input) -> Answer,
-) -> Call {
+) -> Call<P> {
     Call {
         name,
         takes,
@@ -204,7 +210,7 @@ pub const CALLS: [Call; 59] = [
     call("diff_new_value", DIFF, |i| flat(diff(i).new_value())),
 ];
 
-pub fn s(i: &Input) -> Result<RingBufferScheduler, Refusal> {
+pub fn s(i: &[u64]) -> Result<RingBufferScheduler, Refusal> {
     Ok(RingBufferScheduler::try_from_counters(i[0], i[1], i[2])?)
 }
 

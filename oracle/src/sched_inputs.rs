@@ -7,7 +7,7 @@ use oracle::sched_answers::{Numbers, Part};
 const MAX_BUF_LEN: u64 = 1 << 63;
 
 /// Every input of a call that takes these parts, of which each has these values.
-pub fn inputs(takes: &[Part], values: impl Fn(Part) -> Vec<Vec<u64>>) -> Vec<Numbers> {
+pub fn inputs<P: Copy>(takes: &[P], values: impl Fn(P) -> Vec<Vec<u64>>) -> Vec<Numbers> {
     let mut inputs = vec![Numbers::default()];
     for &part in takes {
         let values = values(part);
@@ -43,7 +43,7 @@ pub fn values(part: Part, l: u64, counters: &[u64], lengths: &[u64]) -> Vec<Vec<
 }
 
 /// Every way to take a number of each column.
-fn tuples(columns: &[&[u64]]) -> Vec<Vec<u64>> {
+pub fn tuples(columns: &[&[u64]]) -> Vec<Vec<u64>> {
     columns.iter().fold(vec![vec![]], |tuples, column| {
         tuples
             .iter()
@@ -129,7 +129,7 @@ pub fn sound_scheduler(random: &mut Random, l: u64) -> [u64; 3] {
     [l, written as u64, read as u64]
 }
 
-fn data([l, written, read]: [u64; 3]) -> u64 {
+pub fn data([l, written, read]: [u64; 3]) -> u64 {
     let end = i128::from(l.max(1)) * 2;
     (i128::from(written) - i128::from(read)).rem_euclid(end) as u64
 }

@@ -1,5 +1,5 @@
-//! Stand-ins for the helpers that sched.rs uses and whose files are not at hand. Each says which
-//! words of sched.rs force its meaning. 64-bit machines only.
+//! Stand-ins for the helpers that sched.rs and receiver.rs use and whose files are not at hand. Each
+//! says which of their words force its meaning. 64-bit machines only.
 
 pub mod convert {
     /// The lengths that `into_type::<u128>()` gives are summed and the sum is tested against the
@@ -25,6 +25,20 @@ pub mod functional {
         }
     }
     impl<T> MutatingExt for T {}
+
+    /// receiver.rs applies a function of failures to the result of a receive and goes on with what
+    /// comes out: so it is the function's answer.
+    pub trait ApplyExt: Sized {
+        fn apply<R>(self, function: impl FnOnce(Self) -> R) -> R {
+            function(self)
+        }
+    }
+    impl<T> ApplyExt for T {}
+
+    /// receiver.rs uses the `?` of a closure and then the closure's result: so it calls it at once.
+    pub fn run<R>(closure: impl FnOnce() -> R) -> R {
+        closure()
+    }
 }
 
 pub mod mem {
@@ -44,6 +58,12 @@ pub mod mem {
         }
     }
     impl<T: Copy> MutateRefExt for T {}
+
+    /// receiver.rs goes on with its own answer behind it, whatever the result was: so it drops it.
+    pub trait DiscardResultExt: Sized {
+        fn discard_result(self) {}
+    }
+    impl<T, E> DiscardResultExt for Result<T, E> {}
 }
 
 pub mod result {

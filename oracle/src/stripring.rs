@@ -1,5 +1,8 @@
 //! The static library's calls. Each is total, so each is safe to call.
 
+use oracle::receiver_answers::Lent;
+use oracle::sched_answers::{Input, Row};
+
 /// `some` is 1 with the value, or 0 with the value 0.
 #[repr(C)]
 #[derive(Debug, PartialEq)]
@@ -87,40 +90,40 @@ impl<const N: usize> Taken for Flat<N> {
 }
 
 /// What a call answers, laid out as `sched_answers::row` does.
-trait Row {
-    fn row(self) -> [u64; 16];
+trait IntoRow {
+    fn row(self) -> Row;
 }
 
-impl<const N: usize> Row for Answer<N> {
-    fn row(self) -> [u64; 16] {
-        let mut row = [0; 16];
+impl<const N: usize> IntoRow for Answer<N> {
+    fn row(self) -> Row {
+        let mut row = Row::default();
         row[..N].copy_from_slice(&self.0);
         row
     }
 }
 
-impl<const N: usize> Row for Flat<N> {
-    fn row(self) -> [u64; 16] {
-        let mut row = [0; 16];
+impl<const N: usize> IntoRow for Flat<N> {
+    fn row(self) -> Row {
+        let mut row = Row::default();
         row[4..4 + N].copy_from_slice(&self.0);
         row
     }
 }
 
-impl Row for u64 {
-    fn row(self) -> [u64; 16] {
+impl IntoRow for u64 {
+    fn row(self) -> Row {
         Flat([self]).row()
     }
 }
 
-impl Row for bool {
-    fn row(self) -> [u64; 16] {
+impl IntoRow for bool {
+    fn row(self) -> Row {
         u64::from(self).row()
     }
 }
 
 /// The library's answer to an input of numbers alone.
-pub type NumberCall = fn(&[u64; 12]) -> [u64; 16];
+pub type NumberCall = fn(&Input) -> Row;
 
 /// Declares calls, and makes a table of their names without `stripring_` and of their answers.
 macro_rules! number_calls {
@@ -220,7 +223,7 @@ number_calls! { end_calls:
 }
 
 /// The library's answer to a scheduler or an end, a ring, and a source or a destination.
-pub type CopyCall = fn([u64; 3], &mut [u8], &mut [u8]) -> [u64; 16];
+pub type CopyCall = fn([u64; 3], &mut [u8], &mut [u8]) -> Row;
 
 /// Declares calls that copy, and makes a table of their names without `stripring_`, of whether they write into the ring, and
 /// of their answers.
@@ -247,4 +250,67 @@ copy_calls! { copy_calls:
     copies_read false;
     writing_end_write true;
     reading_end_read false;
+}
+
+type Failure = Flat<2>;
+type State = Flat<3>;
+type Receiver = Flat<8>;
+
+number_calls! { state_calls:
+    receiver_new(Scheduler) -> Answer<12>;
+    state_failure(State) -> Answer<7>;
+    state_with_failure(State, Failure) -> Answer<7>;
+    state_with_potential_failure(State, u64, Failure) -> Answer<7>;
+    state_normalize(State) -> Answer<7>;
+    state_advance_state_towards_termination(State, State) -> Answer<7>;
+    failure_normalize(Failure) -> Answer<6>;
+    failure_advance_failure_towards_error(Failure, Failure) -> Answer<6>;
+}
+
+/// The library's answer to what is lent to a call over a run of the socket's answers.
+pub type RunCall = fn(Lent) -> Row;
+
+/// Declares such calls, of which the first take a ring and a destination, and makes a table of their
+/// names without `stripring_` and of their answers.
+macro_rules! run_calls {
+    (reading: $($read:ident)*; others: $($other:ident)*;) => {
+        pub fn run_calls() -> Vec<(&'static str, RunCall)> {
+            unsafe extern "C" {
+                $(
+                    #[link_name = concat!("stripring_", stringify!($read))]
+                    fn $read(
+                        _: Receiver, _: *const u8, _: usize, _: *mut u8, _: usize,
+                        max_new_fds: u64, _: *const [u64; 3], _: usize,
+                    ) -> Answer<18>;
+                )*
+                $(
+                    #[link_name = concat!("stripring_", stringify!($other))]
+                    fn $other(_: Receiver, _: *const [u64; 3], _: usize) -> Answer<18>;
+                )*
+            }
+            vec![
+                $((stringify!($read), |lent| {
+                    let Lent { receiver, ring, destination, max_new_fds, answers } = lent;
+                    let (r, d, a) = (ring.as_ptr(), destination.as_mut_ptr(), answers.as_ptr());
+                    // SAFETY: three slices that do not overlap, each with its length.
+                    unsafe {
+                        $read(
+                            Flat(receiver), r, ring.len(), d, destination.len(),
+                            max_new_fds, a, answers.len(),
+                        )
+                    }.row()
+                }),)*
+                $((stringify!($other), |lent| {
+                    let Lent { receiver, answers, .. } = lent;
+                    // SAFETY: a slice with its length.
+                    unsafe { $other(Flat(receiver), answers.as_ptr(), answers.len()) }.row()
+                }),)*
+            ]
+        }
+    };
+}
+
+run_calls! {
+    reading: receiver_read_with_fds receiver_read_with_fds_impl;
+    others: receiver_service_chunk_acknowledgements receiver_shutdown;
 }

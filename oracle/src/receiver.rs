@@ -1,0 +1,258 @@
+//! The static library against receiver.rs over scripted answers of the socket.
+
+use crate::memory::Memory;
+use crate::numbers::{Random, around};
+use crate::receiver_inputs::{Input, put_header, values};
+use crate::sched_inputs::{inputs, tuples};
+use crate::stripring::{RunCall, run_calls, state_calls};
+use crate::tally::Tally;
+use oracle::receiver_answers::{Kind, Part, RUN_CALLS, STATE_CALLS};
+use oracle::sched_answers::{Row, row};
+use oracle::scripted_socket::Answer;
+use std::collections::BTreeMap;
+
+const RANDOM_CALLS: usize = 1_000_000;
+const SEED: u64 = 1;
+
+/// A ring that takes a chunk of one byte. What was read ends so that a header goes round its end.
+const SMALL: u64 = 9;
+const SMALL_READ: u64 = 5;
+/// The data at hand and the header: no header needed; an accepted chunk, an empty one, one too long,
+/// and an unknown format.
+const SMALL_HEADERS: [(u64, u64); 5] = [(1, 1), (0, 1), (0, 0), (0, 2), (0, 1 << 62)];
+const SMALL_STATES: [[u64; 3]; 11] = [
+    [0, 0, 0],
+    [1, 0, 0],
+    [1, 0, 5],
+    [1, 0, 11],
+    [1, 0, 32],
+    [1, 2, 0],
+    [2, 0, 0],
+    [2, 0, 5],
+    [2, 0, 11],
+    [2, 0, 32],
+    [2, 2, 0],
+];
+const SMALL_ANSWERS: [Answer; 12] = [
+    [0, 0, 1],
+    [0, 0, 2],
+    [0, 7, 0],
+    [1, 0, 0],
+    [2, 0, 0],
+    [2, 4, 0],
+    [2, 11, 0],
+    [2, 32, 0],
+    [3, 0, 0],
+    [3, 1, 0],
+    [3, 128, 0],
+    [4, 0, 0],
+];
+
+/// A call of the Rust, and the static library's.
+type Pair = (&'static oracle::receiver_answers::RunCall, RunCall);
+
+pub fn run() -> bool {
+    let ours = run_calls();
+    assert_eq!(ours.len(), RUN_CALLS.len());
+    let find = |name| ours.iter().find(|our| our.0 == name).expect(name).1;
+    let pairs: Vec<Pair> = RUN_CALLS
+        .iter()
+        .map(|call| (call, find(call.name)))
+        .collect();
+    states() & small(&pairs) & random(&pairs)
+}
+
+/// Every pair of states and failures, and the schedulers around small rings and the greatest.
+fn states() -> bool {
+    let ours = state_calls();
+    assert_eq!(ours.len(), STATE_CALLS.len());
+    let mut tally = tally();
+    for call in &STATE_CALLS {
+        let our = ours
+            .iter()
+            .find(|our| our.0 == call.name)
+            .expect(call.name)
+            .1;
+        for input in inputs(call.takes, state_values) {
+            let rust = row(&(call.answer)(&input.all));
+            tally.compare([rust, our(&input.all)], || {
+                format!("{} {:?}", call.name, input.used())
+            });
+        }
+    }
+    let calls = STATE_CALLS.len();
+    tally.report(&format!(
+        "receiver: stripring against receiver.rs, {calls} calls, all states and failures of a set"
+    ))
+}
+
+fn state_values(part: Part) -> Vec<Vec<u64>> {
+    match part {
+        Part::Scheduler => {
+            let lengths = around(&[0, 10, 1 << 63], 2);
+            let counters = around(&[0, 10, 20, 1 << 63], 2);
+            tuples(&[&lengths, &counters, &counters])
+        }
+        _ => values(part),
+    }
+}
+
+/// Everything that is built of the small parts. Only a read looks at memory, so to the other calls it
+/// is lent once.
+fn small(pairs: &[Pair]) -> bool {
+    let mut tried = Tried::new();
+    let runs = small_runs();
+    for (data, header) in SMALL_HEADERS {
+        for destination in 0..=2 {
+            let once = (data, destination) == (1, 0);
+            for receiver in small_receivers(data) {
+                for answers in &runs {
+                    let input = Input {
+                        receiver,
+                        memory: small_memory(header, destination),
+                        max_new_fds: 1,
+                        answers: answers.clone(),
+                    };
+                    for pair in pairs
+                        .iter()
+                        .filter(|pair| once || pair.0.kind == Kind::Read)
+                    {
+                        tried.compare(pair, &input);
+                    }
+                }
+            }
+        }
+    }
+    tried.report(&format!("all small calls of a ring of {SMALL}"))
+}
+
+fn small_memory(header: u64, destination: u64) -> Memory {
+    let mut memory = Memory::new(&mut Random(SEED), SMALL, destination);
+    put_header(&mut memory, SMALL_READ, header);
+    memory
+}
+
+/// Of each state, without and with a batch or more to send, and shut or not.
+fn small_receivers(data: u64) -> Vec<[u64; 8]> {
+    let mut receivers = vec![];
+    for [kind, failure, value] in SMALL_STATES {
+        for pending in [0, 1, 129] {
+            for issued in [0, 1] {
+                let written = SMALL_READ + data;
+                receivers.push([
+                    SMALL, written, SMALL_READ, kind, failure, value, pending, issued,
+                ]);
+            }
+        }
+    }
+    receivers
+}
+
+/// No answer, one, and two.
+fn small_runs() -> Vec<Vec<Answer>> {
+    let one = || SMALL_ANSWERS.iter().map(|&answer| vec![answer]);
+    let two = one().flat_map(|first| one().map(move |second| [&first[..], &second].concat()));
+    [vec![]].into_iter().chain(one()).chain(two).collect()
+}
+
+/// Half of them reads as they are called from outside, and half of the rest the reads within.
+fn random(pairs: &[Pair]) -> bool {
+    let mut tried = Tried::new();
+    let mut random = Random(SEED);
+    for _ in 0..RANDOM_CALLS {
+        let pair = match random.next() % 8 {
+            0..4 => &pairs[0],
+            4..6 => &pairs[1],
+            6 => &pairs[2],
+            _ => &pairs[3],
+        };
+        let l = length(&mut random);
+        tried.compare(pair, &Input::random(&mut random, pair.0.kind, l));
+    }
+    tried.report(&format!("{RANDOM_CALLS} random scripted calls"))
+}
+
+/// Of a ring: mostly such that small chunks fill it, now and then any number.
+fn length(random: &mut Random) -> u64 {
+    match random.next() % 32 {
+        0 => 0,
+        1 => random.mixed(0),
+        2..5 => random.next() % 8 + 1,
+        5..8 => random.next() % 300 + 1,
+        _ => random.next() % 32 + 9,
+    }
+}
+
+fn tally() -> Tally {
+    Tally::new(["the Rust", "stripring"])
+}
+
+/// What was compared, and how often the Rust came to what.
+struct Tried {
+    tally: Tally,
+    kinds: BTreeMap<String, u64>,
+}
+
+impl Tried {
+    fn new() -> Self {
+        Self {
+            tally: tally(),
+            kinds: BTreeMap::new(),
+        }
+    }
+
+    /// The answer, the record, and every byte lent and around it.
+    fn compare(&mut self, (call, ours): &Pair, input: &Input) {
+        let mut theirs = input.memory.clone();
+        let rust = row(&(call.answer)(input.lent(&mut theirs)));
+        let mut our_memory = input.memory.clone();
+        let our = ours(input.lent(&mut our_memory));
+        *self.kinds.entry(kind(call.kind, &rust)).or_default() += 1;
+        self.tally.compare([(rust, theirs), (our, our_memory)], || {
+            format!("{} {input:?}", call.name)
+        });
+    }
+
+    fn report(self, calls: &str) -> bool {
+        let kinds: Vec<String> = self
+            .kinds
+            .iter()
+            .map(|(kind, n)| format!("{kind} {n}"))
+            .collect();
+        let kinds = kinds.join(", ");
+        self.tally.report(&format!(
+            "receiver: stripring against receiver.rs, {calls} ({kinds})"
+        ))
+    }
+}
+
+/// What an answer is counted as.
+fn kind(call: Kind, row: &Row) -> String {
+    let [number, place, ..] = *row;
+    let outcome = &row[12..];
+    match (number, outcome[0]) {
+        (12, _) if place == 0 => "refused 12 at 0".to_string(),
+        (1.., _) => format!("refused {number}"),
+        (0, 0) if outcome[1] == 0 => "read nothing".to_string(),
+        (0, 0) if outcome[2] == 0 => "read".to_string(),
+        (0, 0) => "read with descriptors".to_string(),
+        (0, 1) => format!("done {}", name(call)),
+        _ => failed(call, outcome[3], outcome[4]),
+    }
+}
+
+fn failed(call: Kind, violation: u64, errno: u64) -> String {
+    match (violation, errno) {
+        (0, 4 | 5 | 11 | 32) => format!("failed {} with {errno}", name(call)),
+        (0, _) => format!("failed {} with another errno", name(call)),
+        _ => format!("failed {} with violation {violation}", name(call)),
+    }
+}
+
+fn name(call: Kind) -> &'static str {
+    match call {
+        Kind::Read => "read",
+        Kind::Service => "service",
+        Kind::Shutdown => "shutdown",
+    }
+}

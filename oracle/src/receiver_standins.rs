@@ -1,0 +1,329 @@
+//! Stand-ins for what receiver.rs leans on and is not at hand: the rest of its own stream, and the
+//! crates that it uses. Where the words of receiver.rs do not force a meaning, it is that of document
+//! 01, and so nothing is shown there by a comparison (docs/DIFFERENCES.md lists these).
+
+use rustix::io::Errno;
+use std::cell::Cell;
+
+/// What a stream fails with. Its two cases are those that receiver.rs makes it from.
+#[derive(Debug, Clone, Copy, PartialEq, Eq)]
+pub enum ShmStreamError {
+    Io(Errno),
+    Protocol(ShmProtocolViolation),
+}
+
+/// `UnknownHeader` is of document 01 alone; receiver.rs names the others.
+#[derive(Debug, Clone, Copy, PartialEq, Eq)]
+pub enum ShmProtocolViolation {
+    InvalidChunkAnnouncement = 1,
+    ControlOverflow,
+    UnknownHeader,
+    InvalidChunkLength,
+}
+
+thread_local! {
+    /// Whether the length that was asked for last was of a header with an unknown format.
+    static UNKNOWN_FORMAT: Cell<bool> = const { Cell::new(false) };
+}
+
+impl ShmStreamError {
+    /// Document 01: an orderly end of the stream is errno 32.
+    pub const SHUTDOWN: Self = Self::Io(Errno::PIPE);
+
+    /// "Turns WOULDBLOCK and EAGAIN into the Normal state" tests for WOULDBLOCK alone behind it: so
+    /// it makes the one of the other, and on Linux they are one number.
+    pub fn normalize(self) -> Self {
+        self
+    }
+
+    /// "Advance EOF/terminated towards real errors (but not the other way around)": document 01.
+    pub fn advance_failure_towards_error(self, error: Self) -> Self {
+        match self == Self::SHUTDOWN {
+            true => error,
+            false => self,
+        }
+    }
+
+    /// Document 01: closed is failure 32. The socket's end is a receive of no byte.
+    pub fn cache_shutdown_as_epipe(
+        received: Result<io::fd_stream::ReadWithFdsResult, Errno>,
+    ) -> Result<io::fd_stream::ReadWithFdsResult, Errno> {
+        match received {
+            Ok(result) if result.data_read == 0 => Err(Errno::PIPE),
+            other => other,
+        }
+    }
+
+    /// "turning EPIPE into a zero-length read to signal EOF/shutdown".
+    pub fn as_external_read_with_fds_result(
+        self,
+    ) -> Result<io::fd_stream::ReadWithFdsResult, Self> {
+        match self == Self::SHUTDOWN {
+            true => Ok(io::fd_stream::ReadWithFdsResult::empty()),
+            false => Err(self),
+        }
+    }
+}
+
+/// `Err(E::IO)?` needs it.
+impl From<Errno> for ShmStreamError {
+    fn from(errno: Errno) -> Self {
+        Self::Io(errno)
+    }
+}
+
+/// `Err(ShmProtocolViolation::ControlOverflow)?` needs it. receiver.rs has no place for a format
+/// that is unknown: such a header has the length 0 here, and what comes of that is named for what it
+/// was.
+impl From<ShmProtocolViolation> for ShmStreamError {
+    fn from(violation: ShmProtocolViolation) -> Self {
+        use ShmProtocolViolation as V;
+        match violation {
+            V::InvalidChunkLength if UNKNOWN_FORMAT.get() => Self::Protocol(V::UnknownHeader),
+            _ => Self::Protocol(violation),
+        }
+    }
+}
+
+pub mod shared {
+    use super::{UNKNOWN_FORMAT, zerocopy};
+    use crate::rosenpass::sched::RingBufferScheduler;
+
+    /// Document 01: 8 bytes, most significant first.
+    #[derive(Default)]
+    pub struct ChunkHeader([u8; 8]);
+
+    impl ChunkHeader {
+        /// Document 01: 2 bits format, 14 bits tag, 48 bits length. A format other than 0 is
+        /// unknown, see `ShmStreamError`'s `From`.
+        pub fn payload_len(self) -> usize {
+            let bits = u64::from_be_bytes(self.0);
+            let unknown = bits >> 62 != 0;
+            UNKNOWN_FORMAT.set(unknown);
+            match unknown {
+                true => 0,
+                false => (bits & ((1 << 48) - 1)) as usize,
+            }
+        }
+    }
+
+    impl zerocopy::IntoBytes for ChunkHeader {
+        fn as_mut_bytes(&mut self) -> &mut [u8] {
+            &mut self.0
+        }
+    }
+    impl zerocopy::FromBytes for ChunkHeader {}
+    impl zerocopy::Immutable for ChunkHeader {}
+    impl zerocopy::KnownLayout for ChunkHeader {}
+
+    /// The shared memory, as plain bytes.
+    pub struct SharedState {
+        pub ring: Vec<u8>,
+    }
+
+    impl SharedState {
+        /// Its answer is "the number of bytes read", and the scheduler that is lent to it becomes
+        /// the stored one: so it reads what is scheduled for the whole destination, and registers it.
+        pub fn read_from_receiver_buffer(
+            &self,
+            scheduler: &mut RingBufferScheduler,
+            destination: &mut [u8],
+        ) -> usize {
+            let operations = scheduler.schedule_reads(destination.len() as u64);
+            let mut n = 0;
+            for op in &operations.container()[..] {
+                for place in op.off..op.off + op.len.u64() {
+                    destination[n] = self.ring[place as usize];
+                    n += 1;
+                }
+            }
+            *scheduler = scheduler
+                .try_register_operation(&operations)
+                .expect("what was scheduled");
+            n
+        }
+    }
+}
+
+pub mod io {
+    use super::rustix::io::Errno;
+
+    /// Document 01: errno 4 is retried on the spot until the answer is something else.
+    pub fn handle_interrupted<T>(mut ask: impl FnMut() -> Result<T, Errno>) -> Result<T, Errno> {
+        loop {
+            match ask() {
+                Err(Errno::INTR) => {}
+                answer => break answer,
+            }
+        }
+    }
+
+    /// The socket's messages come from the scripted socket, whatever the descriptor is.
+    pub mod fd_stream {
+        use super::super::rustix::{
+            io::Errno,
+            net::{RecvFlags, SendFlags},
+        };
+        use crate::scripted_socket::{self, Received};
+        use std::os::fd::OwnedFd;
+
+        /// "the number of fds" and of bytes; neither "if this is a chunk in progress".
+        #[derive(Default)]
+        pub struct ReadWithFdsResult {
+            pub data_read: usize,
+            pub fds: u64,
+        }
+
+        impl ReadWithFdsResult {
+            /// The answer to "Empty inputs".
+            pub fn empty() -> Self {
+                Self::default()
+            }
+        }
+
+        pub fn recv_fd_msg(
+            _socket: &OwnedFd,
+            destination: &mut [u8],
+            max_new_fds: usize,
+            _flags: RecvFlags,
+        ) -> Result<ReadWithFdsResult, Errno> {
+            match scripted_socket::receive(max_new_fds as u64)? {
+                Received::Byte { byte, fds } => {
+                    destination[0] = byte;
+                    let data_read = 1;
+                    Ok(ReadWithFdsResult { data_read, fds })
+                }
+                Received::Closed => Ok(ReadWithFdsResult::empty()),
+            }
+        }
+
+        pub fn send_fd_msg(
+            _socket: &OwnedFd,
+            source: &[u8],
+            _fds: &[OwnedFd],
+            _flags: SendFlags,
+        ) -> Result<usize, Errno> {
+            scripted_socket::send(source.len() as u64).map(|sent| sent as usize)
+        }
+    }
+}
+
+pub mod util_rustix {
+    use super::rustix::io::Errno;
+
+    /// Its answer is that of a function to an `io::Result`.
+    pub trait IntoStdioErr {
+        fn into_stdio_err(self) -> std::io::Error;
+    }
+
+    impl IntoStdioErr for Errno {
+        fn into_stdio_err(self) -> std::io::Error {
+            std::io::Error::from_raw_os_error(self.0 as i32)
+        }
+    }
+}
+
+/// The crate: errnos with the numbers of Linux, and the shutdown of the scripted socket.
+pub mod rustix {
+    pub mod io {
+        #[derive(Debug, Clone, Copy, PartialEq, Eq)]
+        pub struct Errno(pub u64);
+
+        impl Errno {
+            pub const INTR: Self = Self(4);
+            pub const IO: Self = Self(5);
+            pub const AGAIN: Self = Self(11);
+            pub const WOULDBLOCK: Self = Self(11);
+            pub const PIPE: Self = Self(32);
+        }
+    }
+
+    pub mod net {
+        use super::io::Errno;
+        use std::os::fd::OwnedFd;
+
+        pub struct RecvFlags;
+
+        impl RecvFlags {
+            pub const DONTWAIT: Self = Self;
+        }
+
+        pub struct SendFlags;
+
+        impl SendFlags {
+            pub const DONTWAIT: Self = Self;
+        }
+
+        pub enum Shutdown {
+            Both,
+        }
+
+        pub fn shutdown(_socket: &OwnedFd, _how: Shutdown) -> Result<(), Errno> {
+            crate::scripted_socket::shutdown()
+        }
+    }
+}
+
+/// The crate, as far as `discriminant()` needs it.
+pub mod strum {
+    pub use derives::EnumDiscriminants;
+
+    pub trait IntoDiscriminant {
+        type Discriminant;
+        fn discriminant(&self) -> Self::Discriminant;
+    }
+}
+
+pub mod derive_more {
+    pub use derives::{Constructor, From, IsVariant, TryUnwrap};
+}
+
+/// The crate, as far as the header's bytes need it.
+pub mod zerocopy {
+    pub trait IntoBytes {
+        fn as_mut_bytes(&mut self) -> &mut [u8];
+    }
+    pub trait FromBytes {}
+    pub trait Immutable {}
+    pub trait KnownLayout {}
+}
+
+/// The crate, for calls that are not carried over and that nothing calls.
+pub mod mio {
+    pub struct Interest;
+    pub struct Registry;
+    pub struct Token;
+
+    pub mod event {
+        use super::{Interest, Registry, Token};
+        use std::io::Result;
+
+        pub trait Source {
+            fn register(&mut self, _: &Registry, _: Token, _: Interest) -> Result<()>;
+            fn reregister(&mut self, _: &Registry, _: Token, _: Interest) -> Result<()>;
+            fn deregister(&mut self, _: &Registry) -> Result<()>;
+        }
+    }
+
+    pub mod unix {
+        use super::{Interest, Registry, Token, event::Source};
+        use std::io::Result;
+        use std::os::fd::RawFd;
+
+        pub struct SourceFd<'a>(pub &'a RawFd);
+
+        impl Source for SourceFd<'_> {
+            fn register(&mut self, _: &Registry, _: Token, _: Interest) -> Result<()> {
+                Ok(())
+            }
+
+            fn reregister(&mut self, _: &Registry, _: Token, _: Interest) -> Result<()> {
+                Ok(())
+            }
+
+            fn deregister(&mut self, _: &Registry) -> Result<()> {
+                Ok(())
+            }
+        }
+    }
+}

@@ -4,6 +4,7 @@ mod memory;
 mod modular_u8;
 mod numbers;
 mod receiver_inputs;
+mod receiver_paper;
 mod record_modular;
 mod record_receiver;
 mod record_sched;
@@ -39,14 +40,16 @@ fn main() -> ExitCode {
         #[cfg(feature = "judge")]
         "receiver" => receiver::run(),
         "sched-paper" => sched_paper::run(),
+        "receiver-paper" => receiver_paper::run(),
         "record-modular" => record_modular::run(),
         "record-sched" => record_sched::run(),
         "record-receiver" => record_receiver::run(),
         _ => {
             eprintln!(
-                "usage: oracle modular-u8|modular|sched|copies|sched-paper|record-modular|record-sched"
+                "usage: oracle modular-u8|modular|sched|copies|receiver|sched-paper|receiver-paper\
+                |record-modular|record-sched|record-receiver"
             );
-            eprintln!("modular, sched and copies need a build with the feature judge");
+            eprintln!("modular, sched, copies and receiver need a build with the feature judge");
             return ExitCode::from(2);
         }
     };

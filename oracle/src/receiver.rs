@@ -207,10 +207,24 @@ impl Tried {
         let rust = row(&(call.answer)(input.lent(&mut theirs)));
         let mut our_memory = input.memory.clone();
         let our = ours(input.lent(&mut our_memory));
-        *self.kinds.entry(kind(call.kind, &rust)).or_default() += 1;
+        self.count(kind(call.kind, &rust));
+        self.count_state(input.receiver[3], &rust);
         self.tally.compare([(rust, theirs), (our, our_memory)], || {
             format!("{} {input:?}", call.name)
         });
+    }
+
+    fn count(&mut self, kind: String) {
+        *self.kinds.entry(kind).or_default() += 1;
+    }
+
+    /// A state that became another one.
+    fn count_state(&mut self, before: u64, row: &Row) {
+        let (refused, after) = (row[0] != 0, row[7]);
+        if !refused && before != after {
+            let after = ["normal", "draining", "terminated"][after as usize];
+            self.count(format!("became {after}"));
+        }
     }
 
     fn report(self, calls: &str) -> bool {

@@ -3,7 +3,7 @@
 
 use crate::memory::Memory;
 use crate::numbers::Random;
-use crate::sched_inputs::{any_scheduler, data, sound_scheduler};
+use crate::sched_inputs::{data, sound_scheduler};
 use oracle::receiver_answers::{Kind, Lent, Part};
 use oracle::scripted_socket::Answer;
 
@@ -86,19 +86,28 @@ impl Input {
     }
 }
 
-/// Every value of a part of the states' calls; Normal also with numbers that are not looked at.
+/// Every value of a part of the states' calls; Normal and none also with a failure that is not looked
+/// at.
 pub fn values(part: Part) -> Vec<Vec<u64>> {
-    let failures = || FAILURES.iter().chain(&MISFITS);
-    let with = |kind: u64| failures().map(move |failure| [&[kind], &failure[..]].concat());
+    let failures = [&FAILURES[..], &MISFITS].concat();
+    let bare = [[0, 0], [0, 4096]];
     match part {
         Part::Scheduler => panic!("a scheduler is chosen apart"),
-        Part::State => [NORMAL, DRAINING, TERMINATED]
-            .into_iter()
-            .flat_map(with)
-            .collect(),
-        Part::Failure => failures().map(|failure| failure.to_vec()).collect(),
-        Part::PotentialFailure => [0, 1].into_iter().flat_map(with).collect(),
+        Part::Failure => failures.iter().map(|failure| failure.to_vec()).collect(),
+        Part::PotentialFailure => with_kinds(&[(0, &bare), (1, &failures)]),
+        Part::State => with_kinds(&[
+            (NORMAL, &bare),
+            (DRAINING, &failures),
+            (TERMINATED, &failures),
+        ]),
     }
+}
+
+fn with_kinds(kinds: &[(u64, &[[u64; 2]])]) -> Vec<Vec<u64>> {
+    kinds
+        .iter()
+        .flat_map(|&(kind, failures)| failures.iter().map(move |f| vec![kind, f[0], f[1]]))
+        .collect()
 }
 
 fn pick<T: Copy>(random: &mut Random, choices: &[T]) -> T {
@@ -109,7 +118,7 @@ fn pick<T: Copy>(random: &mut Random, choices: &[T]) -> T {
 fn scheduler(random: &mut Random, l: u64) -> [u64; 3] {
     let outside = l == 0 || l > 1 << 63;
     match random.next() % 16 {
-        0 => any_scheduler(random, l),
+        0 => any_counters(random, l),
         _ if outside => [l, 0, 0],
         1..6 => sound_scheduler(random, l),
         _ => {
@@ -117,6 +126,12 @@ fn scheduler(random: &mut Random, l: u64) -> [u64; 3] {
             [l, read, read]
         }
     }
+}
+
+/// Around the ends of what is sound.
+fn any_counters(random: &mut Random, l: u64) -> [u64; 3] {
+    let end = l.wrapping_mul(2).wrapping_add(2).max(1);
+    [l, random.next() % end, random.next() % end]
 }
 
 /// Now and then a byte short or long.
@@ -162,9 +177,12 @@ fn write_header(random: &mut Random, memory: &mut Memory, read: u64, length: u64
     put_header(memory, read, format << 62 | tag << 48 | length);
 }
 
-/// Most significant byte first.
 pub fn put_header(memory: &mut Memory, read: u64, header: u64) {
-    let (ring, _) = memory.parts();
+    header_into(memory.parts().0, read, header);
+}
+
+/// At the read counter, most significant byte first; a ring that is too short has a part of it.
+pub fn header_into(ring: &mut [u8], read: u64, header: u64) {
     let length = ring.len() as u64;
     for (i, byte) in (0..length).zip(header.to_be_bytes()) {
         ring[((read % length + i) % length) as usize] = byte;
@@ -196,25 +214,35 @@ fn pending(random: &mut Random) -> u64 {
     }
 }
 
-/// As a call asks for them: a receive if it takes an announcement, sends until as many were pending,
-/// a shutdown. Where it goes another way they do not fit; and some runs are cut off or spoilt.
+/// As a call asks for them: a receive if it takes an announcement, sends until nothing is pending, a
+/// shutdown after a failure. Where it goes another way they do not fit; and some are spoilt.
 fn answers(random: &mut Random, kind: Kind, max_new_fds: Option<u64>, pending: u64) -> Vec<Answer> {
     let mut run = vec![];
     if let Some(max_new_fds) = max_new_fds {
         interruptions(random, &mut run);
         run.push(received(random, max_new_fds));
     }
-    let mut left = pending.saturating_add(u64::from(kind == Kind::Read));
-    for _ in 0..sends(random, kind) {
-        interruptions(random, &mut run);
-        let sent = sent(random, left.min(128));
-        left = left.saturating_sub(sent[1]);
-        run.push(sent);
+    if matches!(run.last(), None | Some([0, 0, _])) {
+        let left = pending.saturating_add(u64::from(kind == Kind::Read));
+        let most = sends(random, kind);
+        push_sends(random, most, left, &mut run);
     }
     run.push(shut(random));
     run.truncate(LONGEST_RUN);
     spoil(random, &mut run);
     run
+}
+
+fn push_sends(random: &mut Random, most: u64, mut left: u64, run: &mut Vec<Answer>) {
+    for _ in 0..most {
+        interruptions(random, run);
+        let sent = sent(random, left.min(128));
+        run.push(sent);
+        left = match sent {
+            [3, n, _] if 0 < n && n < left => left - n,
+            _ => break,
+        };
+    }
 }
 
 fn sends(random: &mut Random, kind: Kind) -> u64 {
@@ -248,7 +276,7 @@ fn received(random: &mut Random, max_new_fds: u64) -> Answer {
     match random.next() % 16 {
         0 => [0, random.next() % 256, fds],
         1 => [0, pick(random, &[255, 256, M]), fds],
-        2 => [0, 0, max_new_fds.wrapping_add(1)],
+        2 => [0, 0, max_new_fds.wrapping_add(random.next() % 2)],
         3 => [1, random.next() % 4, random.next() % 4],
         4..7 => any_failed(random),
         _ => [0, 0, fds],
@@ -267,8 +295,9 @@ fn sent(random: &mut Random, batch: u64) -> Answer {
 }
 
 fn shut(random: &mut Random) -> Answer {
-    match random.next() % 4 {
+    match random.next() % 8 {
         0 => any_failed(random),
+        1 => failed(random, 4),
         _ => [4, random.next() % 4, random.next() % 4],
     }
 }

@@ -8,7 +8,7 @@ use oracle::receiver_answers::{Kind, Part, RUN_CALLS, RunCall, STATE_CALLS};
 use oracle::sched_answers::line;
 
 const SEED: u64 = 1;
-/// The longest ring: lines stay short.
+/// The longest ring: with it a line has at most 128 numbers, which is what the replay program holds.
 const LONGEST: u64 = 32;
 /// Every byte of a destination before the call.
 const BEFORE: u8 = 170;
@@ -24,7 +24,7 @@ pub fn run() -> bool {
     let mut random = Random(SEED);
     for (op, call) in RUN_CALLS.iter().enumerate() {
         for _ in 0..lines(call.kind) {
-            let l = random.next() % LONGEST + 1;
+            let l = length(&mut random);
             let input = Input::random(&mut random, call.kind, l);
             print_run((STATE_CALLS.len() + op) as u64, call, input);
         }
@@ -35,9 +35,17 @@ pub fn run() -> bool {
 /// Random ones of a call.
 fn lines(kind: Kind) -> u64 {
     match kind {
-        Kind::Read => 900,
-        Kind::Service => 500,
-        Kind::Shutdown => 200,
+        Kind::Read => 1200,
+        Kind::Service => 600,
+        Kind::Shutdown => 250,
+    }
+}
+
+/// Mostly of a ring that has room for a header and a body.
+fn length(random: &mut Random) -> u64 {
+    match random.next() % 8 {
+        0 => random.next() % 8 + 1,
+        _ => random.next() % (LONGEST - 8) + 9,
     }
 }
 

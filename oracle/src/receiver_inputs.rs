@@ -253,7 +253,7 @@ fn sends(random: &mut Random, kind: Kind) -> u64 {
 }
 
 fn interruptions(random: &mut Random, run: &mut Vec<Answer>) {
-    while random.next() % 8 == 0 {
+    while let 0 = random.next() % 8 {
         run.push(failed(random, 4));
     }
 }

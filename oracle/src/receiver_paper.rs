@@ -168,8 +168,10 @@ const STATE_ROWS: &[(&str, &[u64], &[u64])] = &[
 ];
 
 /// A call, the receiver, what is lent, the socket's answers, and what comes of it.
+type RunRow = (&'static str, [u64; 8], Memory, &'static [Answer], Want);
+
 #[rustfmt::skip]
-const RUN_ROWS: &[(&str, [u64; 8], Memory, &[Answer], Want)] = &[
+const RUN_ROWS: &[RunRow] = &[
     // The row of the paper.
     (SERVICE, at(EMPTY, N, 300, 0), NONE, &[sent(128), sent(128), fails(11)], Ended(at(EMPTY, N, 44, 0), DONE, 3)),
 

@@ -30,13 +30,13 @@ impl ShmStreamError {
     /// Document 01: an orderly end of the stream is errno 32.
     pub const SHUTDOWN: Self = Self::Io(Errno::PIPE);
 
-    /// "Turns WOULDBLOCK and EAGAIN into the Normal state" tests for WOULDBLOCK alone behind it: so
-    /// it makes the one of the other, and on Linux they are one number.
+    /// A state is to be Normal for WOULDBLOCK and for EAGAIN, and behind this only WOULDBLOCK is
+    /// tested: so it makes the one of the other, and on Linux they are one number.
     pub fn normalize(self) -> Self {
         self
     }
 
-    /// "Advance EOF/terminated towards real errors (but not the other way around)": document 01.
+    /// Document 01, from a comment beside the call: the end gives way to an error, and nothing else.
     pub fn advance_failure_towards_error(self, error: Self) -> Self {
         match self == Self::SHUTDOWN {
             true => error,
@@ -54,7 +54,7 @@ impl ShmStreamError {
         }
     }
 
-    /// "turning EPIPE into a zero-length read to signal EOF/shutdown".
+    /// The comment beside the call: EPIPE becomes a read of no bytes.
     pub fn as_external_read_with_fds_result(
         self,
     ) -> Result<io::fd_stream::ReadWithFdsResult, Self> {
@@ -122,8 +122,8 @@ pub mod shared {
     }
 
     impl SharedState {
-        /// Its answer is "the number of bytes read", and the scheduler that is lent to it becomes
-        /// the stored one: so it reads what is scheduled for the whole destination, and registers it.
+        /// Its answer is a count of bytes, and the scheduler that is lent to it becomes the stored
+        /// one: so it reads what is scheduled for the whole destination, and registers it.
         pub fn read_from_receiver_buffer(
             &self,
             scheduler: &mut RingBufferScheduler,
@@ -167,7 +167,7 @@ pub mod io {
         use crate::scripted_socket::{self, Received};
         use std::os::fd::OwnedFd;
 
-        /// "the number of fds" and of bytes; neither "if this is a chunk in progress".
+        /// Counts of bytes and of descriptors; by default none, for a chunk in progress.
         #[derive(Default)]
         pub struct ReadWithFdsResult {
             pub data_read: usize,
@@ -175,7 +175,7 @@ pub mod io {
         }
 
         impl ReadWithFdsResult {
-            /// The answer to "Empty inputs".
+            /// The answer to an empty destination.
             pub fn empty() -> Self {
                 Self::default()
             }

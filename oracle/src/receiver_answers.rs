@@ -95,7 +95,8 @@ pub enum Kind {
 /// What is lent to it.
 pub struct Lent<'a> {
     pub receiver: [u64; 8],
-    pub ring: &'a [u8],
+    /// No call changes it. It is lent to be changed so that one which does is seen.
+    pub ring: &'a mut [u8],
     pub destination: &'a mut [u8],
     pub max_new_fds: u64,
     pub answers: &'a [scripted_socket::Answer],

@@ -54,7 +54,7 @@ fn ran(name: &str, receiver: [u64; 8], lent: Memory, answers: &[Answer]) -> Vec<
     let call = RUN_CALLS.iter().find(|call| call.name == name);
     let answer = (call.expect(name).answer)(Lent {
         receiver,
-        ring: &ring,
+        ring: &mut ring,
         destination: &mut destination,
         max_new_fds,
         answers,

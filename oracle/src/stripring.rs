@@ -291,7 +291,7 @@ macro_rules! run_calls {
             vec![
                 $((stringify!($read), |lent| {
                     let Lent { receiver, ring, destination, max_new_fds, answers } = lent;
-                    let (r, d, a) = (ring.as_ptr(), destination.as_mut_ptr(), answers.as_ptr());
+                    let (r, d, a) = (ring.as_mut_ptr(), destination.as_mut_ptr(), answers.as_ptr());
                     // SAFETY: three slices that do not overlap, each with its length.
                     unsafe {
                         $read(

@@ -63,7 +63,10 @@ fn code(text: String) -> TokenStream {
     text.parse().expect("Rust")
 }
 
-fn join(cases: &[(String, TokenStream)], text: impl Fn(&(String, TokenStream)) -> String) -> String {
+fn join(
+    cases: &[(String, TokenStream)],
+    text: impl Fn(&(String, TokenStream)) -> String,
+) -> String {
     cases.iter().map(text).collect()
 }
 

@@ -49,7 +49,7 @@ use Rattle.receiver.proofs.run.drive_without_ring.Symbol as g₁-def
 use Rattle.receiver.proofs.receiver.ReceiverState.service_chunk_acknowledgements as f
 
 -- the MIR of the two calls
-abbrev pub function : Name → Fn
+abbrev function : Name → Fn
 function begin = record {
   lifetimes = 1;
   outlives = [];
@@ -59,10 +59,10 @@ function begin = record {
 }
 
 -- a call of the receiver q that is begun as `begins q`, and one over a run that answers `told q run`
-abbrev pub beginning : {M : Type 1} (𝓤 : URA M) → (ReceiverState → Call) → Clauses 𝓤 g₀.ended
+abbrev beginning : {M : Type 1} (𝓤 : URA M) → (ReceiverState → Call) → Clauses 𝓤 g₀.ended
 beginning 𝓤 begins κs a = record { ghost = Unit {0}; requires = λ _. emp 𝓤; ensures = λ _ r _. fact 𝓤 (r ≡ begins (a .0)) }
 
-abbrev pub answering : {M : Type 1} (𝓤 : URA M) → (ReceiverState → List Answer → Ended) → Clauses 𝓤 f.ended
+abbrev answering : {M : Type 1} (𝓤 : URA M) → (ReceiverState → List Answer → Ended) → Clauses 𝓤 f.ended
 answering 𝓤 told κs a = record { ghost = Unit {0}; requires = λ _. emp 𝓤; ensures = λ _ r _. fact 𝓤 (r ≡ told (a .0) (a .1 .0 .now)) }
 
 module _ {M : Type 1} (𝓤 : URA M) (H : Heap 𝓤) (A : Atoms 𝓤) where

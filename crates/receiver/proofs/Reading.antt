@@ -39,10 +39,10 @@ use Rattle.receiver.proofs.receiver.ReceiverState.Laws as Q′
 use Rattle.receiver.proofs.receiver.ReceiverState.read_with_fds as f
 
 -- what is read: the receiver, the ring, the destination, the most descriptors, and the run
-abbrev pub Reads : Type 0
+abbrev Reads : Type 0
 Reads = ReceiverState → List ℕ → List ℕ → ℕ → List Answer → Delivery
 
-abbrev pub reading : {M : Type 1} (𝓤 : URA M) → Reads → Clauses 𝓤 f.ended
+abbrev reading : {M : Type 1} (𝓤 : URA M) → Reads → Clauses 𝓤 f.ended
 reading 𝓤 reads κs a = record { ghost = Unit {0}; requires = λ _. emp 𝓤; ensures = λ _ r z. fact 𝓤 (delivery r (z .1 .1 .0 .now) ≡ reads (a .0) (a .1 .0 .now) (a .1 .1 .0 .now) (a .1 .1 .1 .0) (a .1 .1 .1 .1 .0 .now)) }
 
 abbrev stayed : Stays (f.ended .signature .params) (f.ended .kept)
@@ -61,7 +61,7 @@ module _ (q : ReceiverState) (ring dst : RefT (List ℕ)) (m : ℕ) (answers : R
 
 module _ (reads : Reads) {M : Type 1} (𝓤 : URA M) (H : Heap 𝓤) (A : Atoms 𝓤) where
   module _ (κ₀ κ₁ κ₂ : Lft) (s₀ s₁ s₂ : Share) (q : ReceiverState) (ring dst : RefT (List ℕ)) (m : ℕ) (answers : RefT (List Answer)) where
-    abbrev pub Post : Val → SProp 𝓤
+    abbrev Post : Val → SProp 𝓤
     Post = walkOf 𝓤 H A f.ended stayed (reading 𝓤 reads) .post (((κ₀, (κ₁, (κ₂, tt))), (s₀, (s₁, (s₂, tt))), tt, given q ring dst m answers, spelt q ring dst m answers), tt)
 
     pub exits : Given 𝓤 H A → (r : Ended) (v : Val) (ws : List ℕ) → delivery r ws ≡ reads q (ring .now) (dst .now) m (answers .now) → length ws ≡ length (dst .now)

@@ -1,4 +1,4 @@
--- Cases that tell readings of the rules apart, computed from the definitions.
+-- Cases that tell readings of the rules apart, computed from the definitions. Each rule that is easy to get wrong has its own.
 use Prim.Native.Nat.{ℕ, _-_, _^_}
 use mathlib.Core.Path.{_≡_, refl}
 use mathlib.Core.Bool.{Bool, true, false}
@@ -19,7 +19,8 @@ use Rattle.receiver.specs.declared.state.OperationalState.the-variants.{
 use Rattle.receiver.specs.declared.state.Violation.the-variants.{InvalidChunkAnnouncement, ControlOverflow, UnknownHeader, InvalidChunkLength}
 use Rattle.receiver.specs.State.{fitsErrno, normalizeIn, towardsErrorIn}
 use Rattle.receiver.specs.Answer.{interruptedOf, receivedOf, sentOf, shutOf}
-use Rattle.receiver.specs.Receiver.{receiver, endedFrom, numberFrom, flushIn, announceIn, readOf, readImplOf, serviceOf, shutdownOf}
+use Rattle.receiver.specs.Receiver.{receiver, endedFrom, numberFrom, flushIn, announceIn, readOf, serviceOf, shutdownOf, delivery, readDelivery}
+use Rattle.receiver.specs.Refusal.{numberOf}
 
 -- ---- the socket's answers
 abbrev byte : ℕ → ℕ → Answer
@@ -53,68 +54,127 @@ reads s st pending issued header asked answers = endedFrom (readOf (receiver s s
 abbrev zeros : List ℕ
 zeros = replicate 8 0
 
--- acknowledgements
-serviced :
-    (service Normal 300 false (sends 128 ∷ sends 128 ∷ fails 11 ∷ []) ≡ Accepted (receiver (ring 64 0 0) Normal 44 false) outcome.Done 3) ×
-    (service Normal 300 false (sends 128 ∷ fails 104 ∷ done ∷ []) ≡ Accepted (receiver (ring 64 0 0) (Draining (Io 104)) 172 true) (outcome.Failed (Io 104)) 3) ×
-    (service Normal 5 false (sends 6 ∷ []) ≡ Refused (Misfit 1)) ×
-    (service Normal 130 false (sends 100 ∷ sends 31 ∷ []) ≡ Refused (Misfit 2)) ×
-    (service Normal 1 false [] ≡ Refused AnswerMissing) ×
-    (service Normal 128 false (sends 128 ∷ []) ≡ Accepted (receiver (ring 64 0 0) Normal 0 false) outcome.Done 1) ×
-    (service Normal 0 false (byte 9 9 ∷ []) ≡ Accepted (receiver (ring 64 0 0) Normal 0 false) outcome.Done 0) ×
-    (service Normal 1 false (sends 0 ∷ fails 4 ∷ []) ≡ Accepted (receiver (ring 64 0 0) (Draining (Io 5)) 1 false) (outcome.Failed (Io 4)) 2) ×
-    (service Normal 5 false (fails 4 ∷ sends 5 ∷ []) ≡ Accepted (receiver (ring 64 0 0) Normal 0 false) outcome.Done 2) ×
-    (service (Draining (Io 11)) 3 false [] ≡ Accepted (receiver (ring 64 0 0) (Draining (Io 11)) 3 false) (outcome.Failed (Io 11)) 0) ×
-    (service (Terminated (Io 0)) 3 false [] ≡ Refused (Misfit 0))
-unfolding flushIn soundOf subMod fitsErrno normalizeIn towardsErrorIn interruptedOf sentOf shutOf
-serviced = (refl, refl, refl, refl, refl, refl, refl, refl, refl, refl, refl)
-
--- the order of a read, and the failures on the way
 abbrev empty : RingBufferScheduler
 empty = ring 64 0 0
 
-failing :
-    (reads empty Normal 0 false zeros 2 (fails 11 ∷ []) ≡ Accepted (receiver empty Normal 0 false) (outcome.Failed (Io 11)) 1) ×
-    (reads empty Normal 0 false zeros 2 [] ≡ Refused AnswerMissing) ×
-    (reads (ring 64 5 0) Normal (2 ^ 64 - 1) false zeros 2 (fails 11 ∷ []) ≡ Refused PendingFull) ×
-    (reads (ring 64 5 0) Normal (2 ^ 64 - 1) false zeros 0 [] ≡ Accepted (receiver (ring 64 5 0) Normal (2 ^ 64 - 1) false) (outcome.Read 0 0) 0) ×
-    (reads (ring 64 5 0) (Terminated (Io 7)) (2 ^ 64 - 1) false zeros 2 [] ≡ Accepted (receiver (ring 64 5 0) (Terminated (Io 7)) (2 ^ 64 - 1) false) (outcome.Failed (Io 7)) 0) ×
-    (reads empty (Draining (Io 5)) 0 false zeros 2 (closed ∷ done ∷ []) ≡ Accepted (receiver empty (Terminated (Io 5)) 0 true) (outcome.Read 0 0) 2) ×
-    (reads empty (Terminated (Io 11)) 0 false zeros 2 [] ≡ Accepted (receiver empty (Terminated (Io 11)) 0 false) (outcome.Failed (Io 11)) 0) ×
-    (reads empty (Draining (Io 11)) 0 false zeros 2 (fails 11 ∷ []) ≡ Accepted (receiver empty Normal 0 false) (outcome.Failed (Io 11)) 1) ×
-    (reads empty (Draining (Io 5)) 0 false zeros 2 (fails 11 ∷ []) ≡ Refused AnswerMissing) ×
-    (reads empty (Draining (Io 5)) 0 true zeros 2 (fails 11 ∷ []) ≡ Accepted (receiver empty (Terminated (Io 5)) 0 true) (outcome.Failed (Io 5)) 1) ×
-    (reads empty (Terminated (Io 32)) 0 false zeros 2 [] ≡ Accepted (receiver empty (Terminated (Io 32)) 0 false) (outcome.Read 0 0) 0) ×
-    (reads empty Normal 0 false zeros 2 (byte 7 2 ∷ []) ≡ Refused (Misfit 1)) ×
-    (reads empty Normal 0 true zeros 2 (byte 7 1 ∷ []) ≡ Accepted (receiver empty (Terminated (Protocol InvalidChunkAnnouncement)) 0 true) (outcome.Failed (Protocol InvalidChunkAnnouncement)) 1)
-unfolding announceIn numberFrom readyFrom soundOf subMod addMod fitsErrno normalizeIn towardsErrorIn interruptedOf receivedOf shutOf
-failing = (refl, refl, refl, refl, refl, refl, refl, refl, refl, refl, refl, refl, refl)
-
--- a violation leaves the scheduler as it was; eight bytes must stay free behind a body
+-- a header: the first byte, and the length in the last
 abbrev header : ℕ → ℕ → List ℕ
 header first len = first ∷ replicate 6 0 ++ (len ∷ [])
 
-announced :
-    (reads empty Normal 0 false (header 0 65) 2 (byte 0 1 ∷ done ∷ []) ≡ Accepted (receiver empty (Terminated (Protocol ControlOverflow)) 0 true) (outcome.Failed (Protocol ControlOverflow)) 2) ×
-    (reads empty Normal 0 true (header 0 57) 2 (byte 0 1 ∷ []) ≡ Accepted (receiver empty (Terminated (Protocol ControlOverflow)) 0 true) (outcome.Failed (Protocol ControlOverflow)) 1) ×
-    (reads empty Normal 0 true (header 0 0) 2 (byte 0 1 ∷ []) ≡ Accepted (receiver empty (Terminated (Protocol InvalidChunkLength)) 0 true) (outcome.Failed (Protocol InvalidChunkLength)) 1) ×
-    (reads empty Normal 0 true (header 64 5) 2 (byte 0 1 ∷ []) ≡ Accepted (receiver empty (Terminated (Protocol UnknownHeader)) 0 true) (outcome.Failed (Protocol UnknownHeader)) 1) ×
-    (reads empty Normal 0 true (header 0 56) 2 (byte 0 1 ∷ []) ≡ Accepted (receiver (ring 64 64 10) Normal 0 true) (outcome.Read 2 1) 1) ×
-    (reads empty Normal 0 true (header 0 3) 9 (byte 0 1 ∷ sends 1 ∷ []) ≡ Accepted (receiver (ring 64 11 11) Normal 0 true) (outcome.Read 3 1) 2) ×
-    (reads (ring 64 5 0) Normal 300 false zeros 9 (sends 128 ∷ []) ≡ Refused AnswerMissing) ×
-    (reads (ring 64 5 0) Normal 300 false zeros 9 (sends 128 ∷ sends 129 ∷ []) ≡ Refused (Misfit 2)) ×
-    (reads (ring 64 3 0) (Draining (Io 5)) 0 true zeros 9 [] ≡ Accepted (receiver (ring 64 3 3) (Draining (Io 5)) 1 true) (outcome.Read 3 0) 0)
-unfolding flushIn announceIn numberFrom readyFrom soundOf subMod addMod fitsErrno normalizeIn towardsErrorIn interruptedOf receivedOf sentOf shutOf
-announced = (refl, refl, refl, refl, refl, refl, refl, refl, refl)
-
--- a shutdown drains with 32
 abbrev shuts : OperationalState → Bool → List Answer → Ended
 shuts st issued answers = endedFrom (shutdownOf (receiver empty st 0 issued) answers)
 
-shut :
-    (shuts Normal false (done ∷ []) ≡ Accepted (receiver empty (Draining (Io 32)) 0 true) outcome.Done 1) ×
-    (shuts (Draining (Io 5)) true [] ≡ Accepted (receiver empty (Draining (Io 5)) 0 true) outcome.Done 0) ×
-    (shuts (Terminated (Io 11)) true [] ≡ Accepted (receiver empty (Draining (Io 32)) 0 true) outcome.Done 0) ×
+-- ---- acknowledgements
+batches-are-sent-until-nothing-is-pending :
+    (service Normal 300 false (sends 128 ∷ sends 128 ∷ fails 11 ∷ []) ≡ Accepted (receiver empty Normal 44 false) outcome.Done 3) ×
+    (service Normal 128 false (sends 128 ∷ []) ≡ Accepted (receiver empty Normal 0 false) outcome.Done 1) ×
+    (service Normal 0 false (byte 9 9 ∷ []) ≡ Accepted (receiver empty Normal 0 false) outcome.Done 0) ×
+    (service Normal 5 false (sends 6 ∷ []) ≡ Refused (Misfit 1)) ×
+    (service Normal 130 false (sends 100 ∷ sends 31 ∷ []) ≡ Refused (Misfit 2)) ×
+    (service Normal 1 false [] ≡ Refused AnswerMissing) ×
+    (service (Terminated (Io 0)) 3 false [] ≡ Refused (Misfit 0))
+unfolding flushIn soundOf subMod fitsErrno interruptedOf sentOf
+batches-are-sent-until-nothing-is-pending = (refl, refl, refl, refl, refl, refl, refl)
+
+a-failed-send-drains :
+    (service Normal 300 false (sends 128 ∷ fails 104 ∷ done ∷ []) ≡ Accepted (receiver empty (Draining (Io 104)) 172 true) (outcome.Failed (Io 104)) 3) ×
+    (service Normal 1 false (sends 0 ∷ fails 4 ∷ []) ≡ Accepted (receiver empty (Draining (Io 5)) 1 false) (outcome.Failed (Io 4)) 2)
+unfolding flushIn soundOf subMod fitsErrno normalizeIn towardsErrorIn interruptedOf sentOf shutOf
+a-failed-send-drains = (refl, refl)
+
+an-interruption-is-waited-out-but-not-by-a-shutdown :
+    (service Normal 5 false (fails 4 ∷ sends 5 ∷ []) ≡ Accepted (receiver empty Normal 0 false) outcome.Done 2) ×
+    (reads empty Normal 0 false zeros 2 (fails 4 ∷ fails 4 ∷ fails 11 ∷ []) ≡ Accepted (receiver empty Normal 0 false) (outcome.Failed (Io 11)) 3) ×
     (shuts Normal false (fails 4 ∷ []) ≡ Accepted (receiver empty (Draining (Io 32)) 0 false) (outcome.Failed (Io 4)) 1)
+unfolding flushIn announceIn readyFrom soundOf subMod fitsErrno normalizeIn towardsErrorIn interruptedOf receivedOf sentOf shutOf
+an-interruption-is-waited-out-but-not-by-a-shutdown = (refl, refl, refl)
+
+nothing-is-sent-while-draining :
+    (service (Draining (Io 5)) 3 true (sends 3 ∷ []) ≡ Accepted (receiver empty (Draining (Io 5)) 3 true) (outcome.Failed (Io 5)) 0) ×
+    (reads (ring 64 3 0) (Draining (Io 5)) 0 true zeros 9 [] ≡ Accepted (receiver (ring 64 3 3) (Draining (Io 5)) 1 true) (outcome.Read 3 0) 0)
+unfolding readyFrom soundOf subMod addMod fitsErrno
+nothing-is-sent-while-draining = (refl, refl)
+
+-- ---- errno 11
+a-stored-11-is-taken-as-it-stands :
+    (service (Draining (Io 11)) 3 false [] ≡ Accepted (receiver empty (Draining (Io 11)) 3 false) (outcome.Failed (Io 11)) 0) ×
+    (reads empty (Terminated (Io 11)) 0 false zeros 2 [] ≡ Accepted (receiver empty (Terminated (Io 11)) 0 false) (outcome.Failed (Io 11)) 0)
+unfolding readyFrom soundOf subMod fitsErrno
+a-stored-11-is-taken-as-it-stands = (refl, refl)
+
+advancing-normalises-11 :
+    (shuts (Terminated (Io 11)) true [] ≡ Accepted (receiver empty (Draining (Io 32)) 0 true) outcome.Done 0) ×
+    (reads empty (Draining (Io 11)) 0 false zeros 2 (fails 11 ∷ []) ≡ Accepted (receiver empty Normal 0 false) (outcome.Failed (Io 11)) 1)
+unfolding announceIn readyFrom soundOf subMod fitsErrno normalizeIn towardsErrorIn interruptedOf receivedOf shutOf
+advancing-normalises-11 = (refl, refl)
+
+refusal-11-is-not-failure-11 :
+    (reads empty Normal 0 false zeros 2 [] ≡ Refused AnswerMissing) ×
+    (numberOf AnswerMissing ≡ 11) ×
+    (reads empty Normal 0 false zeros 2 (fails 11 ∷ []) ≡ Accepted (receiver empty Normal 0 false) (outcome.Failed (Io 11)) 1)
+unfolding announceIn readyFrom soundOf subMod fitsErrno interruptedOf receivedOf
+refusal-11-is-not-failure-11 = (refl, refl, refl)
+
+-- ---- a read
+terminated-then-the-empty-destination-then-13-then-the-announcement :
+    (reads (ring 64 5 0) (Terminated (Io 7)) (2 ^ 64 - 1) false zeros 0 [] ≡ Accepted (receiver (ring 64 5 0) (Terminated (Io 7)) (2 ^ 64 - 1) false) (outcome.Failed (Io 7)) 0) ×
+    (reads (ring 64 5 0) Normal (2 ^ 64 - 1) false zeros 0 [] ≡ Accepted (receiver (ring 64 5 0) Normal (2 ^ 64 - 1) false) (outcome.Read 0 0) 0) ×
+    (reads empty Normal (2 ^ 64 - 1) false zeros 2 (byte 300 0 ∷ []) ≡ Refused PendingFull) ×
+    (reads empty Normal 0 false zeros 2 (byte 7 2 ∷ []) ≡ Refused (Misfit 1)) ×
+    (reads empty (Terminated (Io 4096)) 0 false zeros 2 [] ≡ Refused (Misfit 0))
+unfolding announceIn readyFrom soundOf subMod fitsErrno interruptedOf receivedOf
+terminated-then-the-empty-destination-then-13-then-the-announcement = (refl, refl, refl, refl, refl)
+
+the-end-of-the-stream-is-a-read-of-nothing :
+    (reads empty (Draining (Io 5)) 0 false zeros 2 (closed ∷ done ∷ []) ≡ Accepted (receiver empty (Terminated (Io 5)) 0 true) (outcome.Read 0 0) 2) ×
+    (reads empty (Terminated (Io 32)) 0 false zeros 2 [] ≡ Accepted (receiver empty (Terminated (Io 32)) 0 false) (outcome.Read 0 0) 0)
+unfolding announceIn readyFrom soundOf subMod fitsErrno normalizeIn towardsErrorIn interruptedOf receivedOf shutOf
+the-end-of-the-stream-is-a-read-of-nothing = (refl, refl)
+
+draining-and-blocked-terminates-with-the-cached-reason :
+    (reads empty (Draining (Io 5)) 0 false zeros 2 (fails 11 ∷ []) ≡ Refused AnswerMissing) ×
+    (reads empty (Draining (Io 5)) 0 true zeros 2 (fails 11 ∷ []) ≡ Accepted (receiver empty (Terminated (Io 5)) 0 true) (outcome.Failed (Io 5)) 1)
+unfolding announceIn readyFrom soundOf subMod fitsErrno normalizeIn towardsErrorIn interruptedOf receivedOf shutOf
+draining-and-blocked-terminates-with-the-cached-reason = (refl, refl)
+
+-- found in the servicing after bytes were read: the destination is as it was
+a-late-refusal-changes-nothing :
+    (readDelivery (receiver (ring 64 5 0) Normal 300 false) (memory zeros) (1 ∷ 2 ∷ 3 ∷ []) 1 (sends 128 ∷ []) ≡ delivery (Refused AnswerMissing) (1 ∷ 2 ∷ 3 ∷ [])) ×
+    (readDelivery (receiver (ring 64 5 0) Normal 300 false) (memory zeros) (1 ∷ 2 ∷ 3 ∷ []) 1 (sends 128 ∷ sends 129 ∷ []) ≡ delivery (Refused (Misfit 2)) (1 ∷ 2 ∷ 3 ∷ [])) ×
+    (readDelivery (receiver (ring 64 5 0) Normal 0 false) (memory (7 ∷ 8 ∷ 9 ∷ replicate 5 0)) (1 ∷ 2 ∷ []) 1 [] ≡ delivery (Accepted (receiver (ring 64 5 2) Normal 0 false) (outcome.Read 2 0) 0) (7 ∷ 8 ∷ []))
+unfolding flushIn readyFrom soundOf subMod addMod fitsErrno interruptedOf sentOf
+a-late-refusal-changes-nothing = (refl, refl, refl)
+
+-- ---- an announcement
+a-violation-puts-the-scheduler-back :
+    (reads empty Normal 0 false (header 0 65) 2 (byte 0 1 ∷ done ∷ []) ≡ Accepted (receiver empty (Terminated (Protocol ControlOverflow)) 0 true) (outcome.Failed (Protocol ControlOverflow)) 2) ×
+    (reads empty Normal 0 true (header 0 0) 2 (byte 0 1 ∷ []) ≡ Accepted (receiver empty (Terminated (Protocol InvalidChunkLength)) 0 true) (outcome.Failed (Protocol InvalidChunkLength)) 1) ×
+    (reads empty Normal 0 true (header 64 5) 2 (byte 0 1 ∷ []) ≡ Accepted (receiver empty (Terminated (Protocol UnknownHeader)) 0 true) (outcome.Failed (Protocol UnknownHeader)) 1) ×
+    (reads empty Normal 0 true zeros 2 (byte 7 1 ∷ []) ≡ Accepted (receiver empty (Terminated (Protocol InvalidChunkAnnouncement)) 0 true) (outcome.Failed (Protocol InvalidChunkAnnouncement)) 1)
+unfolding announceIn numberFrom readyFrom soundOf subMod addMod fitsErrno normalizeIn towardsErrorIn interruptedOf receivedOf shutOf
+a-violation-puts-the-scheduler-back = (refl, refl, refl, refl)
+
+eight-bytes-stay-free-behind-a-body :
+    (reads empty Normal 0 true (header 0 56) 2 (byte 0 1 ∷ []) ≡ Accepted (receiver (ring 64 64 10) Normal 0 true) (outcome.Read 2 1) 1) ×
+    (reads empty Normal 0 true (header 0 57) 2 (byte 0 1 ∷ []) ≡ Accepted (receiver empty (Terminated (Protocol ControlOverflow)) 0 true) (outcome.Failed (Protocol ControlOverflow)) 1)
+unfolding flushIn announceIn numberFrom readyFrom soundOf subMod addMod fitsErrno normalizeIn towardsErrorIn interruptedOf receivedOf shutOf
+eight-bytes-stay-free-behind-a-body = (refl, refl)
+
+a-chunk-read-to-its-end-is-acknowledged :
+    reads empty Normal 0 true (header 0 3) 9 (byte 0 1 ∷ sends 1 ∷ []) ≡ Accepted (receiver (ring 64 11 11) Normal 0 true) (outcome.Read 3 1) 2
+unfolding flushIn announceIn numberFrom readyFrom soundOf subMod addMod fitsErrno interruptedOf receivedOf sentOf
+a-chunk-read-to-its-end-is-acknowledged = refl
+
+-- five bytes of it at the ring's end and three at its start, the body behind them
+a-header-wraps-around-the-ring's-end :
+    readDelivery (receiver (ring 20 15 15) Normal 0 true) (0 ∷ 0 ∷ 3 ∷ 7 ∷ 8 ∷ 9 ∷ replicate 14 0) (1 ∷ 2 ∷ []) 0 (byte 0 0 ∷ []) ≡
+    delivery (Accepted (receiver (ring 20 26 25) Normal 0 true) (outcome.Read 2 0) 1) (7 ∷ 8 ∷ [])
+unfolding flushIn announceIn numberFrom readyFrom soundOf subMod addMod fitsErrno interruptedOf receivedOf
+a-header-wraps-around-the-ring's-end = refl
+
+-- ---- a shutdown
+a-shutdown-drains-with-32 :
+    (shuts Normal false (done ∷ []) ≡ Accepted (receiver empty (Draining (Io 32)) 0 true) outcome.Done 1) ×
+    (shuts (Draining (Io 5)) true [] ≡ Accepted (receiver empty (Draining (Io 5)) 0 true) outcome.Done 0)
 unfolding soundOf subMod fitsErrno normalizeIn towardsErrorIn shutOf
-shut = (refl, refl, refl, refl)
+a-shutdown-drains-with-32 = (refl, refl)

@@ -27,11 +27,14 @@ use Rattle.sched.specs.List.{totalIn}
 use Rattle.sched.specs.Scheduler.{IsSound, soundOf, greatestIn, offsetIn, cutOf, scheduleIn, scheduleOf, advancedIn, registerListOf}
 use Rattle.sched.proofs.Laws.{sound-is, sound, offset-lt, greatest-most, cut-none, cut-one, cut-two}
 use Rattle.sched.proofs.Promises.{scheduling}
+use Rattle.copies.specs.declared.Copied.{Copied}
 use Rattle.copies.specs.declared.Copied.the-variants as copied
+use Rattle.copies.specs.declared.lent.Told.{Told}
 use Rattle.copies.specs.declared.Ready.the-variants as ready
 use Rattle.copies.specs.declared.Refusal.the-variants.{RingMemory}
 use Rattle.copies.specs.Ring.{put, get}
-use Rattle.copies.specs.Copies.{part, pasted, Fits, putList, getList, readyFrom, readyOf, left, writeIn, readIn}
+use Rattle.copies.specs.Copies.{part, pasted, Fits, putList, getList, readyFrom, readyOf, Left, left, writeIn, readIn}
+use Rattle.copies.specs.Lent.{toldOf, recordAfter, LentLeaves}
 use Rattle.copies.proofs.Ring.{put-place, put-append, put-ahead, get-place, get-append, get-ahead, length-put, length-get}
 
 -- ---- the parts
@@ -179,3 +182,12 @@ module _ (s : RingBufferScheduler) (h : IsSound s) (ring : List ℕ) (l : length
         p ∙ ap (λ (x : ScheduledOperations). getList x ring dst) i ∙
             cut-get Read (s .«buf_len») (offsetIn s Read) (min (length dst) (greatestIn s Read)) (offset-lt s h Read) (omega (arith, greatest-most s h Read)) ring dst l (omega arith),
       )
+
+-- ---- a lent copy: of what the copy by value leaves, its answer is told, and its record or the old one is kept
+pub kept-leaves : (s : RingBufferScheduler) (answer : Copied) (memory : List ℕ) (by-value : Left) (r : Told) (after : RingBufferScheduler) →
+    left answer memory ≡ by-value → (r ≡ toldOf answer) × (after ≡ recordAfter s answer) → LentLeaves s by-value r after memory
+kept-leaves s answer memory by-value r after e k = (
+  k .0 ∙ ap (λ (x : Left). toldOf (x .answer)) e,
+  k .1 ∙ ap (λ (x : Left). recordAfter s (x .answer)) e,
+  ap (λ (x : Left). x .memory) e,
+)

@@ -1,3 +1,5 @@
 pub mod Ring
 pub mod Laws
+pub mod Calls
+mod Lending
 pub mod Decided

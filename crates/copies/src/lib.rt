@@ -12,6 +12,12 @@ use sched::Registered;
 use sched::RingBufferScheduler;
 use sched::ScheduledOperations;
 
+mod lent;
+
+pub use lent::Told;
+pub use lent::read_lent;
+pub use lent::write_lent;
+
 // Why a copy refuses: what the scheduler refuses, or 9.
 pub enum Refusal {
     Scheduler(sched::Refusal),

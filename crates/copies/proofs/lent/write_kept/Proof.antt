@@ -1,0 +1,20 @@
+-- What is kept of the answer of `write` is what the lent copy leaves.
+use Rattle.copies.proofs.Laws.{kept-leaves}
+use borrow.Author.Needs.{needs}
+use Rattle.copies.proofs.lent.write_kept.Statement.{statement}
+use Rattle.copies.proofs.lent.write_kept.Tie as tie
+
+write-requires : tie.Need-write-requires
+write-requires c κs = search needs
+
+keep-requires : tie.Need-keep-requires
+keep-requires c κs = search needs
+
+same-length : tie.Need-same-length
+same-length c = search needs
+
+returns : tie.Need-returns
+returns c = kept-leaves _ _ _ _ _ _ (c .before .before .before .write .ensures) (c .keep .ensures)
+
+pub write-kept-spec : {M : Type 1} → statement M
+write-kept-spec = tie.close (tie.spec write-requires keep-requires same-length returns)

@@ -13,7 +13,7 @@ use base.Logic.{SProp, ent}
 use base.Fml.{Lft, Share, Fml, fsep, fat, froom, fdies, flft, fobs, fauth, fbor, fobor}
 use prog.Wp.{Heap, Env, Calls, Loops, WpFn}
 use ghost.Atoms.{Atoms}
-use types.Kit.{Given, Item, Sq, prop, runs, lands, atRet, ‵, _⊛_, ⋆, _$_, _∵_, !, qed, by, move, drop, split, join, rewrite, fsplit, fsplit3, fjoin}
+use types.Kit.{Given, Item, Sq, runs, lands, atRet, ‵, _⊛_, ⋆, _$_, _∵_, !, qed, by, move, drop, split, join, rewrite, fsplit, fsplit3, fjoin}
 use types.Run.{look, look-raw, store-raw, init, forget, stop, hop, fld, from, load, of-opd, assigns, land, returns, enter, alloc1, alloc0, params1, pass1, pass0, free1, free0}
 use types.Part.{whole, sub, look-in}
 use types.SemTy as SemTy

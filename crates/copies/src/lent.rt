@@ -20,6 +20,7 @@ pub struct Kept {
     pub told: Told,
 }
 
+// Moves the first bytes of `src` into the ring, as `write` does.
 pub fn write_lent(scheduler: &mut RingBufferScheduler, ring: &mut [u8], src: &[u8]) -> Told
     ensures { λ r. ⌜ WriteLeaves (now (scheduler .entry)) (now (ring .entry)) (now (src .entry)) r (now (scheduler .exit)) (now (ring .exit)) ⌝ }
 {
@@ -28,6 +29,7 @@ pub fn write_lent(scheduler: &mut RingBufferScheduler, ring: &mut [u8], src: &[u
     kept.told
 }
 
+// Moves bytes of the ring to the front of `dst`, as `read` does.
 pub fn read_lent(scheduler: &mut RingBufferScheduler, ring: &[u8], dst: &mut [u8]) -> Told
     ensures { λ r. ⌜ ReadLeaves (now (scheduler .entry)) (now (ring .entry)) (now (dst .entry)) r (now (scheduler .exit)) (now (dst .exit)) ⌝ }
 {

@@ -1,5 +1,5 @@
-// Byte copies between the ring's lent memory and a caller's slice, by value over the scheduler. A copy moves the bytes that the
-// scheduler schedules and registers them. The lent memory is written last, once nothing can be refused any more.
+// Byte copies between the ring's lent memory and a caller's slice, by value over the scheduler (`lent`: over a lent one). A copy moves
+// the bytes that the scheduler schedules and registers them. The lent memory is written last, once nothing can be refused any more.
 ghost use mathlib.Core.Path.{_≡_};
 ghost use Prim.Native.Nat.{_+_, _≤_};
 ghost use lib.ListN.{length};

@@ -3,13 +3,13 @@ use Prim.Native.Nat.{ℕ, _+_, _-_, _%_, _≤_, _<_, min}
 use mathlib.Core.Path.{_≡_, refl, sym, ap, _∙_}
 use mathlib.Core.Bool.{Bool, cond, true, false}
 use mathlib.Core.Logic.{⊎-elim}
-use mathlib.Core.List.{List, [], _∷_, _++_, append-assoc, append-nil}
+use mathlib.Core.List.{List, [], _++_, append-assoc, append-nil}
 use native.Mathlib.Nat.{mod-self, zero-mod, zero-add, eq-zero-or-pos}
 use native.Mathlib.Omega.{arith}
 use lib.Dec.{eqb}
-use borrow.Author.Tests.{eq-eqb, ne-eqb, eqb-true}
+use borrow.Author.Tests.{eqb-true}
 use lib.ListN.{length, take, drop, length-append, length-take, length-drop, drop-of-length-le}
-use lib.Seq.{length-take-le, take-length, take-at, drop-at, drop-append-add, drop-drop, take-add}
+use lib.Seq.{length-take-le, take-length, take-at, drop-append-add, drop-drop, take-add}
 use Rattle.modular.proofs.Laws.{lt-or-le}
 use Rattle.sched.specs.declared.counter.Offset.{Offset}
 use Rattle.sched.specs.declared.list.OperationsAnswer.the-variants as operations
@@ -35,7 +35,7 @@ use Rattle.copies.specs.declared.Refusal.the-variants.{RingMemory}
 use Rattle.copies.specs.Ring.{put, get}
 use Rattle.copies.specs.Copies.{part, pasted, Fits, putList, getList, readyFrom, readyOf, Left, left, writeIn, readIn}
 use Rattle.copies.specs.Lent.{toldOf, recordAfter, LentLeaves}
-use Rattle.copies.proofs.Ring.{put-place, put-append, put-ahead, get-place, get-append, get-ahead, length-put, length-get}
+use Rattle.copies.proofs.Ring.{put-place, put-append, put-ahead, get-place, get-append, get-ahead, length-put}
 
 -- ---- the parts
 part-length : (xs : List ℕ) (a n : ℕ) → a + n ≤ length xs → length (part xs a n) ≡ n

@@ -32,7 +32,8 @@ use Rattle.receiver.specs.declared.answer.Answer.{Answer}
 use Rattle.receiver.specs.declared.receiver.Ended.{Ended}
 use Rattle.receiver.specs.declared.receiver.ReceiverState.{ReceiverState}
 use Rattle.receiver.specs.Receiver.{Delivery, delivery}
-use Rattle.receiver.proofs.Thin.{R, Re, qval, lent}
+use Rattle.copies.proofs.Calls.{lent}
+use Rattle.receiver.proofs.Thin.{R, Re, qval}
 use Rattle.receiver.proofs.receiver.Ended as E
 use Rattle.receiver.proofs.receiver.ReceiverState as Q
 use Rattle.receiver.proofs.receiver.ReceiverState.Laws as Q′

@@ -45,7 +45,8 @@ use Rattle.receiver.specs.declared.call.Call.{Call}
 use Rattle.receiver.specs.declared.drive.Driven.{Driven}
 use Rattle.receiver.specs.declared.receiver.Ended.{Ended}
 use Rattle.receiver.specs.Drive.{drivenOf, endedOf}
-use Rattle.receiver.proofs.Thin.{R, lent, asks, calls}
+use Rattle.copies.proofs.Calls.{lent, asks, calls}
+use Rattle.receiver.proofs.Thin.{R}
 use Rattle.receiver.proofs.call.Call as C
 use Rattle.receiver.proofs.call.Call.Laws as C′
 use Rattle.receiver.proofs.drive.Driven as D

@@ -31,7 +31,8 @@ use Rattle.receiver.specs.declared.receiver.ReceiverState.{ReceiverState
 use Rattle.receiver.specs.Drive.{endOfStreamIn}
 use Rattle.receiver.specs.Receiver.{delivery, readImplDelivery, readDelivery}
 use Rattle.receiver.proofs.Driven.{read-delivered}
-use Rattle.receiver.proofs.Thin.{qval, lent, asks, calls}
+use Rattle.copies.proofs.Calls.{lent, asks, calls}
+use Rattle.receiver.proofs.Thin.{qval}
 use Rattle.receiver.proofs.Reading.{given, spelt, Owned, exits, Walk, meets}
 use Rattle.receiver.proofs.receiver.Ended as E
 use Rattle.receiver.proofs.receiver.Ended.Laws as E′

@@ -38,7 +38,8 @@ use Rattle.receiver.specs.Call.{beginReadOf}
 use Rattle.receiver.specs.Drive.{drivenOf, deliveryOf}
 use Rattle.receiver.specs.Receiver.{delivery, readImplDelivery}
 use Rattle.receiver.proofs.Driven.{read-impl-delivered}
-use Rattle.receiver.proofs.Thin.{Re, qval, lent, asks, calls}
+use Rattle.copies.proofs.Calls.{lent, asks, calls}
+use Rattle.receiver.proofs.Thin.{Re, qval}
 use Rattle.receiver.proofs.Reading.{Owned, exits, Walk, meets}
 use Rattle.receiver.proofs.call.Call as C
 use Rattle.receiver.proofs.call.Call.Laws as C′

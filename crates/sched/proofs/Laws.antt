@@ -1,5 +1,5 @@
 -- Laws of the definitions of `specs/Scheduler.antt`: what the functions' proofs, and callers in other crates, cite.
-use Prim.Native.Nat.{ℕ, _+_, _-_, _*_, _%_, _^_, _<_, _≤_, min, max}
+use Prim.Native.Nat.{ℕ, suc, zero, _+_, _-_, _*_, _%_, _^_, _<_, _≤_, min, max}
 use mathlib.Core.Path.{_≡_, refl, sym, ap, _∙_}
 use mathlib.Core.Bool.{Bool, cond, true, false, not}
 use mathlib.Core.Logic.{_⊎_, inl, inr, ⊎-elim}
@@ -28,7 +28,7 @@ use Rattle.sched.specs.declared.list.ScheduledOperations.the-variants as
 use Rattle.sched.specs.declared.list.OperationsAnswer.the-variants as operations
 use Rattle.sched.specs.List.{sameTypeOf, soundTwoOf, soundListOf, Summed}
 use Rattle.sched.specs.Operation.{operationOf}
-use Rattle.sched.specs.Scheduler.{Sized, IsSound, soundOf, dataIn, offsetIn, greatestIn, layoutIn, nextBlockIn, someOf, nextIn, cutOf, scheduleIn, advancedIn, registerIn}
+use Rattle.sched.specs.Scheduler.{counterIn, Sized, IsSound, soundOf, dataIn, offsetIn, greatestIn, layoutIn, nextBlockIn, someOf, nextIn, cutOf, scheduleIn, advancedIn, registerIn}
 
 -- ---- the modulus of the counters
 module _ (l : ℕ) (h : Sized l) (m : Modulus) (e : m ≡ record { 0 = l }) where
@@ -123,6 +123,10 @@ module _ (s : RingBufferScheduler) (h : IsSound s) where
 
   pub offset-lt : (t : OperationType) → offsetIn s t .0 < s .«buf_len»
   offset-lt t = mod-lt _ (omega arith)
+
+  pub counter-lt : (t : OperationType) → counterIn s t .0 < 2 * s .«buf_len»
+  counter-lt Read = h .read
+  counter-lt Write = h .written
 
   written-offset : at Write ≡ (at Read + dataIn s) % L
   written-offset =
@@ -249,6 +253,10 @@ min-less m g f = omega arith
 min-pos : (a b : ℕ) → 0 < min a b → 0 < a
 min-pos a b p = omega arith
 
+pub positive : (n : ℕ) → (n ≡ 0 → ⊥) → 0 < n
+positive zero f = absurd (f refl)
+positive (suc n) f = omega arith
+
 -- n items of which f go before the end, r items on, and s after it
 module _ (n f r : ℕ) where
   run-out : f ≡ min n r → 0 < n - f → f ≡ r
@@ -327,7 +335,7 @@ module _ (s : RingBufferScheduler) (h : IsSound s) (t : OperationType) (m : ℕ)
     first-len : f .len ≡ min all room
     first-len = ap (λ (x : ScheduledOperation). x .len) (first-is .0) ∙ min-min m (greatestIn s t) room
 
-    pub first-fits : (f .len ≤ m) × (f .len ≤ greatestIn s t)
+    first-fits : (f .len ≤ m) × (f .len ≤ greatestIn s t)
     first-fits = (omega (arith, first-len), omega (arith, first-len))
 
     -- after the first the offset is 0, or the first did not reach the buffer's end
@@ -340,7 +348,7 @@ module _ (s : RingBufferScheduler) (h : IsSound s) (t : OperationType) (m : ℕ)
             rw (e, mod-self)
 
     module _ (u : RingBufferScheduler) (e : u ≡ advancedIn s t (f .len)) where
-      pub second-sound : IsSound u
+      second-sound : IsSound u
       second-sound = rw e (advanced-sound s h (f .len) t (first-fits .1))
 
       abbrev secondLen : ℕ

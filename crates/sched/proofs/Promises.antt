@@ -14,6 +14,8 @@ use Rattle.sched.specs.declared.list.OperationsAnswer.{OperationsAnswer}
 use Rattle.sched.specs.declared.list.OperationsAnswer.the-variants as operations
 use Rattle.sched.specs.declared.list.ScheduledOperations.{ScheduledOperations}
 use Rattle.sched.specs.declared.list.ScheduledOperations.the-variants as list
+use Rattle.sched.specs.declared.operation.NextOperation.{NextOperation}
+use Rattle.sched.specs.declared.operation.NextOperation.the-variants as next
 use Rattle.sched.specs.declared.operation.OperationType.{OperationType}
 use Rattle.sched.specs.declared.operation.OperationType.the-variants.{Read, Write}
 use Rattle.sched.specs.declared.operation.ScheduledOperation.{ScheduledOperation}
@@ -26,8 +28,8 @@ use Rattle.sched.specs.declared.scheduler.RingBufferScheduler.{RingBuffe
 use Rattle.sched.specs.Refusal.{numberOf, valuesOf, typeNumber}
 use Rattle.sched.specs.Operation.{operationOf}
 use Rattle.sched.specs.List.{sameTypeOf, soundTwoOf, soundListOf, totalIn}
-use Rattle.sched.specs.Scheduler.{Sized, IsSound, soundOf, dataIn, spaceIn, offsetIn, greatestIn, fillStateIn, nextBlockIn, scheduleIn, advancedIn, registerIn, registerOf, registerListOf}
-use Rattle.sched.proofs.Laws.{sound-is, offset-lt, arranged, next-len, greatest-most, advanced-sound, advanced-greatest, advanced-twice, advanced-nothing, min-min, cut-none, cut-one, cut-two}
+use Rattle.sched.specs.Scheduler.{Sized, IsSound, soundOf, dataIn, spaceIn, offsetIn, greatestIn, fillStateIn, nextBlockIn, nextIn, scheduleIn, advancedIn, registerIn, registerOf, registerListOf}
+use Rattle.sched.proofs.Laws.{sound-is, offset-lt, arranged, next-len, greatest-most, advanced-sound, advanced-greatest, advanced-twice, advanced-nothing, min-min, cut-none, cut-one, cut-two, schedule-none, schedule-one, schedule-two}
 
 -- ---- the refusals 1 to 5: the paper's table
 module _ (s : RingBufferScheduler) where
@@ -334,6 +336,26 @@ scheduling s h t m = ⊎-elim none some (eq-zero-or-pos (all s h t m))
         (λ l. rw (← cut-two t (s .«buf_len») (offsetIn s t) (all s h t m) p l) (promise-two s h t m p l))
         (λ l. rw (← cut-one t (s .«buf_len») (offsetIn s t) (all s h t m) p l) (promise-one s h t m p l))
         (lt-or-le (s .«buf_len») (at s h t m + all s h t m))
+
+-- asking block after block, as the Rust does: the second of the scheduler after the first, with what the first left over
+abbrev pub joined : ScheduledOperation → NextOperation → ScheduledOperations
+joined f next.None = list.One f
+joined f (next.Some g) = list.Two f g
+
+abbrev pub byBlocks : RingBufferScheduler → OperationType → ℕ → NextOperation → ScheduledOperations
+byBlocks s t m next.None = list.None
+byBlocks s t m (next.Some f) = joined f (nextIn (advancedIn s t (f .len)) t (m - f .len))
+
+pub by-blocks : (s : RingBufferScheduler) → IsSound s → (t : OperationType) (m : ℕ) → byBlocks s t m (nextIn s t m) ≡ scheduleIn s t m
+by-blocks s h t m = first (nextIn s t m) refl
+  where
+    second : (f : ScheduledOperation) → next.Some f ≡ nextIn s t m → (x : NextOperation) → x ≡ nextIn (advancedIn s t (f .len)) t (m - f .len) → joined f x ≡ scheduleIn s t m
+    second f p next.None q = schedule-one s h t m f p (advancedIn s t (f .len)) refl (m - f .len) q refl
+    second f p (next.Some g) q = schedule-two s h t m f p (advancedIn s t (f .len)) refl g (m - f .len) q refl
+
+    first : (x : NextOperation) → nextIn s t m ≡ x → byBlocks s t m x ≡ scheduleIn s t m
+    first next.None p = schedule-none s h t m (sym p)
+    first (next.Some f) p = second f (sym p) (nextIn (advancedIn s t (f .len)) t (m - f .len)) refl
 
 -- so the sum of a scheduled list's lengths, at which the Rust could panic, is a number of 64 bits
 pub sum-fits : (s : RingBufferScheduler) → IsSound s → (t : OperationType) (m : ℕ) → totalIn (scheduleIn s t m) < 2 ^ 64

@@ -1,10 +1,10 @@
 // The scheduler's record and its calls. Every public call tests the record that it is given anew, and then works on one that
 // is known to be sound.
 ghost use mathlib.Core.Path.{_≡_};
-ghost use Prim.Native.Nat.{_*_, min, max};
+ghost use Prim.Native.Nat.{_*_, _<_, _≤_, min, max};
 ghost use Rattle.modular.specs.Modulus.{wholeOf};
 ghost use Rattle.sched.specs.Counter.{offsetOf, laterOf};
-ghost use Rattle.sched.specs.Scheduler.{schedulerOf, Sized, IsSound, soundOf, dataIn, counterIn, offsetIn, greatestIn, fillStateIn, layoutIn, lowIn, highIn, blocksIn, nextBlockIn, someOf, nextIn, scheduleIn, advancedIn, registerIn, registerListIn, bufLenOf, counterAnswerOf, offsetAnswerOf, greatestOf, isZeroFrom, isPositiveFrom, fillStateOf, layoutOf, blocksOf, block0From, block1From, block2From, offFrom, lenFrom, nextBlockOf, nextOf, scheduleOf, registerOf, registerListOf};
+ghost use Rattle.sched.specs.Scheduler.{cutOf, schedulerOf, Sized, IsSound, soundOf, dataIn, counterIn, offsetIn, greatestIn, fillStateIn, layoutIn, lowIn, highIn, blocksIn, nextBlockIn, someOf, nextIn, scheduleIn, advancedIn, registerIn, registerListIn, bufLenOf, counterAnswerOf, offsetAnswerOf, greatestOf, isZeroFrom, isPositiveFrom, fillStateOf, layoutOf, blocksOf, block0From, block1From, block2From, offFrom, lenFrom, nextBlockOf, nextOf, scheduleOf, registerOf, registerListOf};
 use crate::block::Bit;
 use crate::block::Block;
 use crate::block::BlockAnswer;
@@ -60,12 +60,15 @@ fn double_modulus(buf_len: u64) -> Modulus
     }
 }
 
-// The only way from a counter to an offset.
+// The only way from a counter to an offset. A counter is below 2L, so a compare does for the remainder.
 fn offset(counter: Counter, buf_len: u64) -> Offset
-    requires { ⌜ Sized «buf_len» ⌝ }
+    requires { ⌜ counter .0 < 2 * «buf_len» ⌝ }
     ensures { λ r. ⌜ r ≡ offsetOf «buf_len» counter ⌝ }
 {
-    Offset(counter.0 % buf_len)
+    if counter.0 < buf_len {
+        return Offset(counter.0);
+    }
+    Offset(counter.0 - buf_len)
 }
 
 // The counter n items on.
@@ -86,6 +89,23 @@ fn most(a: u64, b: u64) -> u64
     ensures { λ r. ⌜ r ≡ max a b ⌝ }
 {
     if a <= b { b } else { a }
+}
+
+// n items from the offset on, cut where the buffer ends.
+fn cut_at_end(typ: OperationType, buf_len: u64, off: Offset, n: u64) -> ScheduledOperations
+    requires { ⌜ (off .0 < «buf_len») × (n ≤ «buf_len») ⌝ }
+    ensures { λ r. ⌜ r ≡ cutOf typ «buf_len» off n ⌝ }
+{
+    if n == 0 {
+        return ScheduledOperations::None;
+    }
+    let room = buf_len - off.0;
+    if n <= room {
+        return ScheduledOperations::One(ScheduledOperation::new(typ, off, n));
+    }
+    let first = ScheduledOperation::new(typ, off, room);
+    let second = ScheduledOperation::new(typ, Offset(0), n - room);
+    ScheduledOperations::Two(first, second)
 }
 
 // An operation of n items; none of 0.
@@ -645,21 +665,13 @@ impl RingBufferScheduler {
         some(op, block.off, least(max_len, block.len))
     }
 
-    // The second operation is asked of the scheduler after the first, with what the first left over.
+    // All that is asked and there, from the offset on. That asking block after block gives the same is a law.
     fn schedule(self, op: OperationType, max_len: u64) -> ScheduledOperations
         requires { ⌜ IsSound self ⌝ }
         ensures { λ r. ⌜ r ≡ scheduleIn self op «max_len» ⌝ }
     {
-        match self.next(op, max_len) {
-            NextOperation::Some(first) => {
-                let left = max_len - first.len;
-                match self.advanced(op, first.len).next(op, left) {
-                    NextOperation::Some(second) => ScheduledOperations::Two(first, second),
-                    NextOperation::None => ScheduledOperations::One(first),
-                }
-            }
-            NextOperation::None => ScheduledOperations::None,
-        }
+        let n = least(max_len, self.greatest(op));
+        cut_at_end(op, self.buf_len, self.off(op), n)
     }
 
     fn advanced(self, op: OperationType, n: u64) -> RingBufferScheduler

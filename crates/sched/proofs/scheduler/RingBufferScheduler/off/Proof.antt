@@ -1,4 +1,5 @@
 -- The offset rule of the operation's counter.
+use Rattle.sched.proofs.Laws.{counter-lt}
 use borrow.Author.Needs.{needs}
 use Rattle.sched.proofs.scheduler.RingBufferScheduler.off.Statement.{statement}
 use Rattle.sched.proofs.scheduler.RingBufferScheduler.off.Tie as tie
@@ -7,7 +8,7 @@ counter-requires : tie.Need-counter-requires
 counter-requires c κs = search needs
 
 offset-requires : tie.Need-offset-requires
-offset-requires c κs = search needs
+offset-requires c κs = rw (c .counter .ensures) (counter-lt _ (c .before .pre) (c .before .args .op))
 
 returns : tie.Need-returns
 returns c = rw (c .offset .ensures, c .before .counter .ensures)

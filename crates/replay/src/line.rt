@@ -53,6 +53,15 @@ impl Line {
         }
     }
 
+    // The number at this place, and 0 past the last.
+    pub fn number(self, at: u64) -> u64 {
+        if at >= 128 {
+            return 0;
+        }
+        let i = at as usize;
+        self.numbers[i]
+    }
+
     // Its first numbers, so many.
     pub fn first(self, count: usize) -> Line {
         let mut line = Line::new();

@@ -43,7 +43,7 @@ pub fn boolean(asked: Line, value: bool) -> Line {
     }
 }
 
-fn refused(asked: Line, e: Refusal) -> Line {
+pub fn refused(asked: Line, e: Refusal) -> Line {
     match e {
         Refusal::ZeroBufferLength => asked.push(1),
         Refusal::BufferTooLarge { buf_len } => asked.push(2).push(buf_len),
@@ -145,7 +145,7 @@ pub fn registered(asked: Line, answer: Registered) -> Line {
     }
 }
 
-fn with_scheduler(line: Line, s: RingBufferScheduler) -> Line {
+pub fn with_scheduler(line: Line, s: RingBufferScheduler) -> Line {
     line.push(s.buf_len)
         .push(s.items_written.0)
         .push(s.items_read.0)

@@ -188,7 +188,7 @@ fn of_diff(line: Line, op: u64) -> Line {
 
 // ---- what the calls take
 
-fn scheduler(line: Line) -> RingBufferScheduler {
+pub fn scheduler(line: Line) -> RingBufferScheduler {
     RingBufferScheduler {
         buf_len: line.numbers[1],
         items_read: Counter(line.numbers[3]),

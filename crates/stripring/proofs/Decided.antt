@@ -1,10 +1,16 @@
 -- Each public call's contract decides its outcome, the lent memory's last contents with it: any two outcomes that it allows
 -- are equal.
-use mathlib.Core.Path.{refl, sym, ap, _∙_}
+use mathlib.Core.Path.{_≡_, refl, sym, ap, _∙_}
+use Prim.Native.Nat.{ℕ}
+use mathlib.Core.List.{List}
 use Rattle.modular.proofs.Decides.{Decides}
+use Rattle.receiver.specs.declared.answer.Answer.{Answer}
 use Rattle.stripring.specs.Copy.{CopyAnswerLeft}
 use Rattle.stripring.specs.ReadingEnd.{GotAnswerLeft}
+use Rattle.stripring.specs.Run.{EndedAnswerLeft, FlatServiceLeaves, FlatShutdownLeaves, FlatReadImplLeaves, FlatReadLeaves}
 use Rattle.stripring.specs.WritingEnd.{WroteAnswerLeft}
+use Rattle.stripring.specs.declared.flat.EndedAnswer.{EndedAnswer}
+use Rattle.stripring.specs.declared.flat.Receiver.{Receiver}
 use Rattle.stripring.proofs.modulus.stripring_modulus_new_full_range.Kinds as stripring-modulus-new-full-range-kinds
 use Rattle.stripring.proofs.modulus.stripring_modulus_new_full_range.Reads as stripring-modulus-new-full-range
 use Rattle.stripring.proofs.modulus.stripring_modulus_try_new.Kinds as stripring-modulus-try-new-kinds
@@ -497,3 +503,18 @@ stripring-call-begin-shutdown-decided κs a q z z′ ws ws′ p p′ = (p ∙ sy
 
 pub stripring-call-answered-decided : Decides 1 stripring-call-answered-kinds.ps stripring-call-answered-kinds.r stripring-call-answered.Asked stripring-call-answered.Learnt
 stripring-call-answered-decided κs a q z z′ ws ws′ p p′ = (p ∙ sym p′, refl)
+
+-- ---- the calls over a lent run: the toolchain reads no such contract, so each cites one predicate of its outcome
+pub stripring-receiver-service-decided : (r : Receiver) (answers : List Answer) (a a′ : EndedAnswer) → FlatServiceLeaves r answers a → FlatServiceLeaves r answers a′ → a ≡ a′
+stripring-receiver-service-decided r answers a a′ p p′ = p ∙ sym p′
+
+pub stripring-receiver-shutdown-decided : (r : Receiver) (answers : List Answer) (a a′ : EndedAnswer) → FlatShutdownLeaves r answers a → FlatShutdownLeaves r answers a′ → a ≡ a′
+stripring-receiver-shutdown-decided r answers a a′ p p′ = p ∙ sym p′
+
+pub stripring-receiver-read-impl-decided : (r : Receiver) (ring dst : List ℕ) (top : ℕ) (answers : List Answer) (a a′ : EndedAnswer) (left left′ : List ℕ)
+    → FlatReadImplLeaves r ring dst top answers a left → FlatReadImplLeaves r ring dst top answers a′ left′ → (a ≡ a′) × (left ≡ left′)
+stripring-receiver-read-impl-decided r ring dst top answers a a′ left left′ p p′ = (ap (λ (x : EndedAnswerLeft). x .answer) (p ∙ sym p′), ap (λ (x : EndedAnswerLeft). x .memory) (p ∙ sym p′))
+
+pub stripring-receiver-read-decided : (r : Receiver) (ring dst : List ℕ) (top : ℕ) (answers : List Answer) (a a′ : EndedAnswer) (left left′ : List ℕ)
+    → FlatReadLeaves r ring dst top answers a left → FlatReadLeaves r ring dst top answers a′ left′ → (a ≡ a′) × (left ≡ left′)
+stripring-receiver-read-decided r ring dst top answers a a′ left left′ p p′ = (ap (λ (x : EndedAnswerLeft). x .answer) (p ∙ sym p′), ap (λ (x : EndedAnswerLeft). x .memory) (p ∙ sym p′))

@@ -1,2 +1,4 @@
 pub mod BackLaws
+pub mod FlatRun
+pub mod FlatReading
 pub mod Decided

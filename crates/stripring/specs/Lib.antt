@@ -13,5 +13,6 @@ pub mod Failure
 pub mod State
 pub mod Outcome
 pub mod Receiver
+pub mod Run
 pub mod Refusal
 pub mod Call

@@ -12,6 +12,7 @@ mod operation;
 mod outcome;
 mod reading_end;
 mod receiver_record;
+mod receiver_run;
 mod refusal;
 mod scheduler;
 mod state;

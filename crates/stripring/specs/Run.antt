@@ -1,0 +1,32 @@
+-- What the receiver's calls over a lent run of answers promise: each promise is one predicate of all that the call leaves.
+use mathlib.Core.Path.{_≡_}
+use Prim.Native.Nat.{ℕ}
+use mathlib.Core.List.{List}
+use Rattle.receiver.specs.Receiver.{Delivery, readImplDelivery, readDelivery, endedFrom, serviceOf, shutdownOf}
+use Rattle.receiver.specs.declared.answer.Answer.{Answer}
+use Rattle.stripring.specs.declared.flat.EndedAnswer.{EndedAnswer}
+use Rattle.stripring.specs.declared.flat.Receiver.{Receiver}
+use Rattle.stripring.specs.Receiver.{receiverAt, flatEnded}
+
+abbrev pub FlatServiceLeaves : Receiver → List Answer → EndedAnswer → Type 0
+FlatServiceLeaves r answers a = a ≡ flatEnded (endedFrom (serviceOf (receiverAt r) answers))
+
+abbrev pub FlatShutdownLeaves : Receiver → List Answer → EndedAnswer → Type 0
+FlatShutdownLeaves r answers a = a ≡ flatEnded (endedFrom (shutdownOf (receiverAt r) answers))
+
+-- a read: its answer, and what is left in the destination
+pub record EndedAnswerLeft : Type 0 where
+  pub answer : EndedAnswer
+  pub memory : List ℕ
+
+abbrev pub endedAnswerLeft : EndedAnswer → List ℕ → EndedAnswerLeft
+endedAnswerLeft a m = record { answer = a; memory = m }
+
+abbrev pub flatDelivery : Delivery → EndedAnswerLeft
+flatDelivery d = endedAnswerLeft (flatEnded (d .answer)) (d .memory)
+
+abbrev pub FlatReadImplLeaves : Receiver → List ℕ → List ℕ → ℕ → List Answer → EndedAnswer → List ℕ → Type 0
+FlatReadImplLeaves r ring dst top answers a left = endedAnswerLeft a left ≡ flatDelivery (readImplDelivery (receiverAt r) ring dst top answers)
+
+abbrev pub FlatReadLeaves : Receiver → List ℕ → List ℕ → ℕ → List Answer → EndedAnswer → List ℕ → Type 0
+FlatReadLeaves r ring dst top answers a left = endedAnswerLeft a left ≡ flatDelivery (readDelivery (receiverAt r) ring dst top answers)

@@ -26,12 +26,12 @@ const SMALL_STATES: [[u64; 3]; 11] = [
     [1, 0, 5],
     [1, 0, 11],
     [1, 0, 32],
-    [1, 2, 0],
+    [1, 1, 2],
     [2, 0, 0],
     [2, 0, 5],
     [2, 0, 11],
     [2, 0, 32],
-    [2, 2, 0],
+    [2, 1, 2],
 ];
 const SMALL_ANSWERS: [Answer; 12] = [
     [0, 0, 1],
@@ -255,11 +255,11 @@ fn kind(call: Kind, row: &Row) -> String {
     }
 }
 
-fn failed(call: Kind, violation: u64, errno: u64) -> String {
-    match (violation, errno) {
-        (0, 4 | 5 | 11 | 32) => format!("failed {} with {errno}", name(call)),
+fn failed(call: Kind, failure: u64, value: u64) -> String {
+    match (failure, value) {
+        (0, 4 | 5 | 11 | 32) => format!("failed {} with {value}", name(call)),
         (0, _) => format!("failed {} with another errno", name(call)),
-        _ => format!("failed {} with violation {violation}", name(call)),
+        _ => format!("failed {} with violation {value}", name(call)),
     }
 }
 

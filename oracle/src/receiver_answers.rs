@@ -1,6 +1,6 @@
 //! The answers of receiver.rs as plain numbers, call by call.
 //!
-//! A failure is 0 and an errno, or a violation's number and 0: 1 InvalidChunkAnnouncement,
+//! A failure is 0 and an errno, or 1 and a violation's number: 1 InvalidChunkAnnouncement,
 //! 2 ControlOverflow, 3 UnknownHeader, 4 InvalidChunkLength. A state is 0, 0, 0 for Normal, or 1 for
 //! Draining, 2 for Terminated, and its failure. A receiver is L, written, read, its state, the count
 //! of pending acknowledgements, and 1 if a shutdown has succeeded.
@@ -198,9 +198,9 @@ fn failure(i: &[u64]) -> Result<ShmStreamError, Refusal> {
     match (i[0], i[1]) {
         (0, errno @ 1..=4095) => Ok(ShmStreamError::Io(Errno(errno))),
         (0, _) => Err(refusal(&[12, 0])),
-        (1, _) => Ok(ShmStreamError::Protocol(V::InvalidChunkAnnouncement)),
-        (2, _) => Ok(ShmStreamError::Protocol(V::ControlOverflow)),
-        (3, _) => Ok(ShmStreamError::Protocol(V::UnknownHeader)),
+        (_, 1) => Ok(ShmStreamError::Protocol(V::InvalidChunkAnnouncement)),
+        (_, 2) => Ok(ShmStreamError::Protocol(V::ControlOverflow)),
+        (_, 3) => Ok(ShmStreamError::Protocol(V::UnknownHeader)),
         _ => Ok(ShmStreamError::Protocol(V::InvalidChunkLength)),
     }
 }
@@ -217,7 +217,7 @@ impl Flat for ShmStreamError {
     fn push_to(self, numbers: &mut Numbers) {
         match self {
             ShmStreamError::Io(errno) => numbers.push(&[0, errno.0]),
-            ShmStreamError::Protocol(violation) => numbers.push(&[violation as u64, 0]),
+            ShmStreamError::Protocol(violation) => numbers.push(&[1, violation as u64]),
         }
     }
 }

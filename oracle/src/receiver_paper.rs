@@ -99,7 +99,7 @@ const fn t(errno: u64) -> [u64; 3] {
 
 /// Terminated by a violation.
 const fn tv(violation: u64) -> [u64; 3] {
-    [2, violation, 0]
+    [2, 1, violation]
 }
 
 // Outcomes.
@@ -114,7 +114,7 @@ const fn failed(errno: u64) -> [u64; 5] {
 }
 
 const fn violated(violation: u64) -> [u64; 5] {
-    [2, 0, 0, violation, 0]
+    [2, 0, 0, 1, violation]
 }
 
 // Answers.
@@ -156,8 +156,8 @@ const STATE_ROWS: &[(&str, &[u64], &[u64])] = &[
     // The reason rule: 32 gives way, also to a violation, and nothing else does.
     (ADVANCE, &[1, 0, 32, 1, 0, 5], &[0, 1, 0, 5]),
     (ADVANCE, &[1, 0, 32, 2, 0, 5], &[0, 2, 0, 5]),
-    (ADVANCE, &[1, 0, 32, 2, 2, 0], &[0, 2, 2, 0]),
-    (ADVANCE, &[1, 2, 0, 2, 0, 5], &[0, 2, 2, 0]),
+    (ADVANCE, &[1, 0, 32, 2, 1, 2], &[0, 2, 1, 2]),
+    (ADVANCE, &[1, 1, 2, 2, 0, 5], &[0, 2, 1, 2]),
     (ADVANCE, &[2, 0, 32, 2, 0, 5], &[0, 2, 0, 32]),
 
     // An errno that does not fit, also where it would not be used.

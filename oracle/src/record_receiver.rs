@@ -88,7 +88,7 @@ fn print_head() {
     println!("#   of the destination. Before the call each is {BEFORE}, and after a refusal still");
     println!("# scheduler: L written read");
     println!(
-        "# failure: 0 and an errno, or a violation and 0; violation: 1 InvalidChunkAnnouncement,"
+        "# failure: 0 and an errno, or 1 and a violation; violation: 1 InvalidChunkAnnouncement,"
     );
     println!("#   2 ControlOverflow, 3 UnknownHeader, 4 InvalidChunkLength");
     println!(

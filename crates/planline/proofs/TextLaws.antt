@@ -1,0 +1,45 @@
+-- Laws of a text that is stored in a buffer.
+use Prim.Native.Nat.{ℕ, suc, _+_, _<_, _≤_}
+use mathlib.Core.Path.{_≡_, refl, sym, ap, _∙_}
+use mathlib.Core.List.{List, [], _∷_, _++_}
+use lib.ListN.{length, take, getD, set, length-append}
+use lib.Seq.{sets, take-suc, length-take-le}
+use native.Mathlib.Numerals.{add-one}
+use native.Mathlib.Omega.{arith}
+use Rattle.sched.specs.declared.list.ScheduledOperations.{ScheduledOperations}
+use Rattle.sched.specs.declared.list.ScheduledOperations.the-variants as list
+use Rattle.sched.specs.declared.operation.ScheduledOperation.{ScheduledOperation}
+use Rattle.planline.specs.Decimal.{decimal}
+use Rattle.planline.specs.Stored.{Stored}
+use Rattle.planline.specs.Text.{operationText, listText}
+use Rattle.planline.proofs.DecimalLaws.{sets-append, decimal-short}
+
+-- one byte more of what is stored
+pub put-next : (out₀ out bytes : List ℕ) (at i : ℕ) → out ≡ sets out₀ at (take i bytes) → i < length bytes →
+    set out (at + i) (getD bytes i 0) ≡ sets out₀ at (take (i + 1) bytes)
+put-next out₀ out bytes at i e h =
+    sym
+    (ap (λ (xs : List ℕ). sets out₀ at xs) (ap (λ (k : ℕ). take k bytes) (add-one i) ∙ take-suc bytes i 0 h)
+    ∙ sets-append (take i bytes) (getD bytes i 0 ∷ []) out₀ at
+    ∙ ap (λ (k : ℕ). set (sets out₀ at (take i bytes)) (at + k) (getD bytes i 0)) (length-take-le i bytes (omega arith))
+    ∙ ap (λ (xs : List ℕ). set xs (at + i) (getD bytes i 0)) (sym e))
+
+-- one text behind the other
+pub stored-then : {l l₁ l₂ a b : List ℕ} {i r₁ r₂ : ℕ} → Stored l i a l₁ r₁ → Stored l₁ r₁ b l₂ r₂ → Stored l i (a ++ b) l₂ r₂
+stored-then {l} {l₁} {l₂} {a} {b} {i} {r₁} {r₂} p q =
+    record {
+      end = omega (arith, length-append a b);
+      bytes = q .bytes ∙ ap (λ (x : List ℕ). sets x r₁ b) (p .bytes) ∙ ap (λ (k : ℕ). sets (sets l i a) k b) (p .end) ∙ sym (sets-append a b l i);
+    }
+
+-- ---- lengths
+pub operation-short : (a : ScheduledOperation) → length (operationText a) ≤ 42
+unfolding operationText
+operation-short a =
+    omega (arith, length-append (decimal (a .off .0)) (32 ∷ decimal (a .len)), decimal-short (a .off .0), decimal-short (a .len))
+
+pub list-short : (ops : ScheduledOperations) → length (listText ops) ≤ 85
+unfolding listText
+list-short list.None = omega arith
+list-short (list.One a) = omega (arith, operation-short a)
+list-short (list.Two a b) = omega (arith, length-append (operationText a) (operationText b), operation-short a, operation-short b)

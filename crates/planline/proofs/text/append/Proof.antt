@@ -1,0 +1,48 @@
+use borrow.Author.Needs.{needs}
+use Rattle.planline.proofs.text.append.Statement.{statement}
+use Rattle.planline.proofs.text.append.Tie as tie
+use Rattle.planline.proofs.text.append.Reads as reads
+use Rattle.planline.proofs.text.append.Lts as lts
+use Rattle.planline.proofs.line.plan_line.Reads as plan-line-reads
+use Rattle.planline.proofs.text.has_room.Reads as has-room-reads
+use Rattle.planline.proofs.text.put_plan.Reads as put-plan-reads
+
+-- src/text.rt:97:8
+has-room-requires : tie.Need-has-room-requires
+has-room-requires c κs = search needs
+
+-- src/text.rt:98:34
+plan-line-requires : tie.Need-plan-line-requires
+plan-line-requires c κs = search needs
+
+-- src/text.rt:98:9
+put-plan-requires : tie.Need-put-plan-requires
+put-plan-requires c κs = ?
+
+-- src/text.rt:98:9
+same-length : tie.Need-same-length
+same-length c = search needs
+
+-- src/text.rt:98:9
+returns : tie.Need-returns
+returns c = ?
+
+-- src/text.rt:94:1
+same-length-2 : tie.Need-same-length-2
+same-length-2 c = search needs
+
+-- src/text.rt:94:1
+returns-2 : tie.Need-returns-2
+returns-2 c = ?
+
+pub append-spec : {M : Type 1} → statement M
+append-spec =
+    tie.close
+    (tie.spec
+    has-room-requires
+    plan-line-requires
+    put-plan-requires
+    same-length
+    returns
+    same-length-2
+    returns-2)

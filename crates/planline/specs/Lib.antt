@@ -1,0 +1,4 @@
+pub mod Decimal
+pub mod Line
+pub mod Stored
+pub mod Text

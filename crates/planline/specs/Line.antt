@@ -1,0 +1,109 @@
+-- A line: L, written, read, R or W, m, one space between.
+use Prim.Native.Nat.{ℕ}
+use mathlib.Core.Bool.{cond}
+use mathlib.Core.List.{List, [], _∷_, _++_}
+use lib.Dec.{eqb, ltb}
+use lib.ListN.{length, drop}
+use Rattle.sched.specs.declared.list.OperationsAnswer.{OperationsAnswer}
+use Rattle.sched.specs.declared.list.OperationsAnswer.the-variants as operations
+use Rattle.sched.specs.declared.operation.OperationType.{OperationType}
+use Rattle.sched.specs.declared.operation.OperationType.the-variants.{Read, Write}
+use Rattle.sched.specs.Refusal.{numberOf}
+use Rattle.sched.specs.Scheduler.{schedulerOf, scheduleOf}
+use Rattle.planline.specs.declared.decimal.Number.{Number}
+use Rattle.planline.specs.declared.decimal.Number.the-variants as number
+use Rattle.planline.specs.declared.line.Asked.{Asked}
+use Rattle.planline.specs.declared.line.Kind.{Kind}
+use Rattle.planline.specs.declared.line.Kind.the-variants as kind
+use Rattle.planline.specs.declared.line.Parsed.{Parsed}
+use Rattle.planline.specs.declared.line.Parsed.the-variants as parsed
+use Rattle.planline.specs.declared.line.Plan.{Plan}
+use Rattle.planline.specs.declared.line.Plan.the-variants as plan
+use Rattle.planline.specs.Decimal.{decimal, Front, some, none, numberFront}
+
+-- ---- the well-formed line
+abbrev pub letterOf : OperationType → ℕ
+letterOf Read = 82
+letterOf Write = 87
+
+unfoldable pub lineOf : Asked → List ℕ
+lineOf a =
+    decimal (a .«buf_len») ++ (32 ∷ (decimal (a .written) ++ (32 ∷ (decimal (a .read) ++ (32 ∷ (letterOf (a .typ) ∷ (32 ∷ decimal (a .«max_len»))))))))
+
+-- ---- what a line says
+-- the answer of a reader at an index, as the bytes from there on
+abbrev pub frontIn : Number → List ℕ → Front
+frontIn (number.Of n next) line = some n (drop next line)
+frontIn number.Bad line = none
+
+unfoldable pub spaceThen : ℕ → List ℕ → Front
+spaceThen n [] = none
+spaceThen n (x ∷ xs) = cond (eqb x 32) (some n xs) none
+
+abbrev pub afterSpace : Front → Front
+afterSpace (some n xs) = spaceThen n xs
+afterSpace none = none
+
+-- a number and a space
+abbrev pub spacedFront : List ℕ → Front
+spacedFront xs = afterSpace (numberFront xs)
+
+unfoldable pub endThen : ℕ → List ℕ → Front
+endThen n [] = some n []
+endThen n (x ∷ xs) = none
+
+abbrev pub atEnd : Front → Front
+atEnd (some n xs) = endThen n xs
+atEnd none = none
+
+-- a number, and nothing behind it
+abbrev pub lastFront : List ℕ → Front
+lastFront xs = atEnd (numberFront xs)
+
+unfoldable pub kindOf : ℕ → Kind
+kindOf x = cond (eqb x 82) (kind.Of Read) (cond (eqb x 87) (kind.Of Write) kind.Bad)
+
+-- a letter and a space
+unfoldable pub kindFront : List ℕ → Kind
+kindFront [] = kind.Bad
+kindFront (x ∷ []) = kind.Bad
+kindFront (x ∷ (y ∷ xs)) = cond (eqb y 32) (kindOf x) kind.Bad
+
+abbrev pub askedOf : ℕ → ℕ → ℕ → OperationType → ℕ → Asked
+askedOf l w r t m = record { «buf_len» = l; written = w; read = r; typ = t; «max_len» = m }
+
+abbrev pub withAmount : ℕ → ℕ → ℕ → Kind → Front → Parsed
+withAmount l w r (kind.Of t) (some m xs) = parsed.Of (askedOf l w r t m)
+withAmount l w r (kind.Of t) none = parsed.Bad
+withAmount l w r kind.Bad f = parsed.Bad
+
+abbrev pub withRead : ℕ → ℕ → Front → Parsed
+withRead l w (some r xs) = withAmount l w r (kindFront xs) (lastFront (drop 2 xs))
+withRead l w none = parsed.Bad
+
+abbrev pub withWritten : ℕ → Front → Parsed
+withWritten l (some w xs) = withRead l w (spacedFront xs)
+withWritten l none = parsed.Bad
+
+abbrev pub withLength : Front → Parsed
+withLength (some l xs) = withWritten l (spacedFront xs)
+withLength none = parsed.Bad
+
+unfoldable pub parseOf : List ℕ → Parsed
+parseOf xs = withLength (spacedFront xs)
+
+-- ---- its answer
+abbrev pub planAfter : OperationsAnswer → Plan
+planAfter (operations.Of ops) = plan.Ok ops
+planAfter (operations.Refused e) = plan.Refused (numberOf e)
+
+abbrev pub planFor : Asked → Plan
+planFor a = planAfter (scheduleOf (schedulerOf (a .«buf_len») (record { 0 = a .written }) (record { 0 = a .read })) (a .typ) (a .«max_len»))
+
+abbrev pub planFrom : Parsed → Plan
+planFrom (parsed.Of a) = planFor a
+planFrom parsed.Bad = plan.Bad
+
+-- a line over 120 bytes is bad, whatever it says
+unfoldable pub planOf : List ℕ → Plan
+planOf xs = cond (ltb 120 (length xs)) plan.Bad (planFrom (parseOf xs))

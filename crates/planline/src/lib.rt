@@ -1,0 +1,11 @@
+// A line that asks the scheduler for a plan, its answer as text, and how lines are cut out of the pieces of an input.
+mod decimal;
+mod line;
+mod text;
+
+pub use line::Asked;
+pub use line::Parsed;
+pub use line::Plan;
+pub use line::parse;
+pub use line::plan_line;
+pub use text::append;

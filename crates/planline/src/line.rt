@@ -1,0 +1,206 @@
+// What a line asks, and the scheduler's answer.
+ghost use mathlib.Core.Path.{_≡_};
+ghost use lib.ListN.{drop};
+ghost use Rattle.planline.specs.Line.{frontIn, spacedFront, lastFront, kindOf, kindFront, withWritten, withRead, withAmount, parseOf, planFor, planOf};
+ghost use Rattle.sched.specs.Refusal.{numberOf};
+use crate::decimal::Number;
+use crate::decimal::number_at;
+use sched::Counter;
+use sched::OperationType;
+use sched::OperationsAnswer;
+use sched::Refusal;
+use sched::RingBufferScheduler;
+use sched::ScheduledOperations;
+
+pub struct Asked {
+    pub buf_len: u64,
+    pub written: u64,
+    pub read: u64,
+    pub typ: OperationType,
+    pub max_len: u64,
+}
+
+pub enum Parsed {
+    Of(Asked),
+    Bad,
+}
+
+pub enum Kind {
+    Of(OperationType),
+    Bad,
+}
+
+// What is printed for a line: a refusal by its number alone.
+pub enum Plan {
+    Bad,
+    Refused(u64),
+    Ok(ScheduledOperations),
+}
+
+// A number and a space.
+fn spaced(line: &[u8], at: usize) -> Number
+    ensures { λ r. ⌜ frontIn r (now (line .entry)) ≡ spacedFront (drop at (now (line .entry))) ⌝ }
+{
+    match number_at(line, at) {
+        Number::Of { n, next } => {
+            if next < line.len() {
+                if line[next] == b' ' {
+                    return Number::Of {
+                        n,
+                        next: next + 1,
+                    };
+                }
+            }
+            Number::Bad
+        }
+        Number::Bad => Number::Bad,
+    }
+}
+
+// A number, and the line's end.
+fn last(line: &[u8], at: usize) -> Number
+    ensures { λ r. ⌜ frontIn r (now (line .entry)) ≡ lastFront (drop at (now (line .entry))) ⌝ }
+{
+    match number_at(line, at) {
+        Number::Of { n, next } => {
+            if next < line.len() {
+                return Number::Bad;
+            }
+            Number::Of { n, next }
+        }
+        Number::Bad => Number::Bad,
+    }
+}
+
+fn kind_of(byte: u8) -> Kind
+    ensures { λ r. ⌜ r ≡ kindOf byte ⌝ }
+{
+    if byte == b'R' {
+        return Kind::Of(OperationType::Read);
+    }
+    if byte == b'W' {
+        return Kind::Of(OperationType::Write);
+    }
+    Kind::Bad
+}
+
+// A letter and a space.
+fn kind_at(line: &[u8], at: usize) -> Kind
+    ensures { λ r. ⌜ r ≡ kindFront (drop at (now (line .entry))) ⌝ }
+{
+    if at >= line.len() {
+        return Kind::Bad;
+    }
+    let next = at + 1;
+    if next >= line.len() {
+        return Kind::Bad;
+    }
+    if line[next] == b' ' {
+        return kind_of(line[at]);
+    }
+    Kind::Bad
+}
+
+// What the whole line asks; bad where it is none of the grammar.
+pub fn parse(line: &[u8]) -> Parsed
+    ensures { λ r. ⌜ r ≡ parseOf (now (line .entry)) ⌝ }
+{
+    match spaced(line, 0) {
+        Number::Of { n, next } => after_length(line, next, n),
+        Number::Bad => Parsed::Bad,
+    }
+}
+
+fn after_length(line: &[u8], at: usize, buf_len: u64) -> Parsed
+    ensures { λ r. ⌜ r ≡ withWritten «buf_len» (spacedFront (drop at (now (line .entry)))) ⌝ }
+{
+    match spaced(line, at) {
+        Number::Of { n, next } => after_written(line, next, buf_len, n),
+        Number::Bad => Parsed::Bad,
+    }
+}
+
+fn after_written(line: &[u8], at: usize, buf_len: u64, written: u64) -> Parsed
+    ensures { λ r. ⌜ r ≡ withRead «buf_len» written (spacedFront (drop at (now (line .entry)))) ⌝ }
+{
+    match spaced(line, at) {
+        Number::Of { n, next } => after_read(line, next, buf_len, written, n),
+        Number::Bad => Parsed::Bad,
+    }
+}
+
+fn after_read(line: &[u8], at: usize, buf_len: u64, written: u64, read: u64) -> Parsed
+    ensures { λ r. ⌜ r ≡ withAmount «buf_len» written read (kindFront (drop at (now (line .entry)))) (lastFront (drop 2 (drop at (now (line .entry))))) ⌝ }
+{
+    match kind_at(line, at) {
+        Kind::Of(typ) => match last(line, at + 2) {
+            Number::Of { n, next: _ } => Parsed::Of(Asked {
+                buf_len,
+                written,
+                read,
+                typ,
+                max_len: n,
+            }),
+            Number::Bad => Parsed::Bad,
+        },
+        Kind::Bad => Parsed::Bad,
+    }
+}
+
+// The answer to a line; bad before refused.
+pub fn plan_line(line: &[u8]) -> Plan
+    ensures { λ r. ⌜ r ≡ planOf (now (line .entry)) ⌝ }
+{
+    if line.len() > 120 {
+        return Plan::Bad;
+    }
+    match parse(line) {
+        Parsed::Of(asked) => plan_for(asked),
+        Parsed::Bad => Plan::Bad,
+    }
+}
+
+fn plan_for(asked: Asked) -> Plan
+    ensures { λ r. ⌜ r ≡ planFor asked ⌝ }
+{
+    let scheduler = RingBufferScheduler {
+        buf_len: asked.buf_len,
+        items_read: Counter(asked.read),
+        items_written: Counter(asked.written),
+    };
+    let typ = asked.typ;
+    match scheduler.schedule_contiguous_operations(typ, asked.max_len) {
+        OperationsAnswer::Of(list) => Plan::Ok(list),
+        OperationsAnswer::Refused(e) => Plan::Refused(number_of(e)),
+    }
+}
+
+// The paper's number of a refusal.
+fn number_of(e: Refusal) -> u64
+    ensures { λ r. ⌜ r ≡ numberOf e ⌝ }
+{
+    match e {
+        Refusal::ZeroBufferLength => 1,
+        Refusal::BufferTooLarge { buf_len: _ } => 2,
+        Refusal::ItemsWrittenOutOfBounds {
+            buf_len: _,
+            items_written: _,
+        } => 3,
+        Refusal::ItemsReadOutofBounds {
+            buf_len: _,
+            items_read: _,
+        } => 4,
+        Refusal::DataAvailOutOfBounds {
+            buf_len: _,
+            items_written: _,
+            items_read: _,
+        } => 5,
+        Refusal::OperationTooLarge {
+            op_type: _,
+            op_len: _,
+            max_len: _,
+        } => 6,
+        Refusal::OperationTooLong { excess: _ } => 7,
+        Refusal::InconsistentOperationType => 8,
+    }
+}

@@ -1,0 +1,97 @@
+// A plan's text, behind what a lent buffer holds already.
+ghost use mathlib.Core.Path.{_≡_};
+ghost use Prim.Native.Nat.{_+_, _≤_};
+ghost use lib.ListN.{length};
+ghost use lib.Dec.{leb};
+ghost use Rattle.planline.specs.Line.{planOf};
+ghost use Rattle.planline.specs.Stored.{Stored};
+ghost use Rattle.planline.specs.Text.{operationText, listText, planText, filled, longest, appendOf};
+use crate::decimal::put_decimal;
+use crate::line::Plan;
+use crate::line::plan_line;
+use sched::ScheduledOperation;
+use sched::ScheduledOperations;
+
+// No text is longer.
+pub const LONGEST: usize = 96;
+
+// The bytes at `at`; answers the index behind them.
+fn put(out: &mut [u8], at: usize, bytes: &[u8]) -> usize
+    requires { ⌜ at + length (now bytes) ≤ length (now out) ⌝ }
+    ensures { λ r. ⌜ Stored (now (out .entry)) at (now (bytes .entry)) (now (out .exit)) r ⌝ }
+{
+    let mut i = 0;
+    while i < bytes.len() {
+        out[at + i] = bytes[i];
+        i += 1;
+    }
+    at + i
+}
+
+fn put_operation(out: &mut [u8], at: usize, op: ScheduledOperation) -> usize
+    requires { ⌜ at + 42 ≤ length (now out) ⌝ }
+    ensures { λ r. ⌜ Stored (now (out .entry)) at (operationText op) (now (out .exit)) r ⌝ }
+{
+    let offset = put(out, at, b" ");
+    let space = put_decimal(out, offset, op.off.0);
+    let len = put(out, space, b" ");
+    put_decimal(out, len, op.len)
+}
+
+fn put_list(out: &mut [u8], at: usize, list: ScheduledOperations) -> usize
+    requires { ⌜ at + 85 ≤ length (now out) ⌝ }
+    ensures { λ r. ⌜ Stored (now (out .entry)) at (listText list) (now (out .exit)) r ⌝ }
+{
+    match list {
+        ScheduledOperations::None => put(out, at, b"0"),
+        ScheduledOperations::One(a) => {
+            let first = put(out, at, b"1");
+            put_operation(out, first, a)
+        }
+        ScheduledOperations::Two(a, b) => {
+            let first = put(out, at, b"2");
+            let second = put_operation(out, first, a);
+            put_operation(out, second, b)
+        }
+    }
+}
+
+fn put_plan(out: &mut [u8], at: usize, plan: Plan) -> usize
+    requires { ⌜ at + 89 ≤ length (now out) ⌝ }
+    ensures { λ r. ⌜ Stored (now (out .entry)) at (planText plan) (now (out .exit)) r ⌝ }
+{
+    match plan {
+        Plan::Bad => put(out, at, b"bad\n"),
+        Plan::Refused(n) => {
+            let number = put(out, at, b"refused ");
+            let end = put_decimal(out, number, n);
+            put(out, end, b"\n")
+        }
+        Plan::Ok(list) => {
+            let count = put(out, at, b"ok ");
+            let end = put_list(out, count, list);
+            put(out, end, b"\n")
+        }
+    }
+}
+
+// Whether the longest text has room behind `at`.
+fn has_room(out: &[u8], at: usize) -> bool
+    ensures { λ r. ⌜ r ≡ leb (at + longest) (length (now (out .entry))) ⌝ }
+{
+    if out.len() < LONGEST {
+        return false;
+    }
+    at <= out.len() - LONGEST
+}
+
+// The line's answer at `at` of the buffer, with its line feed; answers the index behind it. A buffer without room for the
+// longest text stays as it is, and the index too.
+pub fn append(line: &[u8], out: &mut [u8], at: usize) -> usize
+    ensures { λ r. ⌜ filled r (now (out .exit)) ≡ appendOf (planText (planOf (now (line .entry)))) (filled at (now (out .entry))) ⌝ }
+{
+    if has_room(out, at) {
+        return put_plan(out, at, plan_line(line));
+    }
+    at
+}

@@ -2,6 +2,8 @@
 use Prim.Native.Nat.{ℕ, suc, _+_, _<_, _≤_}
 use mathlib.Core.Path.{_≡_, refl, sym, ap, _∙_}
 use mathlib.Core.List.{List, [], _∷_, _++_}
+use mathlib.Core.Bool.{true, false}
+use lib.Dec.{leb}
 use lib.ListN.{length, take, getD, set, length-append}
 use lib.Seq.{sets, take-suc, length-take-le}
 use native.Mathlib.Numerals.{add-one}
@@ -11,7 +13,7 @@ use Rattle.sched.specs.declared.list.ScheduledOperations.the-variants as list
 use Rattle.sched.specs.declared.operation.ScheduledOperation.{ScheduledOperation}
 use Rattle.planline.specs.Decimal.{decimal}
 use Rattle.planline.specs.Stored.{Stored}
-use Rattle.planline.specs.Text.{operationText, listText}
+use Rattle.planline.specs.Text.{operationText, listText, filled, longest, appendOf}
 use Rattle.planline.proofs.DecimalLaws.{sets-append, decimal-short}
 
 -- one byte more of what is stored
@@ -43,3 +45,12 @@ unfolding listText
 list-short list.None = omega arith
 list-short (list.One a) = omega (arith, operation-short a)
 list-short (list.Two a b) = omega (arith, length-append (operationText a) (operationText b), operation-short a, operation-short b)
+
+-- ---- the text behind what a buffer holds
+pub append-room : (text out out′ : List ℕ) (at r : ℕ) → leb (at + longest) (length out) ≡ true → Stored out at text out′ r → filled r out′ ≡ appendOf text (filled at out)
+unfolding appendOf
+append-room text out out′ at r h p = rw (h, p .end, p .bytes)
+
+pub append-full : (text out : List ℕ) (at : ℕ) → leb (at + longest) (length out) ≡ false → filled at out ≡ appendOf text (filled at out)
+unfolding appendOf
+append-full text out at h = rw h

@@ -1,3 +1,7 @@
+use Rattle.planline.proofs.TextLaws.{stored-then, list-short}
+use Rattle.planline.proofs.DecimalLaws.{decimal-short}
+use Rattle.planline.specs.Text.{planText}
+use native.Mathlib.Omega.{arith}
 use borrow.Author.Needs.{needs}
 use Rattle.planline.proofs.text.put_plan.Statement.{statement}
 use Rattle.planline.proofs.text.put_plan.Tie as tie
@@ -17,7 +21,7 @@ slice-aggregate-put c = search needs
 
 -- src/text.rt:68:22
 put-requires : tie.Need-put-requires
-put-requires c κs = ?
+put-requires c κs = omega arith
 
 -- src/text.rt:69:23
 enum-known-plan : tie.Need-enum-known-plan
@@ -29,11 +33,11 @@ slice-aggregate-put-2 c = search needs
 
 -- src/text.rt:70:17
 put-requires-2 : tie.Need-put-requires-2
-put-requires-2 c κs = ?
+put-requires-2 c κs = omega arith
 
 -- src/text.rt:71:17
 put-decimal-requires : tie.Need-put-decimal-requires
-put-decimal-requires c κs = ?
+put-decimal-requires c κs = omega (arith, decimal-short (c .before .before .before .before .before .before .before .plan .given .0 .0))
 
 -- src/text.rt:72:27
 slice-aggregate-put-3 : tie.Need-slice-aggregate-put-3
@@ -41,7 +45,7 @@ slice-aggregate-put-3 c = search needs
 
 -- src/text.rt:72:13
 put-requires-3 : tie.Need-put-requires-3
-put-requires-3 c κs = ?
+put-requires-3 c κs = omega (arith, decimal-short (c .before .before .before .before .before .before .before .before .before .before .before .before .plan .given .0 .0))
 
 -- src/text.rt:74:18
 enum-known-plan-2 : tie.Need-enum-known-plan-2
@@ -53,11 +57,11 @@ slice-aggregate-put-4 c = search needs
 
 -- src/text.rt:75:17
 put-requires-4 : tie.Need-put-requires-4
-put-requires-4 c κs = ?
+put-requires-4 c κs = omega arith
 
 -- src/text.rt:76:17
 put-list-requires : tie.Need-put-list-requires
-put-list-requires c κs = ?
+put-list-requires c κs = omega arith
 
 -- src/text.rt:77:27
 slice-aggregate-put-5 : tie.Need-slice-aggregate-put-5
@@ -65,7 +69,7 @@ slice-aggregate-put-5 c = search needs
 
 -- src/text.rt:77:13
 put-requires-5 : tie.Need-put-requires-5
-put-requires-5 c κs = ?
+put-requires-5 c κs = omega (arith, list-short (c .before .before .before .before .before .before .before .before .before .before .before .before .plan2 .given .0 .0))
 
 -- src/text.rt:62:1
 same-length : tie.Need-same-length
@@ -73,7 +77,8 @@ same-length c = search needs
 
 -- src/text.rt:62:1
 returns : tie.Need-returns
-returns c = ?
+unfolding planText
+returns c = rw (c .before .before .before .before .before .enum-told .given .1) (c .before .before .put .ensures)
 
 -- src/text.rt:62:1
 same-length-2 : tie.Need-same-length-2
@@ -81,7 +86,8 @@ same-length-2 c = search needs
 
 -- src/text.rt:62:1
 returns-2 : tie.Need-returns-2
-returns-2 c = ?
+unfolding planText
+returns-2 c = rw (c .before .before .before .before .before .before .before .before .before .before .before .before .before .before .before .plan .given .1) (stored-then (c .before .before .before .before .before .before .before .before .before .before .before .put2 .ensures) (stored-then (c .before .before .before .before .before .before .before .put-decimal .ensures) (c .before .before .put3 .ensures)))
 
 -- src/text.rt:62:1
 same-length-3 : tie.Need-same-length-3
@@ -89,7 +95,8 @@ same-length-3 c = search needs
 
 -- src/text.rt:62:1
 returns-3 : tie.Need-returns-3
-returns-3 c = ?
+unfolding planText
+returns-3 c = rw (c .before .before .before .before .before .before .before .before .before .before .before .before .before .before .before .plan2 .given .1) (stored-then (c .before .before .before .before .before .before .before .before .before .before .before .put4 .ensures) (stored-then (c .before .before .before .before .before .before .before .put-list .ensures) (c .before .before .put5 .ensures)))
 
 pub put-plan-spec : {M : Type 1} → statement M
 put-plan-spec =

@@ -1,3 +1,4 @@
+pub mod CutLaws
 pub mod DecimalLaws
 pub mod LineLaws
 pub mod TextLaws

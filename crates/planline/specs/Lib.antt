@@ -1,3 +1,4 @@
+pub mod Cut
 pub mod Decimal
 pub mod Line
 pub mod Stored

@@ -1,8 +1,12 @@
 // A line that asks the scheduler for a plan, its answer as text, and how lines are cut out of the pieces of an input.
+mod cut;
 mod decimal;
 mod line;
 mod text;
 
+pub use cut::Cut;
+pub use cut::answer_last;
+pub use cut::answer_next;
 pub use line::Asked;
 pub use line::Parsed;
 pub use line::Plan;

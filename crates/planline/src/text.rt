@@ -76,7 +76,7 @@ fn put_plan(out: &mut [u8], at: usize, plan: Plan) -> usize
 }
 
 // Whether the longest text has room behind `at`.
-fn has_room(out: &[u8], at: usize) -> bool
+pub(crate) fn has_room(out: &[u8], at: usize) -> bool
     ensures { λ r. ⌜ r ≡ leb (at + longest) (length (now (out .entry))) ⌝ }
 {
     if out.len() < LONGEST {

@@ -36,7 +36,7 @@ digit-bounds x p = go (leb 48 x) refl (leb x 57) refl p
     go false q b r p = absurd (let z : _≡_ {A = ℕ} 0 1 = cc in omega arith)
 
 -- ---- the decimal form
-tenth : (n m : ℕ) → n < m * 10 → n / 10 < m
+pub tenth : (n m : ℕ) → n < m * 10 → n / 10 < m
 tenth n m h = omega (arith, div-add-mod' n 10)
 
 digits-one : (k n : ℕ) → n < 10 → digitsBy (suc k) n ≡ (48 + n) ∷ []

@@ -1,4 +1,7 @@
 pub mod CutLaws
 pub mod DecimalLaws
+pub mod Decided
+pub mod DecimalForm
+pub mod Grammar
 pub mod LineLaws
 pub mod TextLaws

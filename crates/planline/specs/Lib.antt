@@ -1,5 +1,6 @@
 pub mod Cut
 pub mod Decimal
+pub mod Grammar
 pub mod Line
 pub mod Stored
 pub mod Text

@@ -9,7 +9,8 @@ use lib.ListN.{length, take, drop, getD, set, drop-of-length-le}
 use native.Mathlib.Omega.{arith}
 use borrow.Author.Tests.{eq-eqb, ne-eqb, lt-ltb, le-ltb, le-leb, lt-leb}
 use Rattle.modular.proofs.Laws.{lt-or-le}
-use Rattle.planline.specs.Cut.{lineText, holdOf, Took, took, takeOf, step, stepAfter, isReady, capped, stepOf, lastOf}
+use Rattle.planline.specs.Cut.{holdOf, Took, took, takeOf, step, stepAfter, isReady, capped, stepOf, lastOf}
+use Rattle.planline.specs.Input.{lineText}
 use Rattle.planline.specs.Text.{Filled, filled, longest, appendOf}
 use Rattle.planline.proofs.DecimalLaws.{at-cons}
 
@@ -34,7 +35,7 @@ module _ (h : Filled) (xs : List ℕ) (i : ℕ) where
   unfolding takeOf
   take-byte k e = rw (at-cons xs i k, ne-eqb _ _ e)
 
-hold-capped : (h : Filled) (b : ℕ) → h .at ≤ 121 → holdOf h b .at ≤ 121
+pub hold-capped : (h : Filled) (b : ℕ) → h .at ≤ 121 → holdOf h b .at ≤ 121
 hold-capped h b k =
     ⊎-elim
     (λ room. omega (arith, ap (λ (x : Filled). x .at) (hold-room (h .at) (h .bytes) b room)))

@@ -5,3 +5,5 @@ pub mod DecimalForm
 pub mod Grammar
 pub mod LineLaws
 pub mod TextLaws
+pub mod Pieces
+pub mod Steps

@@ -4,16 +4,19 @@ use mathlib.Core.Path.{_≡_, refl, sym, ap, _∙_}
 use mathlib.Core.List.{List, [], _∷_, _++_}
 use mathlib.Core.Bool.{true, false}
 use lib.Dec.{leb}
-use lib.ListN.{length, take, getD, set, length-append}
-use lib.Seq.{sets, take-suc, length-take-le}
+use borrow.Author.Tests.{leb-true}
+use lib.ListN.{length, take, drop, getD, set, length-append}
+use lib.Seq.{sets, sets-eq, take-suc, take-at, length-take-le}
 use native.Mathlib.Numerals.{add-one}
 use native.Mathlib.Omega.{arith}
 use Rattle.sched.specs.declared.list.ScheduledOperations.{ScheduledOperations}
 use Rattle.sched.specs.declared.list.ScheduledOperations.the-variants as list
 use Rattle.sched.specs.declared.operation.ScheduledOperation.{ScheduledOperation}
+use Rattle.planline.specs.declared.line.Plan.{Plan}
+use Rattle.planline.specs.declared.line.Plan.the-variants as plan
 use Rattle.planline.specs.Decimal.{decimal}
 use Rattle.planline.specs.Stored.{Stored}
-use Rattle.planline.specs.Text.{operationText, listText, filled, longest, appendOf}
+use Rattle.planline.specs.Text.{operationText, listText, planText, Filled, filled, longest, appendOf}
 use Rattle.planline.proofs.DecimalLaws.{sets-append, decimal-short}
 
 -- one byte more of what is stored
@@ -34,6 +37,12 @@ stored-then {l} {l₁} {l₂} {a} {b} {i} {r₁} {r₂} p q =
       bytes = q .bytes ∙ ap (λ (x : List ℕ). sets x r₁ b) (p .bytes) ∙ ap (λ (k : ℕ). sets (sets l i a) k b) (p .end) ∙ sym (sets-append a b l i);
     }
 
+-- what stands before the end of a text
+pub sets-taken : (text l : List ℕ) (i : ℕ) → i + length text ≤ length l → take (i + length text) (sets l i text) ≡ take i l ++ text
+sets-taken text l i h =
+    ap (λ (x : List ℕ). take (i + length text) x) (sets-eq text l i h)
+    ∙ take-at (take i l ++ text) (drop (i + length text) l) (i + length text) (length-append (take i l) text ∙ ap (λ (k : ℕ). k + length text) (length-take-le i l (omega arith)))
+
 -- ---- lengths
 pub operation-short : (a : ScheduledOperation) → length (operationText a) ≤ 42
 unfolding operationText
@@ -46,6 +55,12 @@ list-short list.None = omega arith
 list-short (list.One a) = omega (arith, operation-short a)
 list-short (list.Two a b) = omega (arith, length-append (operationText a) (operationText b), operation-short a, operation-short b)
 
+pub plan-text-short : (p : Plan) → length (planText p) ≤ 89
+unfolding planText
+plan-text-short plan.Bad = omega arith
+plan-text-short (plan.Refused n) = omega (arith, length-append (decimal n) (10 ∷ []), decimal-short n)
+plan-text-short (plan.Ok ops) = omega (arith, length-append (listText ops) (10 ∷ []), list-short ops)
+
 -- ---- the text behind what a buffer holds
 pub append-room : (text out out′ : List ℕ) (at r : ℕ) → leb (at + longest) (length out) ≡ true → Stored out at text out′ r → filled r out′ ≡ appendOf text (filled at out)
 unfolding appendOf
@@ -54,3 +69,10 @@ append-room text out out′ at r h p = rw (h, p .end, p .bytes)
 pub append-full : (text out : List ℕ) (at : ℕ) → leb (at + longest) (length out) ≡ false → filled at out ≡ appendOf text (filled at out)
 unfolding appendOf
 append-full text out at h = rw h
+
+pub append-taken : (text : List ℕ) (o : Filled) → leb (o .at + longest) (length (o .bytes)) ≡ true → length text ≤ longest →
+    take (appendOf text o .at) (appendOf text o .bytes) ≡ take (o .at) (o .bytes) ++ text
+unfolding appendOf
+append-taken text o h k =
+    let r : o .at + longest ≤ length (o .bytes) = leb-true _ _ h in
+    rw h (sets-taken text (o .bytes) (o .at) (omega arith))

@@ -2,28 +2,11 @@
 -- is bad, whatever its other bytes are.
 use Prim.Native.Nat.{ℕ, _+_, min}
 use mathlib.Core.Bool.{Bool, true, false, cond}
-use mathlib.Core.List.{List, [], _∷_, _++_}
+use mathlib.Core.List.{List, [], _∷_}
 use lib.Dec.{eqb, ltb, leb}
 use lib.ListN.{length, take, drop, set}
-use Rattle.planline.specs.Line.{planOf}
-use Rattle.planline.specs.Text.{Filled, filled, longest, planText, appendOf}
-
--- ---- the input's lines
--- the line so far, and the bytes behind it; a last line that is empty is none
-unfoldable pub linesFrom : List ℕ → List ℕ → List (List ℕ)
-linesFrom [] [] = []
-linesFrom (x ∷ line) [] = (x ∷ line) ∷ []
-linesFrom line (b ∷ bs) = cond (eqb b 10) (line ∷ linesFrom [] bs) (linesFrom (line ++ (b ∷ [])) bs)
-
-abbrev pub linesOf : List ℕ → List (List ℕ)
-linesOf xs = linesFrom [] xs
-
-abbrev pub lineText : List ℕ → List ℕ
-lineText line = planText (planOf line)
-
-unfoldable pub textsOf : List (List ℕ) → List ℕ
-textsOf [] = []
-textsOf (line ∷ lines) = lineText line ++ textsOf lines
+use Rattle.planline.specs.Input.{lineText}
+use Rattle.planline.specs.Text.{Filled, filled, longest, appendOf}
 
 -- ---- what is held, and the line behind it
 unfoldable pub holdOf : Filled → ℕ → Filled

@@ -33,12 +33,12 @@ front-positive (suc k) n xs h p f =
     ⊎-elim
     (λ small. rw (decimal-one n small) (front-first n xs p small))
     (λ large.
-      let m : n % 10 < 10 = mod-lt n (omega arith) in
-      ap (λ (ys : List ℕ). numberFront (ys ++ xs)) (decimal-more n large (omega arith))
-      ∙ ap numberFront (append-assoc (decimal (n / 10)) ((48 + n % 10) ∷ []) xs)
-      ∙ front-positive k (n / 10) ((48 + n % 10) ∷ xs) (tenth n (10 ^ k) (rw (pow-suc 10 k) at h)) (omega (arith, div-add-mod' n 10)) (omega (arith, div-add-mod' n 10))
-      ∙ on-digit (n / 10) (n % 10) xs m (omega (arith, div-add-mod' n 10))
-      ∙ ap (λ (v : ℕ). digitsOn v xs) (div-add-mod' n 10))
+    let m : n % 10 < 10 = mod-lt n (omega arith) in
+    ap (λ (ys : List ℕ). numberFront (ys ++ xs)) (decimal-more n large (omega arith))
+    ∙ ap numberFront (append-assoc (decimal (n / 10)) ((48 + n % 10) ∷ []) xs)
+    ∙ front-positive k (n / 10) ((48 + n % 10) ∷ xs) (tenth n (10 ^ k) (rw (pow-suc 10 k) at h)) (omega (arith, div-add-mod' n 10)) (omega (arith, div-add-mod' n 10))
+    ∙ on-digit (n / 10) (n % 10) xs m (omega (arith, div-add-mod' n 10))
+    ∙ ap (λ (v : ℕ). digitsOn v xs) (div-add-mod' n 10))
     (lt-or-le n 10)
 
 front-nothing : (xs : List ℕ) → numberFront (decimal 0 ++ xs) ≡ some 0 xs

@@ -57,9 +57,9 @@ digits-enough (suc k) n h =
     ⊎-elim
     (λ small. digits-one (suc (suc k)) n small ∙ sym (digits-one (suc k) n small))
     (λ large.
-      digits-more (suc (suc k)) n large
-      ∙ ap (λ (xs : List ℕ). xs ++ ((48 + n % 10) ∷ [])) (digits-enough k (n / 10) (tenth n (10 ^ suc k) (rw (pow-suc 10 (suc k)) at h)))
-      ∙ sym (digits-more (suc k) n large))
+    digits-more (suc (suc k)) n large
+    ∙ ap (λ (xs : List ℕ). xs ++ ((48 + n % 10) ∷ [])) (digits-enough k (n / 10) (tenth n (10 ^ suc k) (rw (pow-suc 10 (suc k)) at h)))
+    ∙ sym (digits-more (suc k) n large))
     (lt-or-le n 10)
 
 pub decimal-one : (n : ℕ) → n < 10 → decimal n ≡ (48 + n) ∷ []

@@ -136,8 +136,8 @@ module _ (xs : List ℕ) (a : Asked) where
         rw (← c)
         (record {
           is =
-            p .0
-            ∙ ap (λ (x : List ℕ). decimal l ++ (32 ∷ x))
+              p .0
+              ∙ ap (λ (x : List ℕ). decimal l ++ (32 ∷ x))
               (q .0 ∙ ap (λ (x : List ℕ). decimal w ++ (32 ∷ x)) (s .0 ∙ ap (λ (x : List ℕ). decimal r ++ (32 ∷ x)) v));
           fits = record { buf = p .1; written = q .1; read = s .1; max = d .1 };
         })

@@ -28,13 +28,13 @@ hold-line : (h : Filled) (b : ℕ) → Held h → heldLine (holdOf h b) ≡ take
 hold-line h b k =
     ⊎-elim
     (λ room.
-      ap heldLine (sym (hold-room (h .at) (h .bytes) b room))
-      ∙ ap (λ (n : ℕ). take n (set (h .bytes) (h .at) b)) (add-one (h .at))
-      ∙ take-suc-set (h .bytes) (h .at) b (omega arith)
-      ∙ sym (take-all 121 (heldLine h ++ (b ∷ [])) (omega (arith, length-append (heldLine h) (b ∷ []), length-take (h .at) (h .bytes)))))
+    ap heldLine (sym (hold-room (h .at) (h .bytes) b room))
+    ∙ ap (λ (n : ℕ). take n (set (h .bytes) (h .at) b)) (add-one (h .at))
+    ∙ take-suc-set (h .bytes) (h .at) b (omega arith)
+    ∙ sym (take-all 121 (heldLine h ++ (b ∷ [])) (omega (arith, length-append (heldLine h) (b ∷ []), length-take (h .at) (h .bytes)))))
     (λ full.
-      ap heldLine (sym (hold-full (h .at) (h .bytes) b full))
-      ∙ sym (take-at (heldLine h) (b ∷ []) 121 (omega (arith, length-take (h .at) (h .bytes)))))
+    ap heldLine (sym (hold-full (h .at) (h .bytes) b full))
+    ∙ sym (take-at (heldLine h) (b ∷ []) 121 (omega (arith, length-take (h .at) (h .bytes)))))
     (lt-or-le (h .at) 121)
 
 hold-held : (h : Filled) (b : ℕ) → Held h → Held (holdOf h b)
@@ -42,10 +42,10 @@ hold-held h b k =
     record {
       few = hold-capped h b (k .few);
       room =
-        ⊎-elim
-        (λ room. omega (arith, ap (λ (x : Filled). length (x .bytes)) (hold-room (h .at) (h .bytes) b room), length-set (h .bytes) (h .at) b))
-        (λ full. omega (arith, ap (λ (x : Filled). length (x .bytes)) (hold-full (h .at) (h .bytes) b full)))
-        (lt-or-le (h .at) 121);
+          ⊎-elim
+          (λ room. omega (arith, ap (λ (x : Filled). length (x .bytes)) (hold-room (h .at) (h .bytes) b room), length-set (h .bytes) (h .at) b))
+          (λ full. omega (arith, ap (λ (x : Filled). length (x .bytes)) (hold-full (h .at) (h .bytes) b full)))
+          (lt-or-le (h .at) 121);
     }
 
 -- the state after what was taken
@@ -99,10 +99,10 @@ taken (b ∷ bs) h i text k = go (eqb b 10) refl (taken bs (holdOf h b) (i + 1) 
         rw (take-byte b bs h i e)
         (record {
           same =
-            eat-byte b bs (heldLine h) text e
-            ∙ ap (λ (l : List ℕ). eatAll (eaten l text) bs) (sym (hold-line h b k))
-            ∙ r .same
-            ∙ ap (λ (n : ℕ). eatAll (after (takeOf (holdOf h b) (i + 1) bs) text) (drop n (b ∷ bs))) (sym d);
+              eat-byte b bs (heldLine h) text e
+              ∙ ap (λ (l : List ℕ). eatAll (eaten l text) bs) (sym (hold-line h b k))
+              ∙ r .same
+              ∙ ap (λ (n : ℕ). eatAll (after (takeOf (holdOf h b) (i + 1) bs) text) (drop n (b ∷ bs))) (sym d);
           held = r .held;
           more = omega (arith, r .more);
         })
@@ -156,10 +156,10 @@ module _ (h : Filled) (i : ℕ) (piece : List ℕ) (o : Filled) (written : List 
           rw (after-whole t o e)
           (record {
             same =
-              r .same
-              ∙ ap (λ (b : Bool). eatAll (cond b (eaten [] ((written ++ heldLine o) ++ lineText (heldLine (t .held)))) (eaten (heldLine (t .held)) (written ++ heldLine o))) (drop (t .next - i) (drop i piece))) e
-              ∙ ap (λ (x : List ℕ). eatAll (eaten [] ((written ++ heldLine o) ++ lineText (heldLine (t .held)))) x) (here (t .next) (omega (arith, r .more)))
-              ∙ ap (λ (x : List ℕ). eatAll (eaten [] x) (drop (t .next) piece)) (answered (heldLine (t .held)));
+                r .same
+                ∙ ap (λ (b : Bool). eatAll (cond b (eaten [] ((written ++ heldLine o) ++ lineText (heldLine (t .held)))) (eaten (heldLine (t .held)) (written ++ heldLine o))) (drop (t .next - i) (drop i piece))) e
+                ∙ ap (λ (x : List ℕ). eatAll (eaten [] ((written ++ heldLine o) ++ lineText (heldLine (t .held)))) x) (here (t .next) (omega (arith, r .more)))
+                ∙ ap (λ (x : List ℕ). eatAll (eaten [] x) (drop (t .next) piece)) (answered (heldLine (t .held)));
             held = record { few = omega arith; room = r .held .room };
             more = more-is (t .next) (r .more);
           })
@@ -167,9 +167,9 @@ module _ (h : Filled) (i : ℕ) (piece : List ℕ) (o : Filled) (written : List 
           rw (after-part t o e)
           (record {
             same =
-              r .same
-              ∙ ap (λ (b : Bool). eatAll (cond b (eaten [] ((written ++ heldLine o) ++ lineText (heldLine (t .held)))) (eaten (heldLine (t .held)) (written ++ heldLine o))) (drop (t .next - i) (drop i piece))) e
-              ∙ ap (λ (x : List ℕ). eatAll (stateOf (t .held) written o) x) (here (t .next) (omega (arith, r .more)));
+                r .same
+                ∙ ap (λ (b : Bool). eatAll (cond b (eaten [] ((written ++ heldLine o) ++ lineText (heldLine (t .held)))) (eaten (heldLine (t .held)) (written ++ heldLine o))) (drop (t .next - i) (drop i piece))) e
+                ∙ ap (λ (x : List ℕ). eatAll (stateOf (t .held) written o) x) (here (t .next) (omega (arith, r .more)));
             held = r .held;
             more = more-is (t .next) (r .more);
           })

@@ -9,10 +9,7 @@ ghost use Rattle.planline.specs.Stored.{Stored};
 
 // A number, and the index behind it.
 pub enum Number {
-    Of {
-        n: u64,
-        next: usize,
-    },
+    Of { n: u64, next: usize },
     Bad,
 }
 
@@ -75,10 +72,7 @@ pub(crate) fn number_at(line: &[u8], at: usize) -> Number
     }
     let byte = line[at];
     if byte == 48 {
-        return Number::Of {
-            n: 0,
-            next: at + 1,
-        };
+        return Number::Of { n: 0, next: at + 1 };
     }
     if is_digit(byte) {
         return digits_on(line, at + 1, digit_of(byte));

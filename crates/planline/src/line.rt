@@ -45,10 +45,7 @@ fn spaced(line: &[u8], at: usize) -> Number
         Number::Of { n, next } => {
             if next < line.len() {
                 if line[next] == b' ' {
-                    return Number::Of {
-                        n,
-                        next: next + 1,
-                    };
+                    return Number::Of { n, next: next + 1 };
                 }
             }
             Number::Bad

@@ -1,13 +1,9 @@
+-- Safe, and ends: the measure is the turns that are left.
 use mathlib.Core.Path.{_≡_}
 use lib.ListN.{length}
 use borrow.Author.Needs.{needs}
 use Rattle.ringplan.proofs.answer_piece.Statement.{statement}
 use Rattle.ringplan.proofs.answer_piece.Tie as tie
-use Rattle.ringplan.proofs.answer_piece.Reads as reads
-use Rattle.ringplan.proofs.answer_piece.Lts as lts
-use Rattle.ringplan.proofs.answer_one.Reads as answer-one-reads
-use Rattle.ringplan.proofs.has_more.Reads as has-more-reads
-use Rattle.ringplan.proofs.print.Reads as print-reads
 
 abbrev Inv-loop : tie.InvT-loop
 Inv-loop line₀ held piece out₀ progress₀ turns₀ line out progress turns =
@@ -16,67 +12,51 @@ Inv-loop line₀ held piece out₀ progress₀ turns₀ line out progress turns 
 abbrev μ-loop : tie.MeasureT-loop
 μ-loop line₀ held piece out₀ progress₀ turns₀ line out progress turns = turns
 
--- src/main.rt:75:5
 loop-holds : tie.Need-loop-holds Inv-loop μ-loop
 loop-holds c = search needs
 
--- src/main.rt:75:24
 has-more-requires : tie.Need-has-more-requires Inv-loop μ-loop
 has-more-requires c κs = search needs
 
--- src/main.rt:77:9
 answer-one-requires : tie.Need-answer-one-requires Inv-loop μ-loop
 answer-one-requires c κs = search needs
 
--- src/main.rt:78:9
 sub-turns : tie.Need-sub-turns Inv-loop μ-loop
 sub-turns c = search needs
 
--- src/main.rt:75:5
 loop-less : tie.Need-loop-less Inv-loop μ-loop
 loop-less c = search needs
 
--- src/main.rt:75:5
 loop-again : tie.Need-loop-again Inv-loop μ-loop
 loop-again c = search needs
 
--- src/main.rt:81:12
 print-requires : tie.Need-print-requires Inv-loop μ-loop
 print-requires c κs = search needs
 
--- src/main.rt:82:13
 same-length : tie.Need-same-length Inv-loop μ-loop
 same-length c = search needs
 
--- src/main.rt:82:13
 same-length-2 : tie.Need-same-length-2 Inv-loop μ-loop
 same-length-2 c = search needs
 
--- src/main.rt:82:13
 returns : tie.Need-returns Inv-loop μ-loop
 returns c = search needs
 
--- src/main.rt:65:1
 same-length-3 : tie.Need-same-length-3 Inv-loop μ-loop
 same-length-3 c = search needs
 
--- src/main.rt:65:1
 same-length-4 : tie.Need-same-length-4 Inv-loop μ-loop
 same-length-4 c = search needs
 
--- src/main.rt:65:1
 returns-2 : tie.Need-returns-2 Inv-loop μ-loop
 returns-2 c = search needs
 
--- src/main.rt:65:1
 same-length-5 : tie.Need-same-length-5 Inv-loop μ-loop
 same-length-5 c = search needs
 
--- src/main.rt:65:1
 same-length-6 : tie.Need-same-length-6 Inv-loop μ-loop
 same-length-6 c = search needs
 
--- src/main.rt:65:1
 returns-3 : tie.Need-returns-3 Inv-loop μ-loop
 returns-3 c = search needs
 

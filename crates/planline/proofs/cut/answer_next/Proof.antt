@@ -1,61 +1,47 @@
+-- No room, a whole line, or a part of one.
+use mathlib.Core.Bool.{true, false}
+use mathlib.Core.Path.{sym, ap, _∙_}
+use lib.Seq.{length-take-le}
+use lib.ListN.{drop}
+use native.Mathlib.Omega.{arith}
+use borrow.Author.Tests.{not-true, not-false}
+use borrow.Author.Needs.{needs}
 use Rattle.planline.proofs.CutLaws.{ready-room, took-capped, took-is, step-unready, step-whole, step-part}
 use Rattle.planline.specs.Text.{Filled, filled}
 use Rattle.planline.specs.Cut.{step}
-use lib.Seq.{length-take-le}
-use lib.ListN.{length, drop}
-use borrow.Author.Tests.{not-true, not-false}
-use native.Mathlib.Omega.{arith}
-use mathlib.Core.Bool.{true, false}
-use mathlib.Core.Path.{sym, ap, _∙_}
-use Prim.Native.Nat.{min}
-use borrow.Author.Needs.{needs}
 use Rattle.planline.proofs.cut.answer_next.Statement.{statement}
 use Rattle.planline.proofs.cut.answer_next.Tie as tie
-use Rattle.planline.proofs.cut.answer_next.Reads as reads
-use Rattle.planline.proofs.cut.answer_next.Lts as lts
-use Rattle.planline.proofs.cut.is_ready.Reads as is-ready-reads
-use Rattle.planline.proofs.cut.least.Reads as least-reads
-use Rattle.planline.proofs.cut.take_line.Reads as take-line-reads
-use Rattle.planline.proofs.text.append.Reads as append-reads
 
--- src/cut.rt:89:9
 is-ready-requires : tie.Need-is-ready-requires
 is-ready-requires c κs = search needs
 
--- src/cut.rt:90:9
 same-length : tie.Need-same-length
 same-length c = search needs
 
--- src/cut.rt:90:9
 same-length-2 : tie.Need-same-length-2
 same-length-2 c = search needs
 
--- src/cut.rt:90:9
 returns : tie.Need-returns
-returns c = 
+returns c =
     step-unready (filled (c .before .before .before .before .before .before .before .args .held) (c .before .before .before .before .before .before .before .args .line .now)) (c .before .before .before .before .before .before .before .args .from) (c .before .before .before .before .before .before .before .args .piece .now) (filled (c .before .before .before .before .before .before .before .args .at) (c .before .before .before .before .before .before .before .args .out .now))
     (sym (c .before .is-ready .ensures) ∙ not-true _ (c .if1 .taken))
 
--- src/cut.rt:96:32
 least-requires : tie.Need-least-requires
 least-requires c κs = search needs
 
--- src/cut.rt:96:9
 take-line-requires : tie.Need-take-line-requires
 take-line-requires c κs = ready-room (c .before .before .before .before .before .before .before .before .before .args .line .now) (filled (c .before .before .before .before .before .before .before .before .before .args .at) (c .before .before .before .before .before .before .before .before .before .args .out .now)) (sym (c .before .before .before .is-ready .ensures) ∙ not-false _ (c .before .before .if1 .left))
 
--- src/cut.rt:102:24
 slice-reshare-prefix-append : tie.Need-slice-reshare-prefix-append
-slice-reshare-prefix-append c = 
+slice-reshare-prefix-append c =
     omega (
       arith,
       ready-room (c .before .before .before .before .before .before .before .before .before .before .before .before .before .args .line .now) (filled (c .before .before .before .before .before .before .before .before .before .before .before .before .before .args .at) (c .before .before .before .before .before .before .before .before .before .before .before .before .before .args .out .now)) (sym (c .before .before .before .before .before .before .before .is-ready .ensures) ∙ not-false _ (c .before .before .before .before .before .before .if1 .left)),
       took-capped _ _ _ _ _ _ _ _ (c .before .before .before .take-line .ensures) (omega arith),
     )
 
--- src/cut.rt:102:24
 slice-aggregate-append : tie.Need-slice-aggregate-append
-slice-aggregate-append c = 
+slice-aggregate-append c =
     sym
     (length-take-le (c .before .before .before .before .take-line .result .held) (c .before .before .before .before .take-line .last .0)
     (omega (
@@ -64,21 +50,17 @@ slice-aggregate-append c =
       took-capped _ _ _ _ _ _ _ _ (c .before .before .before .before .take-line .ensures) (omega arith),
     )))
 
--- src/cut.rt:102:17
 append-requires : tie.Need-append-requires
 append-requires c κs = search needs
 
--- src/cut.rt:99:9
 same-length-3 : tie.Need-same-length-3
 same-length-3 c = search needs
 
--- src/cut.rt:99:9
 same-length-4 : tie.Need-same-length-4
 same-length-4 c = search needs
 
--- src/cut.rt:99:9
 returns-2 : tie.Need-returns-2
-returns-2 c = 
+returns-2 c =
     ap (λ (o : Filled). step (filled 0 (c .before .before .before .before .before .before .before .before .take-line .last .0)) (c .before .before .before .before .before .before .before .before .take-line .result .next) o) (c .before .before .append .ensures)
     ∙ step-whole (filled (c .before .before .before .before .before .before .before .before .before .before .before .before .before .before .before .before .before .before .args .held) (c .before .before .before .before .before .before .before .before .before .before .before .before .before .before .before .before .before .before .args .line .now)) (c .before .before .before .before .before .before .before .before .before .before .before .before .before .before .before .before .before .before .args .from) (c .before .before .before .before .before .before .before .before .before .before .before .before .before .before .before .before .before .before .args .piece .now) (filled (c .before .before .before .before .before .before .before .before .before .before .before .before .before .before .before .before .before .before .args .at) (c .before .before .before .before .before .before .before .before .before .before .before .before .before .before .before .before .before .before .args .out .now))
     (sym (c .before .before .before .before .before .before .before .before .before .before .before .before .is-ready .ensures) ∙ not-false _ (c .before .before .before .before .before .before .before .before .before .before .before .if1 .left))
@@ -86,17 +68,14 @@ returns-2 c =
     (took-is (c .before .before .before .before .before .before .before .before .take-line .result .held) (c .before .before .before .before .before .before .before .before .take-line .result .next) (c .before .before .before .before .before .before .before .before .before .least .result) (c .before .before .before .before .before .before .before .before .before .before .before .before .before .before .before .before .before .before .args .line .now) (c .before .before .before .before .before .before .before .before .take-line .last .0) (c .before .before .before .before .before .before .before .before .before .before .before .before .before .before .before .before .before .before .args .from) (drop (c .before .before .before .before .before .before .before .before .before .before .before .before .before .before .before .before .before .before .args .from) (c .before .before .before .before .before .before .before .before .before .before .before .before .before .before .before .before .before .before .args .piece .now)) (c .before .before .before .before .before .before .before .before .take-line .result .whole)
     (c .before .before .before .before .before .before .before .before .take-line .ensures) true (c .before .before .before .before .before .if2 .taken) (c .before .before .before .before .before .before .before .before .before .before .before .before .before .before .before .before .before .before .args .held) (c .before .before .before .before .before .before .before .before .before .least .ensures))
 
--- src/cut.rt:79:1
 same-length-5 : tie.Need-same-length-5
 same-length-5 c = search needs
 
--- src/cut.rt:79:1
 same-length-6 : tie.Need-same-length-6
 same-length-6 c = search needs
 
--- src/cut.rt:79:1
 returns-3 : tie.Need-returns-3
-returns-3 c = 
+returns-3 c =
     step-part (filled (c .before .before .before .before .before .before .before .before .before .before .before .before .before .args .held) (c .before .before .before .before .before .before .before .before .before .before .before .before .before .args .line .now)) (c .before .before .before .before .before .before .before .before .before .before .before .before .before .args .from) (c .before .before .before .before .before .before .before .before .before .before .before .before .before .args .piece .now) (filled (c .before .before .before .before .before .before .before .before .before .before .before .before .before .args .at) (c .before .before .before .before .before .before .before .before .before .before .before .before .before .args .out .now))
     (sym (c .before .before .before .before .before .before .before .is-ready .ensures) ∙ not-false _ (c .before .before .before .before .before .before .if1 .left))
     (c .before .before .before .take-line .result .held) (c .before .before .before .take-line .result .next) (c .before .before .before .take-line .last .0)

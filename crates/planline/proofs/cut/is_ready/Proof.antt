@@ -1,23 +1,18 @@
-use Rattle.planline.proofs.CutLaws.{ready-short, ready-long}
-use Rattle.planline.specs.Text.{filled}
-use mathlib.Core.Path.{sym, _∙_}
+-- The line buffer, then the output buffer.
+use mathlib.Core.Path.{_∙_}
 use native.Mathlib.Omega.{arith}
 use borrow.Author.Needs.{needs}
+use Rattle.planline.proofs.CutLaws.{ready-short, ready-long}
+use Rattle.planline.specs.Text.{filled}
 use Rattle.planline.proofs.cut.is_ready.Statement.{statement}
 use Rattle.planline.proofs.cut.is_ready.Tie as tie
-use Rattle.planline.proofs.cut.is_ready.Reads as reads
-use Rattle.planline.proofs.cut.is_ready.Lts as lts
-use Rattle.planline.proofs.text.has_room.Reads as has-room-reads
 
--- src/cut.rt:34:9
 returns : tie.Need-returns
 returns c = ready-short (c .before .before .before .args .line .now) (filled (c .before .before .before .args .at) (c .before .before .before .args .out .now)) (omega arith)
 
--- src/cut.rt:36:5
 has-room-requires : tie.Need-has-room-requires
 has-room-requires c κs = search needs
 
--- src/cut.rt:30:1
 returns-2 : tie.Need-returns-2
 returns-2 c = c .has-room .ensures ∙ ready-long (c .before .before .before .before .args .line .now) (filled (c .before .before .before .before .args .at) (c .before .before .before .before .args .out .now)) (omega arith)
 

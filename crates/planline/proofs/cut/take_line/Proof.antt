@@ -1,16 +1,14 @@
+-- The invariant: what is taken from `next` on is what is taken from `from` on.
+use Prim.Native.Nat.{_+_, _-_}
+use mathlib.Core.Path.{_≡_, refl, sym, ap, _∙_}
+use lib.ListN.{length, drop}
+use native.Mathlib.Omega.{arith}
+use borrow.Author.Needs.{needs}
 use Rattle.planline.proofs.CutLaws.{take-end, take-feed, take-byte}
 use Rattle.planline.specs.Text.{Filled, filled}
 use Rattle.planline.specs.Cut.{takeOf}
-use lib.ListN.{length, drop}
-use borrow.Author.Needs.{needs}
-use native.Mathlib.Omega.{arith}
-use mathlib.Core.Path.{_≡_, refl, sym, ap, _∙_}
-use Prim.Native.Nat.{ℕ, _+_, _-_}
 use Rattle.planline.proofs.cut.take_line.Statement.{statement}
 use Rattle.planline.proofs.cut.take_line.Tie as tie
-use Rattle.planline.proofs.cut.take_line.Reads as reads
-use Rattle.planline.proofs.cut.take_line.Lts as lts
-use Rattle.planline.proofs.cut.hold.Reads as hold-reads
 
 abbrev Inv-loop : tie.InvT-loop
 Inv-loop line₀ held piece from n₀ next₀ line n next =
@@ -19,49 +17,39 @@ Inv-loop line₀ held piece from n₀ next₀ line n next =
 abbrev μ-loop : tie.MeasureT-loop
 μ-loop line₀ held piece from n₀ next₀ line n next = length piece - next
 
--- src/cut.rt:58:5
 loop-holds : tie.Need-loop-holds Inv-loop μ-loop
 loop-holds c = (refl, refl)
 
--- src/cut.rt:59:20
 shared-slice-read-byte : tie.Need-shared-slice-read-byte Inv-loop μ-loop
 shared-slice-read-byte c = search needs
 
--- src/cut.rt:60:9
 add-next : tie.Need-add-next Inv-loop μ-loop
 add-next c = search needs
 
--- src/cut.rt:62:13
 same-length : tie.Need-same-length Inv-loop μ-loop
 same-length c = search needs
 
--- src/cut.rt:62:13
 returns : tie.Need-returns Inv-loop μ-loop
-returns c = 
+returns c =
     sym (take-feed (filled (c .before .before .before .loop .n) (c .before .before .before .loop .line)) (c .before .before .before .before .before .before .args .piece .now) (c .before .before .before .loop .next) (omega arith) (c .if1 .taken)) ∙ c .before .before .before .loop .inv .1
 
--- src/cut.rt:68:9
 hold-requires : tie.Need-hold-requires Inv-loop μ-loop
 hold-requires c κs = omega arith
 
--- src/cut.rt:58:5
 loop-less : tie.Need-loop-less Inv-loop μ-loop
 loop-less c = search needs
 
--- src/cut.rt:58:5
 loop-again : tie.Need-loop-again Inv-loop μ-loop
 loop-again c = (
   omega arith,
   ap (λ (h : Filled). takeOf h (c .before .before .before .before .before .before .before .loop .next + 1) (drop (c .before .before .before .before .before .before .before .loop .next + 1) (c .before .before .before .before .before .before .before .before .before .before .args .piece .now))) (c .before .before .hold .ensures)
-    ∙ sym (take-byte (filled (c .before .before .before .before .before .before .before .loop .n) (c .before .before .before .before .before .before .before .loop .line)) (c .before .before .before .before .before .before .before .before .before .before .args .piece .now) (c .before .before .before .before .before .before .before .loop .next) (omega arith) (c .before .before .before .before .if1 .left))
-    ∙ c .before .before .before .before .before .before .before .loop .inv .1,
-  )
+      ∙ sym (take-byte (filled (c .before .before .before .before .before .before .before .loop .n) (c .before .before .before .before .before .before .before .loop .line)) (c .before .before .before .before .before .before .before .before .before .before .args .piece .now) (c .before .before .before .before .before .before .before .loop .next) (omega arith) (c .before .before .before .before .if1 .left))
+      ∙ c .before .before .before .before .before .before .before .loop .inv .1,
+)
 
--- src/cut.rt:52:1
 same-length-2 : tie.Need-same-length-2 Inv-loop μ-loop
 same-length-2 c = search needs
 
--- src/cut.rt:52:1
 returns-2 : tie.Need-returns-2 Inv-loop μ-loop
 returns-2 c = sym (take-end (filled (c .before .loop .n) (c .before .loop .line)) (c .before .before .before .before .args .piece .now) (c .before .loop .next) (omega arith)) ∙ c .before .loop .inv .1
 

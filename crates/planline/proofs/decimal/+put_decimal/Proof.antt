@@ -1,14 +1,14 @@
-use Prim.Native.Nat.{_/_}
-use Rattle.planline.specs.Decimal.{decimal}
-use Rattle.planline.proofs.DecimalLaws.{decimal-one, decimal-more, decimal-length, sets-last}
+-- The measure is the number, which falls by its last digit.
+use Prim.Native.Nat.{_/_, ℕ, _<_}
+use mathlib.Core.Path.{ap}
 use lib.ListN.{length}
-use mathlib.Core.Path.{sym, ap, _∙_}
 use native.Mathlib.Nat.{div-add-mod'}
 use native.Mathlib.Omega.{arith}
 use borrow.Author.Needs.{needs}
-use Prim.Native.Nat.{ℕ, _<_}
 use borrow.Fn.Kinds.{In}
 use borrow.Fn.PlainCycle.{Measures, is, falls, and}
+use Rattle.planline.specs.Decimal.{decimal}
+use Rattle.planline.proofs.DecimalLaws.{decimal-one, decimal-more, decimal-length, sets-last}
 use Rattle.planline.proofs.decimal.put_decimal.Reads as put-decimal
 use Rattle.planline.proofs.decimal.put_decimal.Kinds as put-decimal-kinds
 use Rattle.planline.proofs.decimal.+put_decimal.Lts-put_decimal as put-decimal-lts
@@ -27,7 +27,6 @@ abbrev put-decimal-below : ℕ → In 1 put-decimal-kinds.ps
 put-decimal-below t =
     and 1 put-decimal-kinds.ps (falls 1 put-decimal-kinds.ps _<_ μ-put-decimal t) put-decimal.Pre
 
--- src/decimal.rt:103:19
 put-decimal-glyph-requires : (t : ℕ) → put-decimal-lts.Need-glyph-requires (
   glyph-reads.Asked,
   glyph-reads.Learnt,
@@ -36,7 +35,6 @@ put-decimal-glyph-requires : (t : ℕ) → put-decimal-lts.Need-glyph-requires (
 ) (put-decimal-at t) put-decimal.Post
 put-decimal-glyph-requires t c κs = search needs
 
--- src/decimal.rt:103:9
 put-decimal-slice-write-out : (t : ℕ) → put-decimal-lts.Need-slice-write-out (
   glyph-reads.Asked,
   glyph-reads.Learnt,
@@ -45,7 +43,6 @@ put-decimal-slice-write-out : (t : ℕ) → put-decimal-lts.Need-slice-write-out
 ) (put-decimal-at t) put-decimal.Post
 put-decimal-slice-write-out t c = omega (arith, ap length (decimal-one (c .before .before .before .args .n) (c .before .if1 .taken)))
 
--- src/decimal.rt:104:16
 put-decimal-add-result : (t : ℕ) → put-decimal-lts.Need-add-result (
   glyph-reads.Asked,
   glyph-reads.Learnt,
@@ -54,7 +51,6 @@ put-decimal-add-result : (t : ℕ) → put-decimal-lts.Need-add-result (
 ) (put-decimal-at t) put-decimal.Post
 put-decimal-add-result t c = record { fits = omega (arith, ap length (decimal-one (c .before .before .before .args .n) (c .before .if1 .taken))) }
 
--- src/decimal.rt:104:9
 put-decimal-same-length : (t : ℕ) → put-decimal-lts.Need-same-length (
   glyph-reads.Asked,
   glyph-reads.Learnt,
@@ -63,20 +59,18 @@ put-decimal-same-length : (t : ℕ) → put-decimal-lts.Need-same-length (
 ) (put-decimal-at t) put-decimal.Post
 put-decimal-same-length t c = search needs
 
--- src/decimal.rt:104:9
 put-decimal-returns : (t : ℕ) → put-decimal-lts.Need-returns (
   glyph-reads.Asked,
   glyph-reads.Learnt,
   put-decimal-below t,
   put-decimal.Post,
 ) (put-decimal-at t) put-decimal.Post
-put-decimal-returns t c = 
+put-decimal-returns t c =
     record {
       end = omega (arith, ap length (decimal-one (c .before .before .before .args .n) (c .before .if1 .taken)));
       bytes = rw (decimal-one (c .before .before .before .args .n) (c .before .if1 .taken), c .glyph .ensures);
     }
 
--- src/decimal.rt:106:9
 put-decimal-put-decimal-requires : (t : ℕ) → put-decimal-lts.Need-put-decimal-requires (
   glyph-reads.Asked,
   glyph-reads.Learnt,
@@ -86,9 +80,8 @@ put-decimal-put-decimal-requires : (t : ℕ) → put-decimal-lts.Need-put-decima
 put-decimal-put-decimal-requires t c κs = (
   omega (arith, div-add-mod' (c .before .before .before .args .n) 10),
   omega (arith, decimal-length (c .before .before .before .args .n) (c .before .if1 .left) (omega arith)),
-  )
+)
 
--- src/decimal.rt:107:17
 put-decimal-glyph-requires-2 : (t : ℕ) → put-decimal-lts.Need-glyph-requires-2 (
   glyph-reads.Asked,
   glyph-reads.Learnt,
@@ -97,27 +90,24 @@ put-decimal-glyph-requires-2 : (t : ℕ) → put-decimal-lts.Need-glyph-requires
 ) (put-decimal-at t) put-decimal.Post
 put-decimal-glyph-requires-2 t c κs = search needs
 
--- src/decimal.rt:107:5
 put-decimal-slice-write-out-2 : (t : ℕ) → put-decimal-lts.Need-slice-write-out-2 (
   glyph-reads.Asked,
   glyph-reads.Learnt,
   put-decimal-below t,
   put-decimal.Post,
 ) (put-decimal-at t) put-decimal.Post
-put-decimal-slice-write-out-2 t c = 
+put-decimal-slice-write-out-2 t c =
     omega (arith, decimal-length (c .before .before .before .before .before .before .before .args .n) (c .before .before .before .before .before .if1 .left) (omega arith))
 
--- src/decimal.rt:108:5
 put-decimal-add-result-2 : (t : ℕ) → put-decimal-lts.Need-add-result-2 (
   glyph-reads.Asked,
   glyph-reads.Learnt,
   put-decimal-below t,
   put-decimal.Post,
 ) (put-decimal-at t) put-decimal.Post
-put-decimal-add-result-2 t c = 
+put-decimal-add-result-2 t c =
     record { fits = omega (arith, decimal-length (c .before .before .before .before .before .before .before .args .n) (c .before .before .before .before .before .if1 .left) (omega arith)) }
 
--- src/decimal.rt:97:1
 put-decimal-same-length-2 : (t : ℕ) → put-decimal-lts.Need-same-length-2 (
   glyph-reads.Asked,
   glyph-reads.Learnt,
@@ -126,20 +116,19 @@ put-decimal-same-length-2 : (t : ℕ) → put-decimal-lts.Need-same-length-2 (
 ) (put-decimal-at t) put-decimal.Post
 put-decimal-same-length-2 t c = search needs
 
--- src/decimal.rt:97:1
 put-decimal-returns-2 : (t : ℕ) → put-decimal-lts.Need-returns-2 (
   glyph-reads.Asked,
   glyph-reads.Learnt,
   put-decimal-below t,
   put-decimal.Post,
 ) (put-decimal-at t) put-decimal.Post
-put-decimal-returns-2 t c = 
+put-decimal-returns-2 t c =
     record {
       end = omega (arith, decimal-length (c .before .before .before .before .before .before .before .args .n) (c .before .before .before .before .before .if1 .left) (omega arith));
       bytes =
-        rw (decimal-more (c .before .before .before .before .before .before .before .args .n) (c .before .before .before .before .before .if1 .left) (omega arith))
-        (sets-last (decimal (c .before .before .before .before .before .before .before .args .n / 10)) (c .before .before .before .before .before .before .before .args .out .now) _ _ _ _ _
-        (c .before .before .before .put-decimal .ensures .bytes) (c .before .before .before .put-decimal .ensures .end) (c .glyph2 .ensures));
+          rw (decimal-more (c .before .before .before .before .before .before .before .args .n) (c .before .before .before .before .before .if1 .left) (omega arith))
+          (sets-last (decimal (c .before .before .before .before .before .before .before .args .n / 10)) (c .before .before .before .before .before .before .before .args .out .now) _ _ _ _ _
+          (c .before .before .before .put-decimal .ensures .bytes) (c .before .before .before .put-decimal .ensures .end) (c .glyph2 .ensures));
     }
 
 pub +put-decimal-spec : {M : Type 1} → statement M

@@ -1,35 +1,26 @@
-use Rattle.planline.proofs.LineLaws.{front-is}
-use Rattle.planline.specs.Line.{withWritten}
+-- The second number, and what follows it.
 use mathlib.Core.Path.{ap, _∙_}
 use borrow.Author.Needs.{needs}
+use Rattle.planline.proofs.LineLaws.{front-is}
+use Rattle.planline.specs.Line.{withWritten}
 use Rattle.planline.proofs.line.after_length.Statement.{statement}
 use Rattle.planline.proofs.line.after_length.Tie as tie
-use Rattle.planline.proofs.line.after_length.Reads as reads
-use Rattle.planline.proofs.line.after_length.Lts as lts
-use Rattle.planline.proofs.line.after_written.Reads as after-written-reads
-use Rattle.planline.proofs.line.spaced.Reads as spaced-reads
 
--- src/line.rt:117:11
 spaced-requires : tie.Need-spaced-requires
 spaced-requires c κs = search needs
 
--- src/line.rt:118:22
 enum-known-n : tie.Need-enum-known-n
 enum-known-n c = search needs
 
--- src/line.rt:118:35
 after-written-requires : tie.Need-after-written-requires
 after-written-requires c κs = search needs
 
--- src/line.rt:119:24
 enum-told : tie.Need-enum-told
 enum-told c = search needs
 
--- src/line.rt:114:1
 returns : tie.Need-returns
 returns c = c .after-written .ensures ∙ ap (withWritten (c .before .before .before .before .before .before .args .buf-len)) (front-is (c .before .before .before .before .before .before .args .line .now) (c .before .before .n .given .1) (c .before .before .before .before .spaced .ensures))
 
--- src/line.rt:114:1
 returns-2 : tie.Need-returns-2
 returns-2 c = ap (withWritten (c .before .before .before .before .args .buf-len)) (front-is (c .before .before .before .before .args .line .now) (c .enum-told .given .1) (c .before .before .spaced .ensures))
 

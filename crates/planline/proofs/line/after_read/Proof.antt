@@ -1,59 +1,46 @@
-use Rattle.planline.proofs.LineLaws.{front-is, kind-room, amount-there, amount-none, kind-none, last-behind}
-use lib.ListN.{drop}
-use Rattle.planline.specs.Line.{lastFront}
-use native.Mathlib.Omega.{arith}
+-- The letter, and the last number two bytes behind it.
 use mathlib.Core.Path.{sym, _∙_}
+use lib.ListN.{drop}
+use native.Mathlib.Omega.{arith}
 use borrow.Author.Needs.{needs}
+use Rattle.planline.proofs.LineLaws.{front-is, kind-room, amount-there, amount-none, kind-none, last-behind}
+use Rattle.planline.specs.Line.{lastFront}
 use Rattle.planline.proofs.line.after_read.Statement.{statement}
 use Rattle.planline.proofs.line.after_read.Tie as tie
-use Rattle.planline.proofs.line.after_read.Reads as reads
-use Rattle.planline.proofs.line.after_read.Lts as lts
-use Rattle.planline.proofs.line.kind_at.Reads as kind-at-reads
-use Rattle.planline.proofs.line.last.Reads as last-reads
 
--- src/line.rt:135:11
 kind-at-requires : tie.Need-kind-at-requires
 kind-at-requires c κs = search needs
 
--- src/line.rt:136:18
 enum-known-typ : tie.Need-enum-known-typ
 enum-known-typ c = search needs
 
--- src/line.rt:136:43
 add-last : tie.Need-add-last
 add-last c = record { fits = omega (arith, kind-room (c .before .before .before .before .before .args .line .now) (c .before .before .before .before .before .args .at) (c .before .typ .given .0 .0) (sym (c .before .typ .given .1) ∙ c .before .before .before .kind-at .ensures)) }
 
--- src/line.rt:136:32
 last-requires : tie.Need-last-requires
 last-requires c κs = search needs
 
--- src/line.rt:137:26
 enum-known-n : tie.Need-enum-known-n
 enum-known-n c = search needs
 
--- src/line.rt:144:28
 enum-told : tie.Need-enum-told
 enum-told c = search needs
 
--- src/line.rt:146:22
 enum-told-2 : tie.Need-enum-told-2
 enum-told-2 c = search needs
 
--- src/line.rt:132:1
 returns : tie.Need-returns
-returns c = 
+returns c =
     amount-there (c .before .before .before .before .before .before .before .before .before .args .buf-len) (c .before .before .before .before .before .before .before .before .before .args .written) (c .before .before .before .before .before .before .before .before .before .args .read) (sym (c .before .before .before .before .before .typ .given .1) ∙ c .before .before .before .before .before .before .before .kind-at .ensures)
     (front-is (c .before .before .before .before .before .before .before .before .before .args .line .now) (c .before .n .given .1) (c .before .before .before .last .ensures) ∙ last-behind (c .before .before .before .before .before .before .before .before .before .args .line .now) (c .before .before .before .before .before .before .before .before .before .args .at))
 
--- src/line.rt:132:1
 returns-2 : tie.Need-returns-2
-returns-2 c = 
+returns-2 c =
     amount-none (c .before .before .before .before .before .before .before .before .args .buf-len) (c .before .before .before .before .before .before .before .before .args .written) (c .before .before .before .before .before .before .before .before .args .read) (sym (c .before .before .before .before .typ .given .1) ∙ c .before .before .before .before .before .before .kind-at .ensures)
     (front-is (c .before .before .before .before .before .before .before .before .args .line .now) (c .enum-told .given .1) (c .before .before .last .ensures) ∙ last-behind (c .before .before .before .before .before .before .before .before .args .line .now) (c .before .before .before .before .before .before .before .before .args .at))
 
--- src/line.rt:132:1
 returns-3 : tie.Need-returns-3
-returns-3 c = 
+returns-3 c =
     kind-none (c .before .before .before .before .args .buf-len) (c .before .before .before .before .args .written) (c .before .before .before .before .args .read) (lastFront (drop 2 (drop (c .before .before .before .before .args .at) (c .before .before .before .before .args .line .now))))
     (sym (c .enum-told2 .given .1) ∙ c .before .before .kind-at .ensures)
 

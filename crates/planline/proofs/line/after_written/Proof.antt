@@ -1,35 +1,26 @@
-use Rattle.planline.proofs.LineLaws.{front-is}
-use Rattle.planline.specs.Line.{withRead}
+-- The third number, and what follows it.
 use mathlib.Core.Path.{ap, _∙_}
 use borrow.Author.Needs.{needs}
+use Rattle.planline.proofs.LineLaws.{front-is}
+use Rattle.planline.specs.Line.{withRead}
 use Rattle.planline.proofs.line.after_written.Statement.{statement}
 use Rattle.planline.proofs.line.after_written.Tie as tie
-use Rattle.planline.proofs.line.after_written.Reads as reads
-use Rattle.planline.proofs.line.after_written.Lts as lts
-use Rattle.planline.proofs.line.after_read.Reads as after-read-reads
-use Rattle.planline.proofs.line.spaced.Reads as spaced-reads
 
--- src/line.rt:126:11
 spaced-requires : tie.Need-spaced-requires
 spaced-requires c κs = search needs
 
--- src/line.rt:127:22
 enum-known-n : tie.Need-enum-known-n
 enum-known-n c = search needs
 
--- src/line.rt:127:35
 after-read-requires : tie.Need-after-read-requires
 after-read-requires c κs = search needs
 
--- src/line.rt:128:24
 enum-told : tie.Need-enum-told
 enum-told c = search needs
 
--- src/line.rt:123:1
 returns : tie.Need-returns
 returns c = c .after-read .ensures ∙ ap (withRead (c .before .before .before .before .before .before .args .buf-len) (c .before .before .before .before .before .before .args .written)) (front-is (c .before .before .before .before .before .before .args .line .now) (c .before .before .n .given .1) (c .before .before .before .before .spaced .ensures))
 
--- src/line.rt:123:1
 returns-2 : tie.Need-returns-2
 returns-2 c = ap (withRead (c .before .before .before .before .args .buf-len) (c .before .before .before .before .args .written)) (front-is (c .before .before .before .before .args .line .now) (c .enum-told .given .1) (c .before .before .spaced .ensures))
 

@@ -1,42 +1,32 @@
-use Rattle.planline.proofs.LineLaws.{kind-end, kind-alone, kind-there, kind-other}
-use native.Mathlib.Omega.{arith}
+-- By the bytes that are left: none, one, or two of which the second is a space or not.
 use mathlib.Core.Path.{sym, _∙_}
+use native.Mathlib.Omega.{arith}
 use borrow.Author.Needs.{needs}
+use Rattle.planline.proofs.LineLaws.{kind-end, kind-alone, kind-there, kind-other}
 use Rattle.planline.proofs.line.kind_at.Statement.{statement}
 use Rattle.planline.proofs.line.kind_at.Tie as tie
-use Rattle.planline.proofs.line.kind_at.Reads as reads
-use Rattle.planline.proofs.line.kind_at.Lts as lts
-use Rattle.planline.proofs.line.kind_of.Reads as kind-of-reads
 
--- src/line.rt:92:9
 returns : tie.Need-returns
 returns c = sym (kind-end (c .before .before .args .line .now) (c .before .before .args .at) (omega arith))
 
--- src/line.rt:94:16
 add-next : tie.Need-add-next
 add-next c = search needs
 
--- src/line.rt:96:9
 returns-2 : tie.Need-returns-2
 returns-2 c = sym (kind-alone (c .before .before .before .args .line .now) (c .before .before .before .args .at) (omega arith) (omega arith))
 
--- src/line.rt:98:8
 shared-slice-read-if3 : tie.Need-shared-slice-read-if3
 shared-slice-read-if3 c = search needs
 
--- src/line.rt:99:24
 shared-slice-read-kind-of : tie.Need-shared-slice-read-kind-of
 shared-slice-read-kind-of c = search needs
 
--- src/line.rt:99:9
 kind-of-requires : tie.Need-kind-of-requires
 kind-of-requires c κs = search needs
 
--- src/line.rt:99:9
 returns-3 : tie.Need-returns-3
 returns-3 c = c .kind-of .ensures ∙ sym (kind-there (c .before .before .before .before .before .before .before .args .line .now) (c .before .before .before .before .before .before .before .args .at) (omega arith) (c .before .before .if3 .taken))
 
--- src/line.rt:88:1
 returns-4 : tie.Need-returns-4
 returns-4 c = sym (kind-other (c .before .before .before .before .before .args .line .now) (c .before .before .before .before .before .args .at) (omega arith) (c .if3 .left))
 

@@ -1,21 +1,17 @@
-use Rattle.planline.specs.Line.{kindOf}
+-- R, W, or neither.
 use borrow.Author.Tests.{eq-eqb, ne-eqb}
+use Rattle.planline.specs.Line.{kindOf}
 use Rattle.planline.proofs.line.kind_of.Statement.{statement}
 use Rattle.planline.proofs.line.kind_of.Tie as tie
-use Rattle.planline.proofs.line.kind_of.Reads as reads
-use Rattle.planline.proofs.line.kind_of.Lts as lts
 
--- src/line.rt:79:9
 returns : tie.Need-returns
 unfolding kindOf
 returns c = rw (eq-eqb (c .before .args .byte) 82 (c .if1 .taken))
 
--- src/line.rt:82:9
 returns-2 : tie.Need-returns-2
 unfolding kindOf
 returns-2 c = rw (ne-eqb (c .before .before .args .byte) 82 (c .before .if1 .left), eq-eqb (c .before .before .args .byte) 87 (c .if2 .taken))
 
--- src/line.rt:75:1
 returns-3 : tie.Need-returns-3
 unfolding kindOf
 returns-3 c = rw (ne-eqb (c .before .before .args .byte) 82 (c .before .if1 .left), ne-eqb (c .before .before .args .byte) 87 (c .if2 .left))

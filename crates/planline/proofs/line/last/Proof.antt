@@ -1,39 +1,31 @@
+-- The number, then whether a byte is behind it.
+use mathlib.Core.Path.{sym, ap, _∙_}
+use native.Mathlib.Omega.{arith}
+use borrow.Author.Needs.{needs}
 use Rattle.planline.proofs.LineLaws.{front-is, end-there, end-other}
 use Rattle.planline.specs.Line.{atEnd}
-use native.Mathlib.Omega.{arith}
-use mathlib.Core.Path.{sym, ap, _∙_}
-use borrow.Author.Needs.{needs}
 use Rattle.planline.proofs.line.last.Statement.{statement}
 use Rattle.planline.proofs.line.last.Tie as tie
-use Rattle.planline.proofs.line.last.Reads as reads
-use Rattle.planline.proofs.line.last.Lts as lts
-use Rattle.planline.proofs.decimal.number_at.Reads as number-at-reads
 
--- src/line.rt:64:11
 number-at-requires : tie.Need-number-at-requires
 number-at-requires c κs = search needs
 
--- src/line.rt:65:22
 enum-known-n : tie.Need-enum-known-n
 enum-known-n c = search needs
 
--- src/line.rt:67:17
 returns : tie.Need-returns
-returns c = 
+returns c =
     sym (end-other (c .before .before .before .before .before .before .args .line .now) (c .before .before .n .given .0 .1 .0) (c .before .before .n .given .0 .0) (omega arith))
     ∙ ap atEnd (front-is (c .before .before .before .before .before .before .args .line .now) (c .before .before .n .given .1) (c .before .before .before .before .number-at .ensures))
 
--- src/line.rt:71:24
 enum-told : tie.Need-enum-told
 enum-told c = search needs
 
--- src/line.rt:61:1
 returns-2 : tie.Need-returns-2
-returns-2 c = 
+returns-2 c =
     sym (end-there (c .before .before .before .before .before .before .args .line .now) (c .before .before .n .given .0 .1 .0) (c .before .before .n .given .0 .0) (omega arith))
     ∙ ap atEnd (front-is (c .before .before .before .before .before .before .args .line .now) (c .before .before .n .given .1) (c .before .before .before .before .number-at .ensures))
 
--- src/line.rt:61:1
 returns-3 : tie.Need-returns-3
 returns-3 c = ap atEnd (front-is (c .before .before .before .before .args .line .now) (c .enum-told .given .1) (c .before .before .number-at .ensures))
 

@@ -1,40 +1,30 @@
+-- Too long, or as it parses.
+use mathlib.Core.Path.{sym, ap, _∙_}
+use native.Mathlib.Omega.{arith}
+use borrow.Author.Needs.{needs}
 use Rattle.planline.proofs.LineLaws.{plan-long, plan-short}
 use Rattle.planline.specs.Line.{planFrom}
-use native.Mathlib.Omega.{arith}
-use mathlib.Core.Path.{sym, ap, _∙_}
-use borrow.Author.Needs.{needs}
 use Rattle.planline.proofs.line.plan_line.Statement.{statement}
 use Rattle.planline.proofs.line.plan_line.Tie as tie
-use Rattle.planline.proofs.line.plan_line.Reads as reads
-use Rattle.planline.proofs.line.plan_line.Lts as lts
-use Rattle.planline.proofs.line.parse.Reads as parse-reads
-use Rattle.planline.proofs.line.plan_for.Reads as plan-for-reads
 
--- src/line.rt:155:9
 returns : tie.Need-returns
 returns c = plan-long (c .before .before .args .line .now) (omega arith)
 
--- src/line.rt:157:11
 parse-requires : tie.Need-parse-requires
 parse-requires c κs = search needs
 
--- src/line.rt:158:20
 enum-known-asked : tie.Need-enum-known-asked
 enum-known-asked c = search needs
 
--- src/line.rt:158:30
 plan-for-requires : tie.Need-plan-for-requires
 plan-for-requires c κs = search needs
 
--- src/line.rt:159:24
 enum-told : tie.Need-enum-told
 enum-told c = search needs
 
--- src/line.rt:151:1
 returns-2 : tie.Need-returns-2
 returns-2 c = c .plan-for .ensures ∙ ap planFrom (sym (c .before .before .asked .given .1) ∙ c .before .before .before .before .parse .ensures) ∙ plan-short (c .before .before .before .before .before .before .before .args .line .now) (omega arith)
 
--- src/line.rt:151:1
 returns-3 : tie.Need-returns-3
 returns-3 c = ap planFrom (sym (c .enum-told .given .1) ∙ c .before .before .parse .ensures) ∙ plan-short (c .before .before .before .before .before .args .line .now) (omega arith)
 

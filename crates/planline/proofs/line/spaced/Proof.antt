@@ -1,53 +1,42 @@
+-- The number, then the byte behind it.
+use mathlib.Core.Path.{sym, ap, _∙_}
+use native.Mathlib.Omega.{arith}
+use borrow.Author.Needs.{needs}
 use Rattle.planline.proofs.LineLaws.{front-is, space-there, space-other, space-end}
 use Rattle.planline.specs.Line.{afterSpace}
-use native.Mathlib.Omega.{arith}
-use mathlib.Core.Path.{sym, ap, _∙_}
-use borrow.Author.Needs.{needs}
 use Rattle.planline.proofs.line.spaced.Statement.{statement}
 use Rattle.planline.proofs.line.spaced.Tie as tie
-use Rattle.planline.proofs.line.spaced.Reads as reads
-use Rattle.planline.proofs.line.spaced.Lts as lts
-use Rattle.planline.proofs.decimal.number_at.Reads as number-at-reads
 
--- src/line.rt:44:11
 number-at-requires : tie.Need-number-at-requires
 number-at-requires c κs = search needs
 
--- src/line.rt:45:22
 enum-known-n : tie.Need-enum-known-n
 enum-known-n c = search needs
 
--- src/line.rt:47:20
 shared-slice-read-if2 : tie.Need-shared-slice-read-if2
 shared-slice-read-if2 c = search needs
 
--- src/line.rt:50:31
 add-t12 : tie.Need-add-t12
 add-t12 c = search needs
 
--- src/line.rt:48:21
 returns : tie.Need-returns
-returns c = 
+returns c =
     sym (space-there (c .before .before .before .before .before .before .before .before .args .line .now) (c .before .before .before .before .n .given .0 .1 .0) (c .before .before .before .before .n .given .0 .0) (omega arith) (c .if2 .taken))
     ∙ ap afterSpace (front-is (c .before .before .before .before .before .before .before .before .args .line .now) (c .before .before .before .before .n .given .1) (c .before .before .before .before .before .before .number-at .ensures))
 
--- src/line.rt:56:24
 enum-told : tie.Need-enum-told
 enum-told c = search needs
 
--- src/line.rt:41:1
 returns-2 : tie.Need-returns-2
-returns-2 c = 
+returns-2 c =
     sym (space-other (c .before .before .before .before .before .before .before .before .args .line .now) (c .before .before .before .before .n .given .0 .1 .0) (c .before .before .before .before .n .given .0 .0) (omega arith) (c .if2 .left))
     ∙ ap afterSpace (front-is (c .before .before .before .before .before .before .before .before .args .line .now) (c .before .before .before .before .n .given .1) (c .before .before .before .before .before .before .number-at .ensures))
 
--- src/line.rt:41:1
 returns-3 : tie.Need-returns-3
-returns-3 c = 
+returns-3 c =
     sym (space-end (c .before .before .before .before .before .before .args .line .now) (c .before .before .n .given .0 .1 .0) (c .before .before .n .given .0 .0) (omega arith))
     ∙ ap afterSpace (front-is (c .before .before .before .before .before .before .args .line .now) (c .before .before .n .given .1) (c .before .before .before .before .number-at .ensures))
 
--- src/line.rt:41:1
 returns-4 : tie.Need-returns-4
 returns-4 c = ap afterSpace (front-is (c .before .before .before .before .args .line .now) (c .enum-told .given .1) (c .before .before .number-at .ensures))
 

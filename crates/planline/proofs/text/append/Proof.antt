@@ -1,49 +1,38 @@
+-- The text where there is room, or nothing.
+use Prim.Native.Nat.{_+_}
+use mathlib.Core.Path.{sym, ap, _∙_}
+use lib.ListN.{length}
+use native.Mathlib.Omega.{arith}
+use borrow.Author.Tests.{leb-true}
+use borrow.Author.Needs.{needs}
 use Rattle.planline.proofs.TextLaws.{append-room, append-full}
 use Rattle.planline.specs.Text.{planText, filled, appendOf}
 use Rattle.planline.specs.Line.{planOf}
 use Rattle.planline.specs.declared.line.Plan.{Plan}
-use lib.ListN.{length}
-use borrow.Author.Tests.{leb-true}
-use native.Mathlib.Omega.{arith}
-use mathlib.Core.Path.{sym, ap, _∙_}
-use Prim.Native.Nat.{_+_}
-use borrow.Author.Needs.{needs}
 use Rattle.planline.proofs.text.append.Statement.{statement}
 use Rattle.planline.proofs.text.append.Tie as tie
-use Rattle.planline.proofs.text.append.Reads as reads
-use Rattle.planline.proofs.text.append.Lts as lts
-use Rattle.planline.proofs.line.plan_line.Reads as plan-line-reads
-use Rattle.planline.proofs.text.has_room.Reads as has-room-reads
-use Rattle.planline.proofs.text.put_plan.Reads as put-plan-reads
 
--- src/text.rt:97:8
 has-room-requires : tie.Need-has-room-requires
 has-room-requires c κs = search needs
 
--- src/text.rt:98:34
 plan-line-requires : tie.Need-plan-line-requires
 plan-line-requires c κs = search needs
 
--- src/text.rt:98:9
 put-plan-requires : tie.Need-put-plan-requires
 put-plan-requires c κs = omega (arith, leb-true (c .before .before .before .before .before .before .before .args .at + 96) (length (c .before .before .before .before .before .before .before .args .out .now)) (sym (c .before .before .before .has-room .ensures) ∙ c .before .before .if1 .taken))
 
--- src/text.rt:98:9
 same-length : tie.Need-same-length
 same-length c = search needs
 
--- src/text.rt:98:9
 returns : tie.Need-returns
-returns c = 
+returns c =
     append-room (planText (c .before .before .before .plan-line .result)) (c .before .before .before .before .before .before .before .before .before .before .args .out .now) (c .before .before .put-plan .last .0) (c .before .before .before .before .before .before .before .before .before .before .args .at) (c .before .before .put-plan .result)
     (sym (c .before .before .before .before .before .before .has-room .ensures) ∙ c .before .before .before .before .before .if1 .taken) (c .before .before .put-plan .ensures)
     ∙ ap (λ (p : Plan). appendOf (planText p) (filled (c .before .before .before .before .before .before .before .before .before .before .args .at) (c .before .before .before .before .before .before .before .before .before .before .args .out .now))) (c .before .before .before .plan-line .ensures)
 
--- src/text.rt:94:1
 same-length-2 : tie.Need-same-length-2
 same-length-2 c = search needs
 
--- src/text.rt:94:1
 returns-2 : tie.Need-returns-2
 returns-2 c = append-full (planText (planOf (c .before .before .before .before .before .args .line .now))) (c .before .before .before .before .before .args .out .now) (c .before .before .before .before .before .args .at) (sym (c .before .has-room .ensures) ∙ c .if1 .left)
 

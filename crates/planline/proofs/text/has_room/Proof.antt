@@ -1,24 +1,20 @@
-use Rattle.planline.proofs.DecimalLaws.{same-leb}
-use borrow.Author.Tests.{lt-leb}
+-- A compare with the length less 96 is one of the sum.
+use Prim.Native.Nat.{_+_, _-_}
+use mathlib.Core.Path.{sym}
 use lib.ListN.{length}
 use native.Mathlib.Omega.{arith}
-use mathlib.Core.Path.{sym}
-use Prim.Native.Nat.{_+_, _-_}
+use borrow.Author.Tests.{lt-leb}
 use borrow.Author.Needs.{needs}
+use Rattle.planline.proofs.DecimalLaws.{same-leb}
 use Rattle.planline.proofs.text.has_room.Statement.{statement}
 use Rattle.planline.proofs.text.has_room.Tie as tie
-use Rattle.planline.proofs.text.has_room.Reads as reads
-use Rattle.planline.proofs.text.has_room.Lts as lts
 
--- src/text.rt:87:9
 returns : tie.Need-returns
 returns c = sym (lt-leb (c .before .args .at + 96) (length (c .before .args .out .now)) (omega arith))
 
--- src/text.rt:89:11
 sub-result : tie.Need-sub-result
 sub-result c = search needs
 
--- src/text.rt:83:1
 returns-2 : tie.Need-returns-2
 returns-2 c = same-leb (c .before .args .at) (length (c .before .args .out .now) - 96) (c .before .args .at + 96) (length (c .before .args .out .now)) (λ h. omega arith) (λ h. omega arith)
 

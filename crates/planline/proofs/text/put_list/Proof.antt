@@ -1,85 +1,64 @@
-use Rattle.planline.proofs.TextLaws.{stored-then, operation-short}
-use Rattle.planline.specs.Text.{listText}
+-- The count, then each operation's text.
 use native.Mathlib.Omega.{arith}
 use borrow.Author.Needs.{needs}
+use Rattle.planline.proofs.TextLaws.{stored-then, operation-short}
+use Rattle.planline.specs.Text.{listText}
 use Rattle.planline.proofs.text.put_list.Statement.{statement}
 use Rattle.planline.proofs.text.put_list.Tie as tie
-use Rattle.planline.proofs.text.put_list.Reads as reads
-use Rattle.planline.proofs.text.put_list.Lts as lts
-use Rattle.planline.proofs.text.put.Reads as put-reads
-use Rattle.planline.proofs.text.put_operation.Reads as put-operation-reads
 
--- src/text.rt:49:42
 enum-told : tie.Need-enum-told
 enum-told c = search needs
 
--- src/text.rt:49:51
 slice-aggregate-put : tie.Need-slice-aggregate-put
 slice-aggregate-put c = search needs
 
--- src/text.rt:49:38
 put-requires : tie.Need-put-requires
 put-requires c κs = omega arith
 
--- src/text.rt:50:34
 enum-known-list : tie.Need-enum-known-list
 enum-known-list c = search needs
 
--- src/text.rt:51:38
 slice-aggregate-put-2 : tie.Need-slice-aggregate-put-2
 slice-aggregate-put-2 c = search needs
 
--- src/text.rt:51:17
 put-requires-2 : tie.Need-put-requires-2
 put-requires-2 c κs = omega arith
 
--- src/text.rt:52:13
 put-operation-requires : tie.Need-put-operation-requires
 put-operation-requires c κs = omega arith
 
--- src/text.rt:54:34
 enum-known-list-2 : tie.Need-enum-known-list-2
 enum-known-list-2 c = search needs
 
--- src/text.rt:55:38
 slice-aggregate-put-3 : tie.Need-slice-aggregate-put-3
 slice-aggregate-put-3 c = search needs
 
--- src/text.rt:55:17
 put-requires-3 : tie.Need-put-requires-3
 put-requires-3 c κs = omega arith
 
--- src/text.rt:56:17
 put-operation-requires-2 : tie.Need-put-operation-requires-2
 put-operation-requires-2 c κs = omega arith
 
--- src/text.rt:57:13
 put-operation-requires-3 : tie.Need-put-operation-requires-3
 put-operation-requires-3 c κs = omega (arith, operation-short (c .before .before .before .before .before .before .before .before .before .before .before .list2 .given .0 .0))
 
--- src/text.rt:43:1
 same-length : tie.Need-same-length
 same-length c = search needs
 
--- src/text.rt:43:1
 returns : tie.Need-returns
 unfolding listText
 returns c = rw (c .before .before .before .before .before .enum-told .given .1) (c .before .before .put .ensures)
 
--- src/text.rt:43:1
 same-length-2 : tie.Need-same-length-2
 same-length-2 c = search needs
 
--- src/text.rt:43:1
 returns-2 : tie.Need-returns-2
 unfolding listText
 returns-2 c = rw (c .before .before .before .before .before .before .before .before .before .before .list .given .1) (stored-then (c .before .before .before .before .before .before .put2 .ensures) (c .before .before .put-operation .ensures))
 
--- src/text.rt:43:1
 same-length-3 : tie.Need-same-length-3
 same-length-3 c = search needs
 
--- src/text.rt:43:1
 returns-3 : tie.Need-returns-3
 unfolding listText
 returns-3 c = rw (c .before .before .before .before .before .before .before .before .before .before .before .before .before .before .list2 .given .1) (stored-then (c .before .before .before .before .before .before .before .before .before .before .put3 .ensures) (stored-then (c .before .before .before .before .before .before .put-operation2 .ensures) (c .before .before .put-operation3 .ensures)))

@@ -1,44 +1,33 @@
+-- Four texts, one behind the other.
+use native.Mathlib.Omega.{arith}
+use borrow.Author.Needs.{needs}
 use Rattle.planline.proofs.TextLaws.{stored-then}
 use Rattle.planline.proofs.DecimalLaws.{decimal-short}
 use Rattle.planline.specs.Text.{operationText}
-use native.Mathlib.Omega.{arith}
-use borrow.Author.Needs.{needs}
 use Rattle.planline.proofs.text.put_operation.Statement.{statement}
 use Rattle.planline.proofs.text.put_operation.Tie as tie
-use Rattle.planline.proofs.text.put_operation.Reads as reads
-use Rattle.planline.proofs.text.put_operation.Lts as lts
-use Rattle.planline.proofs.decimal.put_decimal.Reads as put-decimal-reads
-use Rattle.planline.proofs.text.put.Reads as put-reads
 
--- src/text.rt:37:31
 slice-aggregate-put : tie.Need-slice-aggregate-put
 slice-aggregate-put c = search needs
 
--- src/text.rt:37:9
 put-requires : tie.Need-put-requires
 put-requires c κs = omega arith
 
--- src/text.rt:38:9
 put-decimal-requires : tie.Need-put-decimal-requires
 put-decimal-requires c κs = omega (arith, decimal-short (c .before .before .before .before .before .before .before .args .op .off .0))
 
--- src/text.rt:39:31
 slice-aggregate-put-2 : tie.Need-slice-aggregate-put-2
 slice-aggregate-put-2 c = search needs
 
--- src/text.rt:39:9
 put-requires-2 : tie.Need-put-requires-2
 put-requires-2 c κs = omega (arith, decimal-short (c .before .before .before .before .before .before .before .before .before .before .before .before .args .op .off .0))
 
--- src/text.rt:40:5
 put-decimal-requires-2 : tie.Need-put-decimal-requires-2
 put-decimal-requires-2 c κs = omega (arith, decimal-short (c .before .before .before .before .before .before .before .before .before .before .before .before .before .before .before .before .args .op .off .0), decimal-short (c .before .before .before .before .before .before .before .before .before .before .before .before .before .before .before .before .args .op .len))
 
--- src/text.rt:32:1
 same-length : tie.Need-same-length
 same-length c = search needs
 
--- src/text.rt:32:1
 returns : tie.Need-returns
 unfolding operationText
 returns c = stored-then (c .before .before .before .before .before .before .before .before .before .before .before .before .before .before .before .put .ensures) (stored-then (c .before .before .before .before .before .before .before .before .before .before .before .put-decimal .ensures) (stored-then (c .before .before .before .before .before .before .put2 .ensures) (c .before .before .put-decimal2 .ensures)))

@@ -1,99 +1,74 @@
+-- By the plan's kind.
+use native.Mathlib.Omega.{arith}
+use borrow.Author.Needs.{needs}
 use Rattle.planline.proofs.TextLaws.{stored-then, list-short}
 use Rattle.planline.proofs.DecimalLaws.{decimal-short}
 use Rattle.planline.specs.Text.{planText}
-use native.Mathlib.Omega.{arith}
-use borrow.Author.Needs.{needs}
 use Rattle.planline.proofs.text.put_plan.Statement.{statement}
 use Rattle.planline.proofs.text.put_plan.Tie as tie
-use Rattle.planline.proofs.text.put_plan.Reads as reads
-use Rattle.planline.proofs.text.put_plan.Lts as lts
-use Rattle.planline.proofs.decimal.put_decimal.Reads as put-decimal-reads
-use Rattle.planline.proofs.text.put.Reads as put-reads
-use Rattle.planline.proofs.text.put_list.Reads as put-list-reads
 
--- src/text.rt:68:26
 enum-told : tie.Need-enum-told
 enum-told c = search needs
 
--- src/text.rt:68:35
 slice-aggregate-put : tie.Need-slice-aggregate-put
 slice-aggregate-put c = search needs
 
--- src/text.rt:68:22
 put-requires : tie.Need-put-requires
 put-requires c κs = omega arith
 
--- src/text.rt:69:23
 enum-known-plan : tie.Need-enum-known-plan
 enum-known-plan c = search needs
 
--- src/text.rt:70:39
 slice-aggregate-put-2 : tie.Need-slice-aggregate-put-2
 slice-aggregate-put-2 c = search needs
 
--- src/text.rt:70:17
 put-requires-2 : tie.Need-put-requires-2
 put-requires-2 c κs = omega arith
 
--- src/text.rt:71:17
 put-decimal-requires : tie.Need-put-decimal-requires
 put-decimal-requires c κs = omega (arith, decimal-short (c .before .before .before .before .before .before .before .plan .given .0 .0))
 
--- src/text.rt:72:27
 slice-aggregate-put-3 : tie.Need-slice-aggregate-put-3
 slice-aggregate-put-3 c = search needs
 
--- src/text.rt:72:13
 put-requires-3 : tie.Need-put-requires-3
 put-requires-3 c κs = omega (arith, decimal-short (c .before .before .before .before .before .before .before .before .before .before .before .before .plan .given .0 .0))
 
--- src/text.rt:74:18
 enum-known-plan-2 : tie.Need-enum-known-plan-2
 enum-known-plan-2 c = search needs
 
--- src/text.rt:75:38
 slice-aggregate-put-4 : tie.Need-slice-aggregate-put-4
 slice-aggregate-put-4 c = search needs
 
--- src/text.rt:75:17
 put-requires-4 : tie.Need-put-requires-4
 put-requires-4 c κs = omega arith
 
--- src/text.rt:76:17
 put-list-requires : tie.Need-put-list-requires
 put-list-requires c κs = omega arith
 
--- src/text.rt:77:27
 slice-aggregate-put-5 : tie.Need-slice-aggregate-put-5
 slice-aggregate-put-5 c = search needs
 
--- src/text.rt:77:13
 put-requires-5 : tie.Need-put-requires-5
 put-requires-5 c κs = omega (arith, list-short (c .before .before .before .before .before .before .before .before .before .before .before .before .plan2 .given .0 .0))
 
--- src/text.rt:62:1
 same-length : tie.Need-same-length
 same-length c = search needs
 
--- src/text.rt:62:1
 returns : tie.Need-returns
 unfolding planText
 returns c = rw (c .before .before .before .before .before .enum-told .given .1) (c .before .before .put .ensures)
 
--- src/text.rt:62:1
 same-length-2 : tie.Need-same-length-2
 same-length-2 c = search needs
 
--- src/text.rt:62:1
 returns-2 : tie.Need-returns-2
 unfolding planText
 returns-2 c = rw (c .before .before .before .before .before .before .before .before .before .before .before .before .before .before .before .plan .given .1) (stored-then (c .before .before .before .before .before .before .before .before .before .before .before .put2 .ensures) (stored-then (c .before .before .before .before .before .before .before .put-decimal .ensures) (c .before .before .put3 .ensures)))
 
--- src/text.rt:62:1
 same-length-3 : tie.Need-same-length-3
 same-length-3 c = search needs
 
--- src/text.rt:62:1
 returns-3 : tie.Need-returns-3
 unfolding planText
 returns-3 c = rw (c .before .before .before .before .before .before .before .before .before .before .before .before .before .before .before .plan2 .given .1) (stored-then (c .before .before .before .before .before .before .before .before .before .before .before .put4 .ensures) (stored-then (c .before .before .before .before .before .before .before .put-list .ensures) (c .before .before .put5 .ensures)))

@@ -7,9 +7,9 @@ use mathlib.Core.Logic.{⊎-elim}
 use lib.Dec.{ltb, eqb}
 use native.Mathlib.Nat.{div-add-mod', mod-lt, pow-suc}
 use native.Mathlib.Omega.{arith}
-use borrow.Author.Tests.{ltb-true, lt-ltb, eqb-true, eq-eqb, ne-eqb, eqb-false}
+use borrow.Author.Tests.{ltb-true, lt-ltb, eqb-true, ne-eqb, eqb-false}
 use Rattle.modular.proofs.Laws.{lt-or-le}
-use Rattle.planline.specs.Decimal.{decimal, Front, some, none, isDigit, digitsOn, numberFront}
+use Rattle.planline.specs.Decimal.{decimal, some, none, isDigit, digitsOn, numberFront}
 use Rattle.planline.proofs.DecimalLaws.{is-digit, digit-bounds, tenth, decimal-one, decimal-more}
 
 -- ---- reading on, byte by byte

@@ -4,15 +4,15 @@ use mathlib.Core.Path.{_≡_, refl, sym, ap, _∙_}
 use mathlib.Core.Bool.{Bool, true, false, cond}
 use mathlib.Core.Logic.{⊎-elim}
 use mathlib.Core.List.{List, [], _∷_, _++_}
-use lib.Dec.{ltb, leb, eqb}
+use lib.Dec.{ltb, leb}
 use lib.ListN.{length, drop, getD, set, length-append, drop-of-length-le}
 use lib.Seq.{sets, drop-cons}
-use native.Mathlib.Nat.{pow-suc, div-add-mod', mod-lt, div-lt-iff-lt-mul}
+use native.Mathlib.Nat.{pow-suc, div-add-mod'}
 use native.Mathlib.Numerals.{add-one}
 use native.Mathlib.Omega.{arith}
-use borrow.Author.Tests.{leb-true, leb-false, lt-ltb, le-ltb, ltb-true, ltb-false, le-leb, lt-leb, eq-eqb, ne-eqb}
+use borrow.Author.Tests.{leb-true, leb-false, lt-ltb, le-ltb, le-leb, lt-leb, eq-eqb, ne-eqb}
 use Rattle.modular.proofs.Laws.{lt-or-le}
-use Rattle.planline.specs.Decimal.{digitsBy, decimal, Front, some, none, isDigit, digitsOn, numberFront}
+use Rattle.planline.specs.Decimal.{digitsBy, decimal, some, none, isDigit, digitsOn, numberFront}
 
 -- ---- tests
 pub same-leb : (a b c d : ℕ) → (a ≤ b → c ≤ d) → (c ≤ d → a ≤ b) → leb a b ≡ leb c d

@@ -7,3 +7,4 @@ pub mod LineLaws
 pub mod TextLaws
 pub mod Pieces
 pub mod Steps
+pub mod Runs

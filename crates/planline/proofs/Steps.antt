@@ -1,13 +1,13 @@
 -- What the code does piece by piece is what `Pieces` says of the bytes: a step changes nothing of the text that the bytes still
 -- to come will have made at the end.
-use Prim.Native.Nat.{ℕ, zero, suc, _+_, _-_, _<_, _≤_, min}
+use Prim.Native.Nat.{ℕ, suc, _+_, _-_, _<_, _≤_, min}
 use mathlib.Core.Path.{_≡_, refl, sym, ap, _∙_}
 use mathlib.Core.Bool.{Bool, true, false, cond}
 use mathlib.Core.List.{List, [], _∷_, _++_, append-assoc, append-nil}
 use mathlib.Core.Logic.{⊎-elim}
 use lib.Dec.{eqb, leb}
 use lib.ListN.{length, take, drop, set, length-append, length-take, length-drop, length-set}
-use lib.Seq.{take-all, take-at, take-suc-set, drop-drop, length-take-le}
+use lib.Seq.{take-all, take-at, take-suc-set, drop-drop}
 use native.Mathlib.Numerals.{add-one}
 use native.Mathlib.Omega.{arith}
 use borrow.Author.Tests.{eqb-true, eqb-false}
@@ -94,7 +94,6 @@ taken (b ∷ bs) h i text k = go (eqb b 10) refl (taken bs (holdOf h b) (i + 1) 
           more = omega arith;
         })
     go false e r =
-        let t : Took = takeOf (holdOf h b) (i + 1) bs in
         let d : takeOf (holdOf h b) (i + 1) bs .next - i ≡ suc (takeOf (holdOf h b) (i + 1) bs .next - (i + 1)) = omega (arith, r .more) in
         rw (take-byte b bs h i e)
         (record {

@@ -1,5 +1,5 @@
 -- A plan as text, with its line feed, and the text behind what a buffer holds already.
-use Prim.Native.Nat.{ℕ, _+_, _≤_}
+use Prim.Native.Nat.{ℕ, _+_}
 use mathlib.Core.Bool.{cond}
 use mathlib.Core.List.{List, [], _∷_, _++_}
 use lib.Dec.{leb}
@@ -11,7 +11,6 @@ use Rattle.sched.specs.declared.operation.ScheduledOperation.{ScheduledOperatio
 use Rattle.planline.specs.declared.line.Plan.{Plan}
 use Rattle.planline.specs.declared.line.Plan.the-variants as plan
 use Rattle.planline.specs.Decimal.{decimal}
-use Rattle.planline.specs.Line.{planOf}
 
 -- " offset length"
 unfoldable pub operationText : ScheduledOperation → List ℕ

@@ -63,7 +63,7 @@ function begin = record {
 abbrev beginning : {M : Type 1} (𝓤 : URA M) → (ReceiverState → Call) → Clauses 𝓤 g₀.ended
 beginning 𝓤 begins κs a = record { ghost = Unit {0}; requires = λ _. emp 𝓤; ensures = λ _ r _. fact 𝓤 (r ≡ begins (a .0)) }
 
-abbrev answering : {M : Type 1} (𝓤 : URA M) → (ReceiverState → List Answer → Ended) → Clauses 𝓤 f.ended
+abbrev pub answering : {M : Type 1} (𝓤 : URA M) → (ReceiverState → List Answer → Ended) → Clauses 𝓤 f.ended
 answering 𝓤 told κs a = record { ghost = Unit {0}; requires = λ _. emp 𝓤; ensures = λ _ r _. fact 𝓤 (r ≡ told (a .0) (a .1 .0 .now)) }
 
 module _ {M : Type 1} (𝓤 : URA M) (H : Heap 𝓤) (A : Atoms 𝓤) where

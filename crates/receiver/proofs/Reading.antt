@@ -40,10 +40,10 @@ use Rattle.receiver.proofs.receiver.ReceiverState.Laws as Q′
 use Rattle.receiver.proofs.receiver.ReceiverState.read_with_fds as f
 
 -- what is read: the receiver, the ring, the destination, the most descriptors, and the run
-abbrev Reads : Type 0
+abbrev pub Reads : Type 0
 Reads = ReceiverState → List ℕ → List ℕ → ℕ → List Answer → Delivery
 
-abbrev reading : {M : Type 1} (𝓤 : URA M) → Reads → Clauses 𝓤 f.ended
+abbrev pub reading : {M : Type 1} (𝓤 : URA M) → Reads → Clauses 𝓤 f.ended
 reading 𝓤 reads κs a = record { ghost = Unit {0}; requires = λ _. emp 𝓤; ensures = λ _ r z. fact 𝓤 (delivery r (z .1 .1 .0 .now) ≡ reads (a .0) (a .1 .0 .now) (a .1 .1 .0 .now) (a .1 .1 .1 .0) (a .1 .1 .1 .1 .0 .now)) }
 
 abbrev stayed : Stays (f.ended .signature .params) (f.ended .kept)

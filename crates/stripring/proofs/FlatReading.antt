@@ -36,12 +36,13 @@ use denote.Triple.Spec.{Meets, tripleOf}
 use denote.Triple.Statement.{Contract, Triple}
 use denote.Triple.Walked.{says, Stays, stay-dropped, gave-slice, walkOf, goes-dropped, goes-gave-slice, ends-at, walked, walk-meets}
 use denote.Exit.{yes}
+use Rattle.copies.proofs.Calls.{lent, asks, calls}
 use Rattle.receiver.specs.declared.answer.Answer.{Answer}
 use Rattle.receiver.specs.declared.receiver.Ended.{Ended}
 use Rattle.receiver.specs.declared.receiver.ReceiverState.{ReceiverState}
 use Rattle.receiver.specs.Receiver.{delivery}
 use Rattle.receiver.proofs.Reading.{Reads, reading}
-use Rattle.receiver.proofs.Thin.{R, lent, asks, calls}
+use Rattle.receiver.proofs.Thin.{R}
 use Rattle.receiver.proofs.receiver.Ended as E
 use Rattle.receiver.proofs.receiver.Ended.Laws as E′
 use Rattle.receiver.proofs.receiver.ReceiverState as Q
@@ -63,7 +64,7 @@ use Rattle.stripring.proofs.receiver_record.flat_ended.Symbol as g₂-d
 use Rattle.stripring.proofs.receiver_run.stripring_receiver_read_with_fds as f
 
 -- the MIR of the two reads
-abbrev pub function : Name → Fn
+abbrev function : Name → Fn
 function read = record {
   lifetimes = 3;
   outlives = [];
@@ -75,7 +76,7 @@ function read = record {
 }
 
 -- the flat form of what a read delivers, of the receiver that the record stands for
-abbrev pub readFlatly : {M : Type 1} (𝓤 : URA M) → Reads → Clauses 𝓤 f.ended
+abbrev readFlatly : {M : Type 1} (𝓤 : URA M) → Reads → Clauses 𝓤 f.ended
 readFlatly 𝓤 reads κs a = record { ghost = Unit {0}; requires = λ _. emp 𝓤; ensures = λ _ r z. fact 𝓤 (endedAnswerLeft r (z .1 .1 .0 .now) ≡ flatDelivery (reads (receiverAt (a .0)) (a .1 .0 .now) (a .1 .1 .0 .now) (a .1 .1 .1 .0) (a .1 .1 .1 .1 .0 .now))) }
 
 abbrev pub Read : {M : Type 1} (𝓤 : URA M) (H : Heap 𝓤) (A : Atoms 𝓤) → Reads → Contract 𝓤

@@ -31,11 +31,12 @@ use denote.Triple.Spec.{Meets, tripleOf}
 use denote.Triple.Statement.{Contract, Triple}
 use denote.Triple.Walked.{says, Stays, stay-dropped, walkOf, goes-dropped, ends-at, walked, walk-meets}
 use denote.Exit.{yes}
+use Rattle.copies.proofs.Calls.{lent, asks, calls}
 use Rattle.receiver.specs.declared.answer.Answer.{Answer}
 use Rattle.receiver.specs.declared.receiver.Ended.{Ended}
 use Rattle.receiver.specs.declared.receiver.ReceiverState.{ReceiverState}
 use Rattle.receiver.proofs.Begun.{answering}
-use Rattle.receiver.proofs.Thin.{R, lent, asks, calls}
+use Rattle.receiver.proofs.Thin.{R}
 use Rattle.receiver.proofs.receiver.Ended as E
 use Rattle.receiver.proofs.receiver.Ended.Laws as E′
 use Rattle.receiver.proofs.receiver.ReceiverState as Q
@@ -61,7 +62,7 @@ abbrev pub fval : Receiver → Val
 fval = LL.val F.the-type F′.the-laws
 
 -- the MIR of the two calls
-abbrev pub function : Name → Fn
+abbrev function : Name → Fn
 function asked = record {
   lifetimes = 1;
   outlives = [];
@@ -71,7 +72,7 @@ function asked = record {
 }
 
 -- the flat form of what a call over a run answers, of the receiver that the record stands for
-abbrev pub flatly : {M : Type 1} (𝓤 : URA M) → (ReceiverState → List Answer → Ended) → Clauses 𝓤 f.ended
+abbrev flatly : {M : Type 1} (𝓤 : URA M) → (ReceiverState → List Answer → Ended) → Clauses 𝓤 f.ended
 flatly 𝓤 told κs a = record { ghost = Unit {0}; requires = λ _. emp 𝓤; ensures = λ _ r _. fact 𝓤 (r ≡ flatEnded (told (receiverAt (a .0)) (a .1 .0 .now))) }
 
 module _ {M : Type 1} (𝓤 : URA M) (H : Heap 𝓤) (A : Atoms 𝓤) (mem : Memory → SProp 𝓤) (run : Routine → Fun 𝓤) where

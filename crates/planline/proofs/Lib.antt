@@ -1,3 +1,4 @@
+pub mod Case
 pub mod CutLaws
 pub mod DecimalLaws
 pub mod Decided

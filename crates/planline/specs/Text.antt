@@ -37,7 +37,7 @@ abbrev pub filled : ℕ → List ℕ → Filled
 filled n xs = record { at = n; bytes = xs }
 
 abbrev pub longest : ℕ
-longest = 96
+longest = 89
 
 -- the text behind the first `n` bytes; nothing where there is not room for the longest text
 unfoldable pub appendOf : List ℕ → Filled → Filled

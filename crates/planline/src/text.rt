@@ -12,8 +12,8 @@ use crate::line::plan_line;
 use sched::ScheduledOperation;
 use sched::ScheduledOperations;
 
-// No text is longer.
-pub const LONGEST: usize = 96;
+// No text is longer: "ok 2", four numbers of 20 digits with a space before each, and the line feed.
+const LONGEST: usize = 89;
 
 // The bytes at `at`; answers the index behind them.
 fn put(out: &mut [u8], at: usize, bytes: &[u8]) -> usize

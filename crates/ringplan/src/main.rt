@@ -6,7 +6,7 @@ use planline::Cut;
 use planline::answer_last;
 use planline::answer_next;
 
-// Whether the input has more. Either end of the run, a read or a write that fails, is told where it happens.
+// Whether the input has more. A read or a write that fails is told on standard error where it happens, and ends the run.
 enum Source {
     Open,
     Ended,
@@ -24,6 +24,7 @@ struct Progress {
     is_written: bool,
 }
 
+// The first n bytes; planline answers no index behind the buffer's end.
 fn print(out: &[u8], n: usize) -> bool {
     if n > out.len() {
         return false;

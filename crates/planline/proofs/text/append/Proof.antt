@@ -19,7 +19,7 @@ plan-line-requires : tie.Need-plan-line-requires
 plan-line-requires c κs = search needs
 
 put-plan-requires : tie.Need-put-plan-requires
-put-plan-requires c κs = omega (arith, leb-true (c .before .before .before .before .before .before .before .args .at + 96) (length (c .before .before .before .before .before .before .before .args .out .now)) (sym (c .before .before .before .has-room .ensures) ∙ c .before .before .if1 .taken))
+put-plan-requires c κs = omega (arith, leb-true (c .before .before .before .before .before .before .before .args .at + 89) (length (c .before .before .before .before .before .before .before .args .out .now)) (sym (c .before .before .before .has-room .ensures) ∙ c .before .before .if1 .taken))
 
 same-length : tie.Need-same-length
 same-length c = search needs

@@ -1,4 +1,4 @@
--- A compare with the length less 96 is one of the sum.
+-- A compare with the length less 89 is one of the sum.
 use Prim.Native.Nat.{_+_, _-_}
 use mathlib.Core.Path.{sym}
 use lib.ListN.{length}
@@ -10,13 +10,13 @@ use Rattle.planline.proofs.text.has_room.Statement.{statement}
 use Rattle.planline.proofs.text.has_room.Tie as tie
 
 returns : tie.Need-returns
-returns c = sym (lt-leb (c .before .args .at + 96) (length (c .before .args .out .now)) (omega arith))
+returns c = sym (lt-leb (c .before .args .at + 89) (length (c .before .args .out .now)) (omega arith))
 
 sub-result : tie.Need-sub-result
 sub-result c = search needs
 
 returns-2 : tie.Need-returns-2
-returns-2 c = same-leb (c .before .args .at) (length (c .before .args .out .now) - 96) (c .before .args .at + 96) (length (c .before .args .out .now)) (λ h. omega arith) (λ h. omega arith)
+returns-2 c = same-leb (c .before .args .at) (length (c .before .args .out .now) - 89) (c .before .args .at + 89) (length (c .before .args .out .now)) (λ h. omega arith) (λ h. omega arith)
 
 pub has-room-spec : {M : Type 1} → statement M
 has-room-spec = tie.close (tie.spec returns sub-result returns-2)

@@ -1,0 +1,20 @@
+-- The paper's whole case, behind its header.
+use Prim.Native.Nat.{ℕ}
+use mathlib.Core.Path.{_≡_, refl}
+use mathlib.Core.List.{List, [], _∷_}
+use Rattle.modular.specs.Modulus.{subMod}
+use Rattle.sched.specs.Scheduler.{soundOf, cutOf}
+use Rattle.planline.specs.Decimal.{digitsBy, decimal, isDigit, digitsOn, numberFront}
+use Rattle.planline.specs.Input.{lastLines, linesFrom, linesOf, textsOf}
+use Rattle.planline.specs.Line.{spaceThen, endThen, kindOf, kindFront, parseOf, planOf}
+use Rattle.planline.specs.Text.{operationText, listText, planText}
+
+abbrev pub input : List ℕ
+input = 49 ∷ 48 ∷ 32 ∷ 55 ∷ 32 ∷ 51 ∷ 32 ∷ 87 ∷ 32 ∷ 57 ∷ 10 ∷ 48 ∷ 32 ∷ 48 ∷ 32 ∷ 48 ∷ 32 ∷ 82 ∷ 32 ∷ 49 ∷ 10 ∷ 49 ∷ 48 ∷ 32 ∷ 55 ∷ 32 ∷ 51 ∷ 32 ∷ 82 ∷ []
+
+abbrev pub output : List ℕ
+output = 111 ∷ 107 ∷ 32 ∷ 50 ∷ 32 ∷ 55 ∷ 32 ∷ 51 ∷ 32 ∷ 48 ∷ 32 ∷ 51 ∷ 10 ∷ 114 ∷ 101 ∷ 102 ∷ 117 ∷ 115 ∷ 101 ∷ 100 ∷ 32 ∷ 49 ∷ 10 ∷ 98 ∷ 97 ∷ 100 ∷ 10 ∷ []
+
+pub case : textsOf (linesOf input) ≡ output
+unfolding subMod soundOf cutOf digitsBy decimal isDigit digitsOn numberFront lastLines linesFrom textsOf spaceThen endThen kindOf kindFront parseOf planOf operationText listText planText
+case = refl

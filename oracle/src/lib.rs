@@ -3,6 +3,7 @@
 pub mod modular_answers;
 pub mod receiver_answers;
 pub mod receiver_standins;
+pub mod ringplan;
 pub mod sched_answers;
 pub mod scripted_socket;
 pub mod standins;

@@ -3,11 +3,15 @@
 mod memory;
 mod modular_u8;
 mod numbers;
+mod pieces;
 mod receiver_inputs;
 mod receiver_paper;
 mod record_modular;
 mod record_receiver;
 mod record_sched;
+mod ringplan_compare;
+mod ringplan_lines;
+mod ringplan_paper;
 mod sched_inputs;
 mod sched_paper;
 mod tally;
@@ -25,30 +29,43 @@ mod sched;
 #[cfg(feature = "judge")]
 mod stripring;
 
+use std::io::{self, BufWriter};
 use std::process::ExitCode;
 
 fn main() -> ExitCode {
     let arguments: Vec<String> = std::env::args().skip(1).collect();
-    let passed = match arguments.join(" ").as_str() {
-        "modular-u8" => modular_u8::run(),
+    let words: Vec<&str> = arguments.iter().map(String::as_str).collect();
+    let passed = match words[..] {
+        ["modular-u8"] => modular_u8::run(),
         #[cfg(feature = "judge")]
-        "modular" => modular::run(),
+        ["modular"] => modular::run(),
         #[cfg(feature = "judge")]
-        "sched" => sched::run(),
+        ["sched"] => sched::run(),
         #[cfg(feature = "judge")]
-        "copies" => copies::run() & ends::run(),
+        ["copies"] => copies::run() & ends::run(),
         #[cfg(feature = "judge")]
-        "receiver" => receiver::run(),
-        "sched-paper" => sched_paper::run(),
-        "receiver-paper" => receiver_paper::run(),
-        "record-modular" => record_modular::run(),
-        "record-sched" => record_sched::run(),
-        "record-receiver" => record_receiver::run(),
+        ["receiver"] => receiver::run(),
+        ["sched-paper"] => sched_paper::run(),
+        ["receiver-paper"] => receiver_paper::run(),
+        ["record-modular"] => record_modular::run(),
+        ["record-sched"] => record_sched::run(),
+        ["record-receiver"] => record_receiver::run(),
+        ["ringplan"] => ringplan(),
+        ["ringplan-paper"] => ringplan_paper::run(),
+        ["ringplan-lines"] => ringplan_lines::run(),
+        ["ringplan-user-lines"] => ringplan_lines::run_user(),
+        ["ringplan-compare", lines, rust, program, what] => {
+            ringplan_compare::run(lines, rust, program, what)
+        }
+        ["pieces", length] => pieces::run(length),
         _ => {
             eprintln!(
                 "usage: oracle modular-u8|modular|sched|copies|receiver|sched-paper|receiver-paper\
-                |record-modular|record-sched|record-receiver"
+                |record-modular|record-sched|record-receiver\
+                |ringplan|ringplan-paper|ringplan-lines|ringplan-user-lines"
             );
+            eprintln!("usage: oracle ringplan-compare LINES RUST PROGRAM WHAT");
+            eprintln!("usage: oracle pieces LENGTH");
             eprintln!("modular, sched, copies and receiver need a build with the feature judge");
             return ExitCode::from(2);
         }
@@ -58,4 +75,9 @@ fn main() -> ExitCode {
     } else {
         ExitCode::FAILURE
     }
+}
+
+fn ringplan() -> bool {
+    let output = BufWriter::new(io::stdout().lock());
+    oracle::ringplan::run(io::stdin().lock(), output).is_ok()
 }

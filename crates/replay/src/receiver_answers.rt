@@ -98,7 +98,7 @@ fn with_potential_failure(line: Line, potential: PotentialFailure) -> Line {
 fn with_failure(line: Line, failure: Failure) -> Line {
     match failure {
         Failure::Io(errno) => line.push(0).push(errno),
-        Failure::Protocol(violation) => line.push(violation_number(violation)).push(0),
+        Failure::Protocol(violation) => line.push(1).push(violation_number(violation)),
     }
 }
 

@@ -68,27 +68,33 @@ fn receiver(line: Line) -> ReceiverState {
     }
 }
 
-fn state(number: u64, kind: u64, errno: u64) -> OperationalState {
+fn state(number: u64, kind: u64, value: u64) -> OperationalState {
     match number {
         0 => OperationalState::Normal,
-        1 => OperationalState::Draining(failure(kind, errno)),
-        _ => OperationalState::Terminated(failure(kind, errno)),
+        1 => OperationalState::Draining(failure(kind, value)),
+        _ => OperationalState::Terminated(failure(kind, value)),
     }
 }
 
-fn potential_failure(some: u64, kind: u64, errno: u64) -> PotentialFailure {
+fn potential_failure(some: u64, kind: u64, value: u64) -> PotentialFailure {
     match some {
         0 => PotentialFailure::None,
-        _ => PotentialFailure::Some(failure(kind, errno)),
+        _ => PotentialFailure::Some(failure(kind, value)),
     }
 }
 
-fn failure(kind: u64, errno: u64) -> Failure {
+fn failure(kind: u64, value: u64) -> Failure {
     match kind {
-        0 => Failure::Io(errno),
-        1 => Failure::Protocol(Violation::InvalidChunkAnnouncement),
-        2 => Failure::Protocol(Violation::ControlOverflow),
-        3 => Failure::Protocol(Violation::UnknownHeader),
-        _ => Failure::Protocol(Violation::InvalidChunkLength),
+        0 => Failure::Io(value),
+        _ => Failure::Protocol(violation(value)),
+    }
+}
+
+fn violation(number: u64) -> Violation {
+    match number {
+        1 => Violation::InvalidChunkAnnouncement,
+        2 => Violation::ControlOverflow,
+        3 => Violation::UnknownHeader,
+        _ => Violation::InvalidChunkLength,
     }
 }

@@ -1,0 +1,391 @@
+//! The receiver of a stream of announced chunks, over a socket that stays with the host.
+
+pub use crate::abi::Answer;
+
+use crate::abi;
+use crate::refusal::{Refusal, accepted, sound};
+use crate::scheduler::Scheduler;
+use std::io;
+
+/// A breach of the protocol by the other process.
+#[derive(Clone, Copy, Debug, PartialEq, Eq)]
+pub enum Violation {
+    /// 1: an announcement is a byte other than 0.
+    InvalidChunkAnnouncement,
+    /// 2: the ring has no room for the header or the body.
+    ControlOverflow,
+    /// 3: the header's format is not 0.
+    UnknownHeader,
+    /// 4: the body is empty.
+    InvalidChunkLength,
+}
+
+/// Why a stream fails.
+#[derive(Clone, Copy, Debug, PartialEq, Eq)]
+pub enum Failure {
+    /// An errno, by its Linux number.
+    Errno(u64),
+    Violation(Violation),
+}
+
+impl Failure {
+    /// Nothing has come; try again when the socket is ready.
+    pub const WOULDBLOCK: Self = Self::Errno(11);
+    /// The stream has come to its end.
+    pub const END_OF_STREAM: Self = Self::Errno(32);
+}
+
+impl From<abi::Failure> for Failure {
+    fn from(f: abi::Failure) -> Self {
+        match (f.kind, f.value) {
+            (0, errno) => Self::Errno(errno),
+            (_, 1) => Self::Violation(Violation::InvalidChunkAnnouncement),
+            (_, 2) => Self::Violation(Violation::ControlOverflow),
+            (_, 3) => Self::Violation(Violation::UnknownHeader),
+            _ => Self::Violation(Violation::InvalidChunkLength),
+        }
+    }
+}
+
+#[derive(Clone, Copy, Debug, PartialEq, Eq)]
+pub enum State {
+    Normal,
+    Draining(Failure),
+    Terminated(Failure),
+}
+
+impl From<abi::State> for State {
+    fn from(s: abi::State) -> Self {
+        match s.kind {
+            0 => Self::Normal,
+            1 => Self::Draining(s.failure.into()),
+            _ => Self::Terminated(s.failure.into()),
+        }
+    }
+}
+
+/// What a call comes to that is not refused.
+#[derive(Clone, Copy, Debug, PartialEq, Eq)]
+pub enum Outcome {
+    /// So many bytes were read, and so many descriptors came with them.
+    Read {
+        n: usize,
+        fds: u64,
+    },
+    /// Acknowledgements were sent, or the socket shut down.
+    Done,
+    Failed(Failure),
+}
+
+impl From<abi::Outcome> for Outcome {
+    fn from(o: abi::Outcome) -> Self {
+        match o.kind {
+            0 => Self::Read {
+                n: o.n as usize,
+                fds: o.fds,
+            },
+            1 => Self::Done,
+            _ => Self::Failed(o.failure.into()),
+        }
+    }
+}
+
+/// What the socket answered.
+impl Answer {
+    /// To a receive: a byte, and so many descriptors.
+    pub fn received(byte: u8, descriptors: u64) -> Self {
+        Self {
+            kind: 0,
+            value: byte.into(),
+            descriptors,
+        }
+    }
+
+    /// To a receive: the other side has closed.
+    pub fn closed() -> Self {
+        Self {
+            kind: 1,
+            ..Self::default()
+        }
+    }
+
+    /// To anything: this errno, 1 to 4095.
+    pub fn failed(errno: u64) -> Self {
+        Self {
+            kind: 2,
+            value: errno,
+            descriptors: 0,
+        }
+    }
+
+    /// To a send: so many bytes.
+    pub fn sent(n: u64) -> Self {
+        Self {
+            kind: 3,
+            value: n,
+            descriptors: 0,
+        }
+    }
+
+    /// To a shutdown: it succeeded.
+    pub fn done() -> Self {
+        Self {
+            kind: 4,
+            ..Self::default()
+        }
+    }
+}
+
+impl From<io::Error> for Answer {
+    /// An error that the system did not number is errno 5.
+    fn from(e: io::Error) -> Self {
+        Self::failed(e.raw_os_error().map_or(5, |errno| errno as u64))
+    }
+}
+
+/// What a call waits for.
+#[derive(Clone, Copy, Debug, PartialEq, Eq)]
+pub enum Wait {
+    /// Receive one byte, with at most so many descriptors.
+    Receive { max_new_fds: u64 },
+    /// Send so many acknowledgements, a byte each.
+    Send { batch: usize },
+    /// Shut the socket down.
+    Shutdown,
+}
+
+/// What a call over a run of answers came to, and how many of them it used.
+#[derive(Clone, Copy, Debug, PartialEq, Eq)]
+pub struct Ended {
+    pub outcome: Outcome,
+    pub used: usize,
+}
+
+/// Receives chunks: the other process writes a header of 8 bytes and a body into the ring and sends a byte 0; a chunk that
+/// was read to its end is acknowledged by a byte that goes back. The socket stays with the host, in one of two ways.
+///
+/// A call in progress tells what it waits for; the host does it and hands in the answer, until the call is over:
+///
+/// ```
+/// use stripring::{Answer, Outcome, Receiver, Scheduler, Wait};
+///
+/// # fn main() -> Result<(), stripring::Refusal> {
+/// let ring = b"\0\0\0\0\0\0\0\x05strip___"; // a header with the length 5, and the body
+/// let mut receiver = Receiver::new(Scheduler::new(16)?);
+/// let mut bytes = [0; 100];
+///
+/// let mut call = receiver.begin_read(ring, &mut bytes, 0);
+/// while let Some(wait) = call.waits_for() {
+///     let answer = match wait {
+///         Wait::Receive { .. } => Answer::received(0, 0),
+///         Wait::Send { batch } => Answer::sent(batch as u64),
+///         Wait::Shutdown => Answer::done(),
+///     };
+///     call.answered(ring, answer);
+/// }
+/// assert_eq!(call.end()?, Outcome::Read { n: 5, fds: 0 });
+/// assert_eq!(&bytes[..5], b"strip");
+/// # Ok(())
+/// # }
+/// ```
+///
+/// Or the host hands in a run of answers at once:
+///
+/// ```
+/// use stripring::{Answer, Ended, Outcome, Receiver, Refusal, Scheduler};
+///
+/// # fn main() -> Result<(), Refusal> {
+/// let ring = b"\0\0\0\0\0\0\0\x05strip___";
+/// let mut receiver = Receiver::new(Scheduler::new(16)?);
+/// let mut bytes = [0; 100];
+///
+/// let answers = [Answer::received(0, 0), Answer::failed(4), Answer::sent(1)]; // the send is interrupted once
+/// let read = receiver.read_with_fds(ring, &mut bytes, 0, &answers[..1]);
+/// assert_eq!(read, Err(Refusal::AnswerMissing)); // it has changed nothing
+/// let read = receiver.read_with_fds(ring, &mut bytes, 0, &answers);
+/// assert_eq!(read, Ok(Ended { outcome: Outcome::Read { n: 5, fds: 0 }, used: 3 }));
+/// # Ok(())
+/// # }
+/// ```
+#[derive(Clone, Copy, Debug, PartialEq, Eq)]
+pub struct Receiver(abi::Receiver);
+
+impl Receiver {
+    /// A receiver that goes on from this scheduler.
+    pub fn new(s: Scheduler) -> Self {
+        let a = abi::stripring_receiver_new(s.0);
+        sound(a.refusal, Self(a.receiver))
+    }
+
+    /// What is known of the ring. It holds data while a chunk is not read to its end.
+    pub fn scheduler(&self) -> Scheduler {
+        Scheduler(self.0.scheduler)
+    }
+
+    pub fn state(&self) -> State {
+        self.0.state.into()
+    }
+
+    /// Acknowledgements that are not sent yet.
+    pub fn pending_acknowledgements(&self) -> u64 {
+        self.0.pending_ack_count
+    }
+
+    /// Begins a read into `dst` that takes at most so many descriptors. It comes to [`Failure::END_OF_STREAM`] at the end.
+    pub fn begin_read<'a>(
+        &'a mut self,
+        ring: &[u8],
+        dst: &'a mut [u8],
+        max_new_fds: u64,
+    ) -> Call<'a> {
+        let (ring_len, dst_len) = (ring.len(), dst.len() as u64);
+        let call = abi::stripring_call_begin_read(self.0, ring_len, max_new_fds, dst_len);
+        let mut begun = Call::begun(self, dst, call);
+        begun.copy_in_time(ring);
+        begun
+    }
+
+    /// Begins to send the pending acknowledgements.
+    pub fn begin_service(&mut self) -> Call<'_> {
+        let call = abi::stripring_call_begin_service(self.0);
+        Call::begun(self, &mut [], call)
+    }
+
+    /// Begins to drain, and to shut the socket down.
+    pub fn begin_shutdown(&mut self) -> Call<'_> {
+        let call = abi::stripring_call_begin_shutdown(self.0);
+        Call::begun(self, &mut [], call)
+    }
+
+    /// Reads into the first bytes of `dst`. The end of the stream is a read of 0 bytes.
+    pub fn read_with_fds(
+        &mut self,
+        ring: &[u8],
+        dst: &mut [u8],
+        max_new_fds: u64,
+        answers: &[Answer],
+    ) -> Result<Ended, Refusal> {
+        let a = abi::receiver_read_with_fds(self.0, ring, dst, max_new_fds, answers);
+        self.ended(a)
+    }
+
+    /// The same, but the end of the stream is [`Failure::END_OF_STREAM`].
+    pub fn read_with_fds_impl(
+        &mut self,
+        ring: &[u8],
+        dst: &mut [u8],
+        max_new_fds: u64,
+        answers: &[Answer],
+    ) -> Result<Ended, Refusal> {
+        let a = abi::receiver_read_with_fds_impl(self.0, ring, dst, max_new_fds, answers);
+        self.ended(a)
+    }
+
+    /// Sends the pending acknowledgements.
+    pub fn service_chunk_acknowledgements(&mut self, answers: &[Answer]) -> Result<Ended, Refusal> {
+        let a = abi::receiver_service_chunk_acknowledgements(self.0, answers);
+        self.ended(a)
+    }
+
+    /// Drains, and shuts the socket down unless that was done.
+    ///
+    /// ```
+    /// use stripring::{Answer, Failure, Outcome, Receiver, Scheduler, State};
+    ///
+    /// # fn main() -> Result<(), stripring::Refusal> {
+    /// let mut receiver = Receiver::new(Scheduler::new(16)?);
+    /// let first = receiver.shutdown(&[Answer::done()])?;
+    /// assert_eq!((first.outcome, first.used), (Outcome::Done, 1));
+    /// assert_eq!(receiver.state(), State::Draining(Failure::END_OF_STREAM));
+    /// assert_eq!(receiver.shutdown(&[Answer::done()])?.used, 0);
+    /// # Ok(())
+    /// # }
+    /// ```
+    pub fn shutdown(&mut self, answers: &[Answer]) -> Result<Ended, Refusal> {
+        let a = abi::receiver_shutdown(self.0, answers);
+        self.ended(a)
+    }
+
+    fn ended(&mut self, a: abi::EndedAnswer) -> Result<Ended, Refusal> {
+        self.0 = accepted(a.refusal, a.receiver)?;
+        Ok(Ended {
+            outcome: a.outcome.into(),
+            used: a.used as usize,
+        })
+    }
+}
+
+/// A call in progress. The receiver changes when it ends; one that is dropped before loses what its socket has answered.
+#[derive(Debug)]
+#[must_use = "the receiver changes when the call ends"]
+pub struct Call<'a> {
+    receiver: &'a mut Receiver,
+    dst: &'a mut [u8],
+    call: abi::Call,
+    copied: bool,
+    answers: u64,
+}
+
+impl<'a> Call<'a> {
+    fn begun(receiver: &'a mut Receiver, dst: &'a mut [u8], call: abi::Call) -> Self {
+        Self {
+            receiver,
+            dst,
+            call,
+            copied: false,
+            answers: 0,
+        }
+    }
+
+    /// What the host is to do next; nothing if the call is over.
+    pub fn waits_for(&self) -> Option<Wait> {
+        let phase = &self.call.phase;
+        match phase.kind {
+            0 => Some(Wait::Receive {
+                max_new_fds: phase.max_new_fds,
+            }),
+            1 => Some(Wait::Send {
+                batch: phase.batch as usize,
+            }),
+            2 => Some(Wait::Shutdown),
+            _ => None,
+        }
+    }
+
+    /// Hands in what the socket answered. The ring is looked at only by a read, where a byte was received.
+    pub fn answered(&mut self, ring: &[u8], answer: Answer) {
+        self.answers += 1;
+        self.call = abi::call_answered(self.call, ring, answer, self.answers);
+        self.copy_in_time(ring);
+    }
+
+    /// What the call came to. One that still waits is refused with [`Refusal::AnswerMissing`]. After a refusal the receiver
+    /// is as before.
+    pub fn end(self) -> Result<Outcome, Refusal> {
+        let phase = self.call.phase;
+        match phase.kind {
+            0..=2 => Err(Refusal::AnswerMissing),
+            3 => {
+                self.receiver.0 = self.call.receiver;
+                Ok(phase.outcome.into())
+            }
+            _ => Err(phase.refusal.into()),
+        }
+    }
+
+    /// Copies the bytes of a read as soon as it has any: an acknowledgement allows the other process to overwrite them.
+    fn copy_in_time(&mut self, ring: &[u8]) {
+        let outcome = match self.call.phase.kind {
+            1 => self.call.phase.ending.outcome,
+            3 => self.call.phase.outcome,
+            _ => return,
+        };
+        if let Outcome::Read { n, .. } = outcome.into()
+            && !self.copied
+        {
+            let a = abi::copies_read(self.call.source, ring, &mut self.dst[..n]);
+            sound(a.refusal, ());
+            self.copied = true;
+        }
+    }
+}

@@ -1,0 +1,115 @@
+/* The plain ends: each process has its own, and tells the other how far it is by sending its counter. */
+#define _GNU_SOURCE
+#include "strips.h"
+
+#include <errno.h>
+#include <sys/socket.h>
+
+/* The bytes of the ring come before the counter that tells of them. */
+static void send_counter(int socket, uint64_t counter) {
+  atomic_thread_fence(memory_order_release);
+  if (send(socket, &counter, sizeof counter, MSG_NOSIGNAL) < 0 && errno != EPIPE)
+    die("send");
+}
+
+enum came { NOTHING, COUNTER, GONE };
+
+/* The last counter that has come, since those before it tell nothing more; waits for one where flags do not say MSG_DONTWAIT.
+ * The counter comes before the bytes of the ring that it tells of. */
+static enum came receive_counter(int socket, int flags, uint64_t *counter) {
+  uint64_t counters[64];
+  ssize_t n = recv(socket, counters, sizeof counters, flags);
+  if (n < 0 && errno == EAGAIN)
+    return NOTHING;
+  if (n == 0 || (n < 0 && errno == ECONNRESET))
+    return GONE;
+  if (n < 0 || n % sizeof *counters != 0) /* a counter is sent, and comes, in one piece */
+    die("recv");
+  atomic_thread_fence(memory_order_acquire);
+  *counter = counters[n / sizeof *counters - 1];
+  return COUNTER;
+}
+
+static size_t write_some(struct camera *c, stripring_writing_end *end, const uint8_t *src, size_t len) {
+  stripring_wrote_answer wrote = stripring_writing_end_write(*end, c->ring, c->ring_len, src, len);
+  demand(wrote.refusal);
+  *end = wrote.end;
+  return wrote.n;
+}
+
+static void tell_classifier(struct camera *c, stripring_writing_end end) {
+  stripring_written_counter_answer sent = stripring_writing_end_send(end);
+  demand(sent.refusal);
+  send_counter(c->socket, sent.counter.counter);
+}
+
+static enum came take_counter(struct camera *c, stripring_writing_end *end, int flags) {
+  stripring_read_counter counter;
+  enum came came = receive_counter(c->socket, flags, &counter.counter);
+  if (came != COUNTER)
+    return came;
+  stripring_writing_end_answer taken = stripring_writing_end_take(*end, counter);
+  demand(taken.refusal);
+  *end = taken.end;
+  return came;
+}
+
+/* False if the classifier is gone. Counters are taken before each write, or both sockets fill up with them in the end. */
+static bool film_strip(struct camera *c, stripring_writing_end *end, struct strip strip) {
+  int flags = MSG_DONTWAIT;
+  for (size_t done = 0; done < strip.len;) {
+    if (take_counter(c, end, flags) == GONE)
+      return false;
+    size_t n = write_some(c, end, strip.bytes + done, strip.len - done);
+    flags = n == 0 ? 0 : MSG_DONTWAIT;
+    if (n == 0)
+      continue;
+    done += n;
+    tell_classifier(c, *end);
+    filmed(c, n);
+  }
+  return true;
+}
+
+static bool is_empty(stripring_scheduler s) {
+  stripring_u64_answer empty = stripring_scheduler_is_empty(s);
+  demand(empty.refusal);
+  return empty.value;
+}
+
+void film_by_ends(struct camera *c) {
+  stripring_writing_end_answer made = stripring_writing_end_new(c->ring_len);
+  demand(made.refusal);
+  stripring_writing_end end = made.end;
+  for (size_t i = 0; i < c->picture->count; i++)
+    if (!film_strip(c, &end, c->picture->strips[i]))
+      return;
+  while (!is_empty(end.scheduler) && take_counter(c, &end, 0) == COUNTER)
+    ;
+}
+
+static size_t read_some(struct classifier *c, stripring_reading_end *end) {
+  stripring_got_answer got = stripring_reading_end_read(*end, c->ring, c->ring_len, next_place(c), next_len(c));
+  demand(got.refusal);
+  *end = got.end;
+  return got.n;
+}
+
+static void tell_camera(struct classifier *c, stripring_reading_end end) {
+  stripring_read_counter_answer sent = stripring_reading_end_send(end);
+  demand(sent.refusal);
+  send_counter(c->socket, sent.counter.counter);
+}
+
+void classify_by_ends(struct classifier *c) {
+  stripring_reading_end_answer taken = stripring_reading_end_new(c->ring_len);
+  demand(taken.refusal);
+  stripring_written_counter counter;
+  while (receive_counter(c->socket, 0, &counter.counter) == COUNTER) {
+    taken = stripring_reading_end_take(taken.end, counter);
+    demand(taken.refusal);
+    for (size_t n; (n = read_some(c, &taken.end)) > 0;)
+      classified(c, n);
+    tell_camera(c, taken.end);
+  }
+}

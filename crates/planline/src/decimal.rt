@@ -31,7 +31,9 @@ fn has_room(n: u64, digit: u64) -> bool
         return true;
     }
     if n == 1844674407370955161 {
-        return digit <= 5;
+        if digit <= 5 {
+            return true;
+        }
     }
     false
 }

@@ -16,22 +16,27 @@ same-length : tie.Need-same-length
 same-length c = search needs
 
 returns : tie.Need-returns
-returns c = last-unready (c .before .before .before .before .before .args .held) (c .before .before .before .before .before .args .line .now) (filled (c .before .before .before .before .before .args .at) (c .before .before .before .before .before .args .out .now)) (sym (c .before .is-ready .ensures) ∙ not-true _ (c .if1 .taken))
+returns c =
+    let a = c .before .before .before .before .before .args in
+    last-unready (a .held) (a .line .now) (filled (a .at) (a .out .now)) (sym (c .before .is-ready .ensures) ∙ not-true _ (c .if1 .taken))
 
 same-length-2 : tie.Need-same-length-2
 same-length-2 c = search needs
 
 returns-2 : tie.Need-returns-2
-returns-2 c = last-none (c .before .before .before .before .before .before .args .held) (c .before .before .before .before .before .before .args .line .now) (filled (c .before .before .before .before .before .before .args .at) (c .before .before .before .before .before .before .args .out .now)) (sym (c .before .before .is-ready .ensures) ∙ not-false _ (c .before .if1 .left)) (c .if2 .taken)
+returns-2 c =
+    let a = c .before .before .before .before .before .before .args in
+    last-none (a .held) (a .line .now) (filled (a .at) (a .out .now)) (sym (c .before .before .is-ready .ensures) ∙ not-false _ (c .before .if1 .left)) (c .if2 .taken)
 
 least-requires : tie.Need-least-requires
 least-requires c κs = search needs
 
 slice-aggregate-append : tie.Need-slice-aggregate-append
 slice-aggregate-append c =
+    let a = c .before .before .before .before .before .before .before .before .args in
     sym
-    (length-take-le (c .before .least .result) (c .before .before .before .before .before .before .before .before .args .line .now)
-    (omega (arith, ready-room (c .before .before .before .before .before .before .before .before .args .line .now) (filled (c .before .before .before .before .before .before .before .before .args .at) (c .before .before .before .before .before .before .before .before .args .out .now)) (sym (c .before .before .before .before .is-ready .ensures) ∙ not-false _ (c .before .before .before .if1 .left)))))
+    (length-take-le (c .before .least .result) (a .line .now)
+    (omega (arith, ready-room (a .line .now) (filled (a .at) (a .out .now)) (sym (c .before .before .before .before .is-ready .ensures) ∙ not-false _ (c .before .before .before .if1 .left)))))
 
 append-requires : tie.Need-append-requires
 append-requires c κs = search needs
@@ -41,8 +46,9 @@ same-length-3 c = search needs
 
 returns-3 : tie.Need-returns-3
 returns-3 c =
+    let a = c .before .before .before .before .before .before .before .before .before .before .before .before .args in
     c .before .before .append .ensures
-    ∙ last-there (c .before .before .before .before .before .before .before .before .before .before .before .before .args .held) (c .before .before .before .before .before .before .before .before .before .before .before .before .args .line .now) (filled (c .before .before .before .before .before .before .before .before .before .before .before .before .args .at) (c .before .before .before .before .before .before .before .before .before .before .before .before .args .out .now)) (sym (c .before .before .before .before .before .before .before .before .is-ready .ensures) ∙ not-false _ (c .before .before .before .before .before .before .before .if1 .left)) (c .before .before .before .before .before .before .if2 .left)
+    ∙ last-there (a .held) (a .line .now) (filled (a .at) (a .out .now)) (sym (c .before .before .before .before .before .before .before .before .is-ready .ensures) ∙ not-false _ (c .before .before .before .before .before .before .before .if1 .left)) (c .before .before .before .before .before .before .if2 .left)
     (c .before .before .before .before .before .least .result) (c .before .before .before .before .before .least .ensures)
 
 pub answer-last-spec : {M : Type 1} → statement M

@@ -23,31 +23,36 @@ same-length-2 c = search needs
 
 returns : tie.Need-returns
 returns c =
-    step-unready (filled (c .before .before .before .before .before .before .before .args .held) (c .before .before .before .before .before .before .before .args .line .now)) (c .before .before .before .before .before .before .before .args .from) (c .before .before .before .before .before .before .before .args .piece .now) (filled (c .before .before .before .before .before .before .before .args .at) (c .before .before .before .before .before .before .before .args .out .now))
-    (sym (c .before .is-ready .ensures) ∙ not-true _ (c .if1 .taken))
+    let a = c .before .before .before .before .before .before .before .args in
+    step-unready (filled (a .held) (a .line .now)) (a .from) (a .piece .now) (filled (a .at) (a .out .now)) (sym (c .before .is-ready .ensures) ∙ not-true _ (c .if1 .taken))
 
 least-requires : tie.Need-least-requires
 least-requires c κs = search needs
 
 take-line-requires : tie.Need-take-line-requires
-take-line-requires c κs = ready-room (c .before .before .before .before .before .before .before .before .before .args .line .now) (filled (c .before .before .before .before .before .before .before .before .before .args .at) (c .before .before .before .before .before .before .before .before .before .args .out .now)) (sym (c .before .before .before .is-ready .ensures) ∙ not-false _ (c .before .before .if1 .left))
+take-line-requires c κs =
+    let a = c .before .before .before .before .before .before .before .before .before .args in
+    ready-room (a .line .now) (filled (a .at) (a .out .now)) (sym (c .before .before .before .is-ready .ensures) ∙ not-false _ (c .before .before .if1 .left))
 
 slice-reshare-prefix-append : tie.Need-slice-reshare-prefix-append
 slice-reshare-prefix-append c =
+    let a = c .before .before .before .before .before .before .before .before .before .before .before .before .before .args in
     omega (
       arith,
-      ready-room (c .before .before .before .before .before .before .before .before .before .before .before .before .before .args .line .now) (filled (c .before .before .before .before .before .before .before .before .before .before .before .before .before .args .at) (c .before .before .before .before .before .before .before .before .before .before .before .before .before .args .out .now)) (sym (c .before .before .before .before .before .before .before .is-ready .ensures) ∙ not-false _ (c .before .before .before .before .before .before .if1 .left)),
+      ready-room (a .line .now) (filled (a .at) (a .out .now)) (sym (c .before .before .before .before .before .before .before .is-ready .ensures) ∙ not-false _ (c .before .before .before .before .before .before .if1 .left)),
       took-capped _ _ _ _ _ _ _ _ (c .before .before .before .take-line .ensures) (omega arith),
     )
 
 slice-aggregate-append : tie.Need-slice-aggregate-append
 slice-aggregate-append c =
+    let a = c .before .before .before .before .before .before .before .before .before .before .before .before .before .before .args in
+    let t = c .before .before .before .before .take-line in
     sym
-    (length-take-le (c .before .before .before .before .take-line .result .held) (c .before .before .before .before .take-line .last .0)
+    (length-take-le (t .result .held) (t .last .0)
     (omega (
       arith,
-      ready-room (c .before .before .before .before .before .before .before .before .before .before .before .before .before .before .args .line .now) (filled (c .before .before .before .before .before .before .before .before .before .before .before .before .before .before .args .at) (c .before .before .before .before .before .before .before .before .before .before .before .before .before .before .args .out .now)) (sym (c .before .before .before .before .before .before .before .before .is-ready .ensures) ∙ not-false _ (c .before .before .before .before .before .before .before .if1 .left)),
-      took-capped _ _ _ _ _ _ _ _ (c .before .before .before .before .take-line .ensures) (omega arith),
+      ready-room (a .line .now) (filled (a .at) (a .out .now)) (sym (c .before .before .before .before .before .before .before .before .is-ready .ensures) ∙ not-false _ (c .before .before .before .before .before .before .before .if1 .left)),
+      took-capped _ _ _ _ _ _ _ _ (t .ensures) (omega arith),
     )))
 
 append-requires : tie.Need-append-requires
@@ -61,12 +66,13 @@ same-length-4 c = search needs
 
 returns-2 : tie.Need-returns-2
 returns-2 c =
-    ap (λ (o : Filled). step (filled 0 (c .before .before .before .before .before .before .before .before .take-line .last .0)) (c .before .before .before .before .before .before .before .before .take-line .result .next) o) (c .before .before .append .ensures)
-    ∙ step-whole (filled (c .before .before .before .before .before .before .before .before .before .before .before .before .before .before .before .before .before .before .args .held) (c .before .before .before .before .before .before .before .before .before .before .before .before .before .before .before .before .before .before .args .line .now)) (c .before .before .before .before .before .before .before .before .before .before .before .before .before .before .before .before .before .before .args .from) (c .before .before .before .before .before .before .before .before .before .before .before .before .before .before .before .before .before .before .args .piece .now) (filled (c .before .before .before .before .before .before .before .before .before .before .before .before .before .before .before .before .before .before .args .at) (c .before .before .before .before .before .before .before .before .before .before .before .before .before .before .before .before .before .before .args .out .now))
-    (sym (c .before .before .before .before .before .before .before .before .before .before .before .before .is-ready .ensures) ∙ not-false _ (c .before .before .before .before .before .before .before .before .before .before .before .if1 .left))
-    (c .before .before .before .before .before .before .before .before .take-line .result .held) (c .before .before .before .before .before .before .before .before .take-line .result .next) (c .before .before .before .before .before .before .before .before .take-line .last .0)
-    (took-is (c .before .before .before .before .before .before .before .before .take-line .result .held) (c .before .before .before .before .before .before .before .before .take-line .result .next) (c .before .before .before .before .before .before .before .before .before .least .result) (c .before .before .before .before .before .before .before .before .before .before .before .before .before .before .before .before .before .before .args .line .now) (c .before .before .before .before .before .before .before .before .take-line .last .0) (c .before .before .before .before .before .before .before .before .before .before .before .before .before .before .before .before .before .before .args .from) (drop (c .before .before .before .before .before .before .before .before .before .before .before .before .before .before .before .before .before .before .args .from) (c .before .before .before .before .before .before .before .before .before .before .before .before .before .before .before .before .before .before .args .piece .now)) (c .before .before .before .before .before .before .before .before .take-line .result .whole)
-    (c .before .before .before .before .before .before .before .before .take-line .ensures) true (c .before .before .before .before .before .if2 .taken) (c .before .before .before .before .before .before .before .before .before .before .before .before .before .before .before .before .before .before .args .held) (c .before .before .before .before .before .before .before .before .before .least .ensures))
+    let a = c .before .before .before .before .before .before .before .before .before .before .before .before .before .before .before .before .before .before .args in
+    let t = c .before .before .before .before .before .before .before .before .take-line in
+    ap (λ (o : Filled). step (filled 0 (t .last .0)) (t .result .next) o) (c .before .before .append .ensures)
+    ∙ step-whole (filled (a .held) (a .line .now)) (a .from) (a .piece .now) (filled (a .at) (a .out .now)) (sym (c .before .before .before .before .before .before .before .before .before .before .before .before .is-ready .ensures) ∙ not-false _ (c .before .before .before .before .before .before .before .before .before .before .before .if1 .left))
+    (t .result .held) (t .result .next) (t .last .0)
+    (took-is (t .result .held) (t .result .next) (c .before .before .before .before .before .before .before .before .before .least .result) (a .line .now) (t .last .0) (a .from) (drop (a .from) (a .piece .now)) (t .result .whole) (t .ensures)
+    true (c .before .before .before .before .before .if2 .taken) (a .held) (c .before .before .before .before .before .before .before .before .before .least .ensures))
 
 same-length-5 : tie.Need-same-length-5
 same-length-5 c = search needs
@@ -76,11 +82,12 @@ same-length-6 c = search needs
 
 returns-3 : tie.Need-returns-3
 returns-3 c =
-    step-part (filled (c .before .before .before .before .before .before .before .before .before .before .before .before .before .args .held) (c .before .before .before .before .before .before .before .before .before .before .before .before .before .args .line .now)) (c .before .before .before .before .before .before .before .before .before .before .before .before .before .args .from) (c .before .before .before .before .before .before .before .before .before .before .before .before .before .args .piece .now) (filled (c .before .before .before .before .before .before .before .before .before .before .before .before .before .args .at) (c .before .before .before .before .before .before .before .before .before .before .before .before .before .args .out .now))
-    (sym (c .before .before .before .before .before .before .before .is-ready .ensures) ∙ not-false _ (c .before .before .before .before .before .before .if1 .left))
-    (c .before .before .before .take-line .result .held) (c .before .before .before .take-line .result .next) (c .before .before .before .take-line .last .0)
-    (took-is (c .before .before .before .take-line .result .held) (c .before .before .before .take-line .result .next) (c .before .before .before .before .least .result) (c .before .before .before .before .before .before .before .before .before .before .before .before .before .args .line .now) (c .before .before .before .take-line .last .0) (c .before .before .before .before .before .before .before .before .before .before .before .before .before .args .from) (drop (c .before .before .before .before .before .before .before .before .before .before .before .before .before .args .from) (c .before .before .before .before .before .before .before .before .before .before .before .before .before .args .piece .now)) (c .before .before .before .take-line .result .whole)
-    (c .before .before .before .take-line .ensures) false (c .if2 .left) (c .before .before .before .before .before .before .before .before .before .before .before .before .before .args .held) (c .before .before .before .before .least .ensures))
+    let a = c .before .before .before .before .before .before .before .before .before .before .before .before .before .args in
+    let t = c .before .before .before .take-line in
+    step-part (filled (a .held) (a .line .now)) (a .from) (a .piece .now) (filled (a .at) (a .out .now)) (sym (c .before .before .before .before .before .before .before .is-ready .ensures) ∙ not-false _ (c .before .before .before .before .before .before .if1 .left))
+    (t .result .held) (t .result .next) (t .last .0)
+    (took-is (t .result .held) (t .result .next) (c .before .before .before .before .least .result) (a .line .now) (t .last .0) (a .from) (drop (a .from) (a .piece .now)) (t .result .whole) (t .ensures)
+    false (c .if2 .left) (a .held) (c .before .before .before .before .least .ensures))
 
 pub answer-next-spec : {M : Type 1} → statement M
 answer-next-spec =

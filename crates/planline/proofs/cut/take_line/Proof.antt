@@ -31,7 +31,8 @@ same-length c = search needs
 
 returns : tie.Need-returns Inv-loop μ-loop
 returns c =
-    sym (take-feed (filled (c .before .before .before .loop .n) (c .before .before .before .loop .line)) (c .before .before .before .before .before .before .args .piece .now) (c .before .before .before .loop .next) (omega arith) (c .if1 .taken)) ∙ c .before .before .before .loop .inv .1
+    let l = c .before .before .before .loop in
+    sym (take-feed (filled (l .n) (l .line)) (c .before .before .before .before .before .before .args .piece .now) (l .next) (omega arith) (omega arith)) ∙ l .inv .1
 
 hold-requires : tie.Need-hold-requires Inv-loop μ-loop
 hold-requires c κs = omega arith
@@ -40,12 +41,14 @@ loop-less : tie.Need-loop-less Inv-loop μ-loop
 loop-less c = search needs
 
 loop-again : tie.Need-loop-again Inv-loop μ-loop
-loop-again c = (
-  omega arith,
-  ap (λ (h : Filled). takeOf h (c .before .before .before .before .before .before .before .loop .next + 1) (drop (c .before .before .before .before .before .before .before .loop .next + 1) (c .before .before .before .before .before .before .before .before .before .before .args .piece .now))) (c .before .before .hold .ensures)
-      ∙ sym (take-byte (filled (c .before .before .before .before .before .before .before .loop .n) (c .before .before .before .before .before .before .before .loop .line)) (c .before .before .before .before .before .before .before .before .before .before .args .piece .now) (c .before .before .before .before .before .before .before .loop .next) (omega arith) (c .before .before .before .before .if1 .left))
-      ∙ c .before .before .before .before .before .before .before .loop .inv .1,
-)
+loop-again c =
+    let l = c .before .before .before .before .before .before .before .loop in
+    let a = c .before .before .before .before .before .before .before .before .before .before .args in (
+      omega arith,
+      ap (λ (h : Filled). takeOf h (l .next + 1) (drop (l .next + 1) (a .piece .now))) (c .before .before .hold .ensures)
+          ∙ sym (take-byte (filled (l .n) (l .line)) (a .piece .now) (l .next) (omega arith) (λ z. omega (arith, c .before .before .before .before .if1 .left)))
+          ∙ l .inv .1,
+    )
 
 same-length-2 : tie.Need-same-length-2 Inv-loop μ-loop
 same-length-2 c = search needs

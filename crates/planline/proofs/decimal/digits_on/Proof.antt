@@ -1,5 +1,5 @@
 -- The invariant: what the digits from `next` on make of the number so far is what those from `at` on make.
-use Prim.Native.Nat.{_+_, _*_, _-_}
+use Prim.Native.Nat.{_+_, _-_, _*_, _^_}
 use mathlib.Core.Path.{_≡_, refl, sym, _∙_}
 use lib.ListN.{length, drop}
 use native.Mathlib.Omega.{arith}
@@ -27,10 +27,8 @@ is-digit-requires c κs = search needs
 
 returns : tie.Need-returns Inv-loop μ-loop
 returns c =
-    sym
-    (digits-stop (c .before .before .before .before .before .before .args .line .now) (c .before .before .before .before .loop .next) (c .before .before .before .before .loop .n)
-    (omega arith) (sym (c .before .is-digit .ensures) ∙ not-true _ (c .if1 .taken)))
-    ∙ c .before .before .before .before .loop .inv
+    let l = c .before .before .before .before .loop in
+    sym (digits-stop (c .before .before .before .before .before .before .args .line .now) (l .next) (l .n) (omega arith) (sym (c .before .is-digit .ensures) ∙ not-true _ (c .if1 .taken))) ∙ l .inv
 
 digit-of-requires : tie.Need-digit-of-requires Inv-loop μ-loop
 digit-of-requires c κs = digit-bounds _ (sym (c .before .is-digit .ensures) ∙ not-false _ (c .if1 .left)) .0
@@ -40,17 +38,17 @@ has-room-requires c κs = omega (arith, digit-bounds _ (sym (c .before .before .
 
 returns-2 : tie.Need-returns-2 Inv-loop μ-loop
 returns-2 c =
+    let l = c .before .before .before .before .before .before .before .loop in
     sym
-    (digits-full (c .before .before .before .before .before .before .before .before .before .args .line .now) (c .before .before .before .before .before .before .before .loop .next) (c .before .before .before .before .before .before .before .loop .n)
-    (omega arith) (sym (c .before .before .before .before .is-digit .ensures) ∙ not-false _ (c .before .before .before .if1 .left))
+    (digits-full (c .before .before .before .before .before .before .before .before .before .args .line .now) (l .next) (l .n) (omega arith) (sym (c .before .before .before .before .is-digit .ensures) ∙ not-false _ (c .before .before .before .if1 .left))
     (c .before .before .digit-of .result) (c .before .before .digit-of .ensures) (sym (c .before .has-room .ensures) ∙ not-true _ (c .if2 .taken)))
-    ∙ c .before .before .before .before .before .before .before .loop .inv
+    ∙ l .inv
 
 mul-n : tie.Need-mul-n Inv-loop μ-loop
-mul-n c = record { fits = omega (arith, ltb-true (c .before .before .before .before .before .before .before .loop .n * 10 + c .before .before .digit-of .result) 18446744073709551616 (sym (c .before .has-room .ensures) ∙ not-false _ (c .if2 .left))) }
+mul-n c = record { fits = omega (arith, ltb-true (c .before .before .before .before .before .before .before .loop .n * 10 + c .before .before .digit-of .result) (2 ^ 64) (sym (c .before .has-room .ensures) ∙ not-false _ (c .if2 .left))) }
 
 add-n : tie.Need-add-n Inv-loop μ-loop
-add-n c = record { fits = omega (arith, ltb-true (c .before .before .before .before .before .before .before .loop .n * 10 + c .before .before .digit-of .result) 18446744073709551616 (sym (c .before .has-room .ensures) ∙ not-false _ (c .if2 .left))) }
+add-n c = record { fits = omega (arith, ltb-true (c .before .before .before .before .before .before .before .loop .n * 10 + c .before .before .digit-of .result) (2 ^ 64) (sym (c .before .has-room .ensures) ∙ not-false _ (c .if2 .left))) }
 
 add-next : tie.Need-add-next Inv-loop μ-loop
 add-next c = search needs
@@ -60,11 +58,11 @@ loop-less c = search needs
 
 loop-again : tie.Need-loop-again Inv-loop μ-loop
 loop-again c =
+    let l = c .before .before .before .before .before .before .before .loop in
     sym
-    (digits-next (c .before .before .before .before .before .before .before .before .before .args .line .now) (c .before .before .before .before .before .before .before .loop .next) (c .before .before .before .before .before .before .before .loop .n)
-    (omega arith) (sym (c .before .before .before .before .is-digit .ensures) ∙ not-false _ (c .before .before .before .if1 .left))
+    (digits-next (c .before .before .before .before .before .before .before .before .before .args .line .now) (l .next) (l .n) (omega arith) (sym (c .before .before .before .before .is-digit .ensures) ∙ not-false _ (c .before .before .before .if1 .left))
     (c .before .before .digit-of .result) (c .before .before .digit-of .ensures) (sym (c .before .has-room .ensures) ∙ not-false _ (c .if2 .left)))
-    ∙ c .before .before .before .before .before .before .before .loop .inv
+    ∙ l .inv
 
 returns-3 : tie.Need-returns-3 Inv-loop μ-loop
 returns-3 c =

@@ -31,18 +31,20 @@ enum-told-2 c = search needs
 
 returns : tie.Need-returns
 returns c =
-    amount-there (c .before .before .before .before .before .before .before .before .before .args .buf-len) (c .before .before .before .before .before .before .before .before .before .args .written) (c .before .before .before .before .before .before .before .before .before .args .read) (sym (c .before .before .before .before .before .typ .given .1) ∙ c .before .before .before .before .before .before .before .kind-at .ensures)
-    (front-is (c .before .before .before .before .before .before .before .before .before .args .line .now) (c .before .n .given .1) (c .before .before .before .last .ensures) ∙ last-behind (c .before .before .before .before .before .before .before .before .before .args .line .now) (c .before .before .before .before .before .before .before .before .before .args .at))
+    let a = c .before .before .before .before .before .before .before .before .before .args in
+    amount-there (a .buf-len) (a .written) (a .read) (sym (c .before .before .before .before .before .typ .given .1) ∙ c .before .before .before .before .before .before .before .kind-at .ensures)
+    (front-is (a .line .now) (c .before .n .given .1) (c .before .before .before .last .ensures) ∙ last-behind (a .line .now) (a .at))
 
 returns-2 : tie.Need-returns-2
 returns-2 c =
-    amount-none (c .before .before .before .before .before .before .before .before .args .buf-len) (c .before .before .before .before .before .before .before .before .args .written) (c .before .before .before .before .before .before .before .before .args .read) (sym (c .before .before .before .before .typ .given .1) ∙ c .before .before .before .before .before .before .kind-at .ensures)
-    (front-is (c .before .before .before .before .before .before .before .before .args .line .now) (c .enum-told .given .1) (c .before .before .last .ensures) ∙ last-behind (c .before .before .before .before .before .before .before .before .args .line .now) (c .before .before .before .before .before .before .before .before .args .at))
+    let a = c .before .before .before .before .before .before .before .before .args in
+    amount-none (a .buf-len) (a .written) (a .read) (sym (c .before .before .before .before .typ .given .1) ∙ c .before .before .before .before .before .before .kind-at .ensures)
+    (front-is (a .line .now) (c .enum-told .given .1) (c .before .before .last .ensures) ∙ last-behind (a .line .now) (a .at))
 
 returns-3 : tie.Need-returns-3
 returns-3 c =
-    kind-none (c .before .before .before .before .args .buf-len) (c .before .before .before .before .args .written) (c .before .before .before .before .args .read) (lastFront (drop 2 (drop (c .before .before .before .before .args .at) (c .before .before .before .before .args .line .now))))
-    (sym (c .enum-told2 .given .1) ∙ c .before .before .kind-at .ensures)
+    let a = c .before .before .before .before .args in
+    kind-none (a .buf-len) (a .written) (a .read) (lastFront (drop 2 (drop (a .at) (a .line .now)))) (sym (c .enum-told2 .given .1) ∙ c .before .before .kind-at .ensures)
 
 pub after-read-spec : {M : Type 1} → statement M
 after-read-spec =

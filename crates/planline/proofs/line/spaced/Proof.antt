@@ -21,21 +21,21 @@ add-t12 c = search needs
 
 returns : tie.Need-returns
 returns c =
-    sym (space-there (c .before .before .before .before .before .before .before .before .args .line .now) (c .before .before .before .before .n .given .0 .1 .0) (c .before .before .before .before .n .given .0 .0) (omega arith) (c .if2 .taken))
-    ∙ ap afterSpace (front-is (c .before .before .before .before .before .before .before .before .args .line .now) (c .before .before .before .before .n .given .1) (c .before .before .before .before .before .before .number-at .ensures))
+    let n = c .before .before .before .before .n .given in
+    sym (space-there (c .before .before .before .before .before .before .before .before .args .line .now) (n .0 .1 .0) (n .0 .0) (omega arith) (c .if2 .taken)) ∙ ap afterSpace (front-is (c .before .before .before .before .before .before .before .before .args .line .now) (n .1) (c .before .before .before .before .before .before .number-at .ensures))
 
 enum-told : tie.Need-enum-told
 enum-told c = search needs
 
 returns-2 : tie.Need-returns-2
 returns-2 c =
-    sym (space-other (c .before .before .before .before .before .before .before .before .args .line .now) (c .before .before .before .before .n .given .0 .1 .0) (c .before .before .before .before .n .given .0 .0) (omega arith) (c .if2 .left))
-    ∙ ap afterSpace (front-is (c .before .before .before .before .before .before .before .before .args .line .now) (c .before .before .before .before .n .given .1) (c .before .before .before .before .before .before .number-at .ensures))
+    let n = c .before .before .before .before .n .given in
+    sym (space-other (c .before .before .before .before .before .before .before .before .args .line .now) (n .0 .1 .0) (n .0 .0) (omega arith) (c .if2 .left)) ∙ ap afterSpace (front-is (c .before .before .before .before .before .before .before .before .args .line .now) (n .1) (c .before .before .before .before .before .before .number-at .ensures))
 
 returns-3 : tie.Need-returns-3
 returns-3 c =
-    sym (space-end (c .before .before .before .before .before .before .args .line .now) (c .before .before .n .given .0 .1 .0) (c .before .before .n .given .0 .0) (omega arith))
-    ∙ ap afterSpace (front-is (c .before .before .before .before .before .before .args .line .now) (c .before .before .n .given .1) (c .before .before .before .before .number-at .ensures))
+    let n = c .before .before .n .given in
+    sym (space-end (c .before .before .before .before .before .before .args .line .now) (n .0 .1 .0) (n .0 .0) (omega arith)) ∙ ap afterSpace (front-is (c .before .before .before .before .before .before .args .line .now) (n .1) (c .before .before .before .before .number-at .ensures))
 
 returns-4 : tie.Need-returns-4
 returns-4 c = ap afterSpace (front-is (c .before .before .before .before .args .line .now) (c .enum-told .given .1) (c .before .before .number-at .ensures))

@@ -54,27 +54,37 @@ static enum came take_counter(struct camera *c, stripring_writing_end *end, int 
   return came;
 }
 
-/* False if the classifier is gone. Counters are taken before each write, or both sockets fill up with them in the end. */
-static bool film_strip(struct camera *c, stripring_writing_end *end, struct strip strip) {
-  int flags = MSG_DONTWAIT;
-  for (size_t done = 0; done < strip.len;) {
-    if (take_counter(c, end, flags) == GONE)
-      return false;
-    size_t n = write_some(c, end, strip.bytes + done, strip.len - done);
-    flags = n == 0 ? 0 : MSG_DONTWAIT;
-    if (n == 0)
-      continue;
-    done += n;
-    tell_classifier(c, *end);
-    filmed(c, n);
-  }
-  return true;
+static bool is_full(stripring_scheduler s) {
+  stripring_u64_answer full = stripring_scheduler_is_full(s);
+  demand(full.refusal);
+  return full.value;
 }
 
 static bool is_empty(stripring_scheduler s) {
   stripring_u64_answer empty = stripring_scheduler_is_empty(s);
   demand(empty.refusal);
   return empty.value;
+}
+
+/* False if the classifier is gone. Counters are taken before each write, or both sockets fill up with them in the end. */
+static bool wait_for_room(struct camera *c, stripring_writing_end *end) {
+  do
+    if (take_counter(c, end, is_full(end->scheduler) ? 0 : MSG_DONTWAIT) == GONE)
+      return false;
+  while (is_full(end->scheduler));
+  return true;
+}
+
+static bool film_strip(struct camera *c, stripring_writing_end *end, struct strip strip) {
+  for (size_t done = 0; done < strip.len;) {
+    if (!wait_for_room(c, end))
+      return false;
+    size_t n = write_some(c, end, strip.bytes + done, strip.len - done);
+    tell_classifier(c, *end);
+    filmed(c, n);
+    done += n;
+  }
+  return true;
 }
 
 void film_by_ends(struct camera *c) {

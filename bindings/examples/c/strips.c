@@ -134,7 +134,8 @@ int main(int argc, char **argv) {
   size_t pictures = argc > 3 ? strtoull(argv[3], NULL, 10) : 0;
   bool by_chunks = argc > 1 && strcmp(argv[1], "receiver") == 0;
   bool killed = argc > 4 && strcmp(argv[4], "killed") == 0;
-  if (pictures == 0 || ring_len < (by_chunks ? SHORTEST_RING : 1)) {
+  bool known = by_chunks || (argc > 1 && strcmp(argv[1], "ends") == 0);
+  if (!known || pictures == 0 || ring_len < (by_chunks ? SHORTEST_RING : 1)) {
     fprintf(stderr, "usage: strips ends|receiver RING_LEN PICTURES [killed]; a chunk needs a ring of 9 bytes\n");
     return 2;
   }

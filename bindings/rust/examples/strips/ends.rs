@@ -51,9 +51,20 @@ fn take_counter(camera: &Camera, end: &mut WritingEnd, wait: bool) -> Result<boo
 }
 
 /// False if the classifier is gone. Counters are taken before each write, or both sockets fill up with them in the end.
+fn wait_for_room(camera: &Camera, end: &mut WritingEnd) -> Result<bool> {
+    loop {
+        if !take_counter(camera, end, end.space() == 0)? {
+            return Ok(false);
+        }
+        if end.space() > 0 {
+            return Ok(true);
+        }
+    }
+}
+
 fn film_strip(camera: &mut Camera, end: &mut WritingEnd, mut strip: &[u8]) -> Result<bool> {
     while !strip.is_empty() {
-        if !take_counter(camera, end, end.space() == 0)? {
+        if !wait_for_room(camera, end)? {
             return Ok(false);
         }
         let n = end.write(camera.ring.lend_mut(), strip)?;

@@ -99,7 +99,11 @@ struct Asked {
 fn asked() -> Option<Asked> {
     let words: Vec<String> = std::env::args().skip(1).collect();
     let asked = Asked {
-        by_chunks: words.first()? == "receiver",
+        by_chunks: match words.first()?.as_str() {
+            "ends" => false,
+            "receiver" => true,
+            _ => return None,
+        },
         ring_len: words.get(1)?.parse().ok()?,
         pictures: words.get(2)?.parse().ok()?,
         killed: words.get(3).is_some_and(|word| word == "killed"),

@@ -311,7 +311,8 @@ fn handed_out(q: ReceiverState, n: u64) -> ReceiverState
     after
 }
 
-// The bytes themselves are copied once the call is over; servicing does not change what was read.
+// The bytes themselves are copied by `source`: over a run of answers once the call is over, by a host with a real socket before its
+// first send, because an acknowledgement allows the other process to overwrite them.
 fn read_chunk_bytes(receiver: ReceiverState, asked: u64, fds: u64) -> Call
     requires { ⌜ Handing receiver 0 ⌝ }
     ensures { λ r. ⌜ r ≡ handOutCall asked fds receiver ⌝ }

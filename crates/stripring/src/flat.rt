@@ -144,7 +144,8 @@ pub struct Phase {
     pub refusal: Refusal,
 }
 
-// A call in progress. A read that is finished copies its bytes by `source`.
+// A call in progress. The bytes of a read are copied by `source`, before the first send: an acknowledgement allows the other process
+// to overwrite them.
 #[repr(C)]
 pub struct Call {
     pub receiver: Receiver,

@@ -4,7 +4,9 @@
  * memory of its own and waits for nothing, so threads may call at the same time.
  *
  * Answers. A refused call says so in `refusal`: its number, 0 for accepted, and the values of that number. Every other field
- * is then 0 and no lent byte has changed; the record that was passed stays good. The numbers, with L for the ring's length:
+ * is then 0 and no lent byte has changed; the record that was passed stays good. A stripring_call, which a host drives answer by
+ * answer, is another matter: its refusal is in `phase`, its other fields are the call's so far, and what the host has sent and
+ * copied by then is done. The numbers, with L for the ring's length:
  *
  *    1  L is 0
  *    2  L is above 2^63                                  a: L
@@ -49,7 +51,8 @@ typedef struct stripring_refusal {
 } stripring_refusal;
 
 /* Sound when buf_len is 1 to 2^63, both counters are below twice that, and written - read, modulo twice that, is at most it.
- * Every call tests this anew. An offset is its counter modulo buf_len. */
+ * Every call tests this anew, but for a call in progress: that is tested when it begins, and when it received a byte. An offset
+ * is its counter modulo buf_len. */
 typedef struct stripring_scheduler {
   uint64_t buf_len;
   uint64_t items_written;

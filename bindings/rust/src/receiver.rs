@@ -360,7 +360,7 @@ impl<'a> Call<'a> {
     }
 
     /// What the call came to. One that still waits is refused with [`Refusal::AnswerMissing`]. After a refusal the receiver
-    /// is as before.
+    /// is as before; what was sent on the socket and copied into the destination by then stays.
     pub fn end(self) -> Result<Outcome, Refusal> {
         let phase = self.call.phase;
         match phase.kind {

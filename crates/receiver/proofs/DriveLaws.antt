@@ -4,7 +4,7 @@ use mathlib.Core.Path.{_≡_, sym, ap, _∙_}
 use mathlib.Core.Bool.{Bool}
 use mathlib.Core.List.{List}
 use Rattle.sched.specs.declared.scheduler.RingBufferScheduler.{RingBufferScheduler}
-use Rattle.receiver.specs.Drive.{retriesIn, endedBy, endedOf, deliveredFor, deliveredBy, endOfStreamFor, endOfStreamIn}
+use Rattle.receiver.specs.Drive.{isOver, retriesIn, endedBy, endedOf, deliveredFor, deliveredBy, endOfStreamFor, endOfStreamIn}
 use Rattle.receiver.specs.Receiver.{delivery}
 use Rattle.receiver.specs.declared.answer.Answer.{Answer}
 use Rattle.receiver.specs.declared.call.Phase.{Phase}
@@ -14,6 +14,9 @@ use Rattle.receiver.specs.declared.receiver.Ended.the-variants.{Accepted
 use Rattle.receiver.specs.declared.receiver.Outcome.{Outcome}
 use Rattle.receiver.specs.declared.receiver.ReceiverState.{ReceiverState}
 use Rattle.receiver.specs.declared.refusal.Refusal.{Refusal}
+
+pub over-by : (x ph : Phase) → x ≡ ph → (r : Bool) → r ≡ isOver ph → r ≡ isOver x
+over-by x ph e r p = p ∙ ap isOver (sym e)
 
 pub retries-by : (a : Answer) (x ph : Phase) → x ≡ ph → (r : Bool) → r ≡ retriesIn ph a → r ≡ retriesIn x a
 retries-by a x ph e r p = p ∙ ap (λ (y : Phase). retriesIn y a) (sym e)

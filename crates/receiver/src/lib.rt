@@ -17,6 +17,7 @@ pub use answer::Shut;
 pub use call::Call;
 pub use call::Ending;
 pub use call::Phase;
+pub use drive::Driven;
 pub use drive::Fetched;
 pub use drive::fetch;
 pub use receiver::Ended;

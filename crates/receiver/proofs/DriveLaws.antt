@@ -4,8 +4,8 @@ use mathlib.Core.Path.{_≡_, sym, ap, _∙_}
 use mathlib.Core.Bool.{Bool}
 use mathlib.Core.List.{List}
 use Rattle.sched.specs.declared.scheduler.RingBufferScheduler.{RingBufferScheduler}
-use Rattle.receiver.specs.Drive.{isOver, retriesIn, endedBy, endedOf, deliveredFor, deliveredBy, endOfStreamFor, endOfStreamIn}
-use Rattle.receiver.specs.Receiver.{delivery}
+use Rattle.receiver.specs.Drive.{isOver, retriesIn, endedBy, endedOf, deliveredFor, deliveredBy, endOfStreamIn}
+use Rattle.receiver.specs.Receiver.{delivery, endOfStreamFor}
 use Rattle.receiver.specs.declared.answer.Answer.{Answer}
 use Rattle.receiver.specs.declared.call.Phase.{Phase}
 use Rattle.receiver.specs.declared.drive.Driven.{Driven}

@@ -15,7 +15,7 @@ use Rattle.receiver.proofs.ComesRead.{read-driven, service-driven, shut
 use Rattle.receiver.proofs.Moved.{MovedBy, Moved, read-moved, readable-ready}
 use Rattle.receiver.specs.Call.{beginReadOf, beginServiceOf, beginShutdownOf}
 use Rattle.receiver.specs.Drive.{drivenOf, endedBy, endedOf, deliveredFor, deliveredBy, deliveryOf, endOfStreamIn}
-use Rattle.receiver.specs.Receiver.{At, Went, went, refused, endedFrom, endOfStream, readImplOf, serviceOf, shutdownOf, Delivery, delivery, destinationFor, deliveryFrom, readImplDelivery, readDelivery}
+use Rattle.receiver.specs.Receiver.{At, Went, went, refused, endedFrom, endOfStreamFor, endOfStream, readImplOf, serviceOf, shutdownOf, Delivery, delivery, destinationFor, deliveryFrom, readImplDelivery, readDelivery}
 use Rattle.receiver.specs.State.{isErrno}
 use Rattle.receiver.specs.declared.answer.Answer.{Answer}
 use Rattle.receiver.specs.declared.call.Phase.{Phase}
@@ -95,16 +95,14 @@ module _ (ring dst : List ℕ) where
   abbrev turned : Delivery → Delivery
   turned x = delivery (endOfStreamIn (x .answer)) (x .memory)
 
-  turns : (p : At) (f : Failure) (b : Bool) →
-      delivery (ended.Accepted (p .rec) (cond b (outcome.Read 0 0) (outcome.Failed f)) (p .used)) dst ≡
-      deliveryFrom (cond b (went p (outcome.Read 0 0)) (went p (outcome.Failed f))) ring dst
-  turns p f true = refl
-  turns p f false = refl
+  untouched : (s : RingBufferScheduler) (f : Failure) (b : Bool) → dst ≡ destinationFor (cond b (outcome.Read 0 0) (outcome.Failed f)) s ring dst
+  untouched s f true = refl
+  untouched s f false = refl
 
   turned-from : (w : Went Outcome) → turned (deliveryFrom w ring dst) ≡ deliveryFrom (endOfStream w) ring dst
   turned-from (went p (outcome.Read n fds)) = refl
   turned-from (went p outcome.Done) = refl
-  turned-from (went p (outcome.Failed f)) = turns p f (isErrno f 32)
+  turned-from (went p (outcome.Failed f)) = ap (delivery (ended.Accepted (p .rec) (endOfStreamFor (outcome.Failed f)) (p .used))) (untouched (p .source) f (isErrno f 32))
   turned-from (refused r) = refl
 
   pub read-delivered : (q : ReceiverState) (top : ℕ) (answers : List Answer) (r : Ended) (left : List ℕ) → delivery r left ≡ readImplDelivery q ring dst top answers → delivery (endOfStreamIn r) left ≡ readDelivery q ring dst top answers

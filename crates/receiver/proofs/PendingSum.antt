@@ -308,7 +308,11 @@ module _ (q : ReceiverState) (answers : List Answer) where
   end-kept : (w : Went Outcome) → Kept w → Kept (endOfStream w)
   end-kept (went p (outcome.Read m fds)) h = h
   end-kept (went p outcome.Done) h = h
-  end-kept (went p (outcome.Failed f)) h = one-of answers (q .«pending_ack_count») (isErrno f 32) (went p (outcome.Read 0 0)) (went p (outcome.Failed f)) (λ e. h) (λ e. h)
+  end-kept (went p (outcome.Failed f)) h = by (isErrno f 32)
+    where
+      by : (b : Bool) → Kept (went p (cond b (outcome.Read 0 0) (outcome.Failed f)))
+      by true = h
+      by false = h
   end-kept (refused r) h = tt
 
 call-balanced : (q : ReceiverState) (c : Asked) → Balanced (answersOf c) (q .«pending_ack_count») (wentOf q c)

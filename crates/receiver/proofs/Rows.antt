@@ -64,6 +64,24 @@ header first len = first ∷ replicate 6 0 ++ (len ∷ [])
 abbrev shuts : OperationalState → Bool → List Answer → Ended
 shuts st issued answers = endedFrom (shutdownOf (receiver empty st 0 issued) answers)
 
+-- ---- an answer at a place that cannot have it
+an-errno-is-1-to-4095 :
+    (service Normal 1 false (fails 0 ∷ []) ≡ Refused (Misfit 1)) ×
+    (service Normal 1 true (fails 4095 ∷ []) ≡ Accepted (receiver empty (Draining (Io 4095)) 1 true) (outcome.Failed (Io 4095)) 1) ×
+    (service Normal 1 false (fails 4096 ∷ []) ≡ Refused (Misfit 1))
+unfolding flushIn soundOf subMod fitsErrno normalizeIn towardsErrorIn interruptedOf sentOf
+an-errno-is-1-to-4095 = (refl, refl, refl)
+
+an-answer-fits-its-place :
+    (service Normal 1 false (closed ∷ []) ≡ Refused (Misfit 1)) ×
+    (service Normal 1 false (done ∷ []) ≡ Refused (Misfit 1)) ×
+    (reads empty Normal 0 false zeros 2 (sends 1 ∷ []) ≡ Refused (Misfit 1)) ×
+    (reads empty Normal 0 false zeros 2 (done ∷ []) ≡ Refused (Misfit 1)) ×
+    (shuts Normal false (sends 0 ∷ []) ≡ Refused (Misfit 1)) ×
+    (shuts Normal false (closed ∷ []) ≡ Refused (Misfit 1))
+unfolding flushIn announceIn readyFrom soundOf subMod fitsErrno normalizeIn towardsErrorIn interruptedOf receivedOf sentOf shutOf
+an-answer-fits-its-place = (refl, refl, refl, refl, refl, refl)
+
 -- ---- acknowledgements
 batches-are-sent-until-nothing-is-pending :
     (service Normal 300 false (sends 128 ∷ sends 128 ∷ fails 11 ∷ []) ≡ Accepted (receiver empty Normal 44 false) outcome.Done 3) ×

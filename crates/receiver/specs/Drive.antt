@@ -6,8 +6,7 @@ use Rattle.sched.specs.declared.scheduler.RingBufferScheduler.{RingBufferSchedu
 use Rattle.copies.specs.Copies as copies
 use Rattle.receiver.specs.Answer.{interruptedOf}
 use Rattle.receiver.specs.Call.{answeredOf}
-use Rattle.receiver.specs.Receiver.{Delivery, delivery}
-use Rattle.receiver.specs.State.{isErrno}
+use Rattle.receiver.specs.Receiver.{Delivery, delivery, endOfStreamFor}
 use Rattle.receiver.specs.declared.answer.Answer.{Answer}
 use Rattle.receiver.specs.declared.call.Call.{Call}
 use Rattle.receiver.specs.declared.call.Phase.{Phase}
@@ -91,12 +90,6 @@ deliveredBy (ended.Refused r) s ring dst = delivery (ended.Refused r) dst
 
 abbrev pub deliveryOf : Driven → List ℕ → List ℕ → Delivery
 deliveryOf d ring dst = deliveredBy (endedOf d) (d .call .source) ring dst
-
--- last, failure 32 becomes a read of 0 bytes
-abbrev pub endOfStreamFor : Outcome → Outcome
-endOfStreamFor (outcome.Read n fds) = outcome.Read n fds
-endOfStreamFor outcome.Done = outcome.Done
-endOfStreamFor (outcome.Failed f) = cond (isErrno f 32) (outcome.Read 0 0) (outcome.Failed f)
 
 abbrev pub endOfStreamIn : Ended → Ended
 endOfStreamIn (ended.Accepted q o used) = ended.Accepted q (endOfStreamFor o) used

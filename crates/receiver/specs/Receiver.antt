@@ -265,10 +265,13 @@ readImplOf q ring asked top answers =
     readyFor (readyOf (q .scheduler) (length ring)) (fitting q (readIn (q .state) ring asked top (begin q answers)))
 
 -- last, failure 32 becomes a read of 0 bytes
+abbrev pub endOfStreamFor : Outcome → Outcome
+endOfStreamFor (outcome.Read n fds) = outcome.Read n fds
+endOfStreamFor outcome.Done = outcome.Done
+endOfStreamFor (outcome.Failed f) = cond (isErrno f 32) (outcome.Read 0 0) (outcome.Failed f)
+
 abbrev pub endOfStream : Went Outcome → Went Outcome
-endOfStream (went p (outcome.Failed f)) = cond (isErrno f 32) (went p (outcome.Read 0 0)) (went p (outcome.Failed f))
-endOfStream (went p (outcome.Read n fds)) = went p (outcome.Read n fds)
-endOfStream (went p outcome.Done) = went p outcome.Done
+endOfStream (went p o) = went p (endOfStreamFor o)
 endOfStream (refused r) = refused r
 
 abbrev pub readOf : ReceiverState → List ℕ → ℕ → ℕ → List Answer → Went Outcome

@@ -1,6 +1,7 @@
 // A call over a run of answers: the driver fetches answer after answer, and stops when the call is over or the run is used up.
 ghost use mathlib.Core.Path.{_≡_};
-ghost use Rattle.receiver.specs.Drive.{overOf, retriesOf, drivenOf, endedOf, deliveredFor, deliveryOf, endOfStreamFor, endOfStreamIn};
+ghost use Rattle.receiver.specs.Receiver.{endOfStreamFor};
+ghost use Rattle.receiver.specs.Drive.{overOf, retriesOf, drivenOf, endedOf, deliveredFor, deliveryOf, endOfStreamIn};
 ghost use Rattle.receiver.specs.Receiver.{delivery};
 ghost use Rattle.receiver.specs.Run.{FetchLeaves};
 use crate::answer::Answer;

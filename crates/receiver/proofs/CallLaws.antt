@@ -9,6 +9,7 @@ use Rattle.sched.specs.Scheduler.{dataIn, advancedIn}
 use Rattle.sched.specs.declared.operation.OperationType.the-variants.{Read}
 use Rattle.sched.specs.declared.scheduler.RingBufferScheduler.{RingBufferScheduler}
 use Rattle.receiver.specs.declared.call.Ending.{Ending}
+use Rattle.receiver.specs.declared.call.Phase.{Phase}
 use Rattle.receiver.specs.declared.receiver.ReceiverState.{ReceiverState}
 use Rattle.receiver.specs.declared.state.OperationalState.{OperationalState}
 use Rattle.receiver.specs.declared.answer.Answer.{Answer}
@@ -17,7 +18,7 @@ use Rattle.receiver.specs.declared.answer.Sent.the-variants as sent
 use Rattle.receiver.specs.Answer.{sentOf, isSent, isFailed}
 use Rattle.receiver.specs.State.{fitsErrno}
 use Rattle.receiver.specs.Receiver.{batchIn, withScheduler, withPending, handedOut}
-use Rattle.receiver.specs.Call.{Covered, readBy, readCall, blockedBy, blockedCall, shutOrFinishBy, shutOrFinish, shutdownBy, shutdownCall}
+use Rattle.receiver.specs.Call.{Covered, readBy, readCall, blockedBy, blockedCall, shutOrFinishBy, shutOrFinish, shutdownBy, shutdownCall, isOver, retriesIn}
 
 module _ (q : ReceiverState) (s : RingBufferScheduler) (e : Ending) where
   pub by-state : (st : OperationalState) → q .state ≡ st → shutdownBy st q s e ≡ shutdownCall q s e
@@ -70,3 +71,10 @@ sent-at-most false batch n a h = go (isFailed a) (fitsErrno (a .value)) h
 pub sent-covered : (n : ℕ) (q : ReceiverState) (a : Answer) → sentOf (batchIn q) a ≡ sent.Sent n → Covered n q
 unfolding sentOf
 sent-covered n q a h = omega (sent-at-most (isSent a) (batchIn q) n a h, arith)
+
+-- ---- what a driver asks
+pub over-by : (x ph : Phase) → x ≡ ph → (r : Bool) → r ≡ isOver ph → r ≡ isOver x
+over-by x ph e r p = p ∙ ap isOver (sym e)
+
+pub retries-by : (a : Answer) (x ph : Phase) → x ≡ ph → (r : Bool) → r ≡ retriesIn ph a → r ≡ retriesIn x a
+retries-by a x ph e r p = p ∙ ap (λ (y : Phase). retriesIn y a) (sym e)

@@ -1,14 +1,6 @@
 -- Each public call's contract decides its outcome: any two outcomes that it allows are equal.
-use mathlib.Core.Path.{_≡_, refl, sym, ap, _∙_}
-use Prim.Native.Nat.{ℕ}
-use mathlib.Core.List.{List}
+use mathlib.Core.Path.{refl, sym, _∙_}
 use Rattle.modular.proofs.Decides.{Decides}
-use Rattle.receiver.specs.Receiver.{Delivery}
-use Rattle.receiver.specs.Run.{FetchLeaves, ServiceLeaves, ShutdownLeaves, ReadImplLeaves, ReadLeaves}
-use Rattle.receiver.specs.declared.answer.Answer.{Answer}
-use Rattle.receiver.specs.declared.drive.Fetched.{Fetched}
-use Rattle.receiver.specs.declared.receiver.Ended.{Ended}
-use Rattle.receiver.specs.declared.receiver.ReceiverState.{ReceiverState}
 use Rattle.receiver.proofs.answer.Answer.is_interruption.Kinds as is-interruption-kinds
 use Rattle.receiver.proofs.answer.Answer.is_interruption.Reads as is-interruption
 use Rattle.receiver.proofs.answer.Answer.received.Kinds as received-kinds
@@ -21,6 +13,8 @@ use Rattle.receiver.proofs.state.Failure.normalize.Kinds as Failure-nor
 use Rattle.receiver.proofs.state.Failure.normalize.Reads as Failure-normalize
 use Rattle.receiver.proofs.state.Failure.advance_failure_towards_error.Kinds as advance-failure-towards-error-kinds
 use Rattle.receiver.proofs.state.Failure.advance_failure_towards_error.Reads as advance-failure-towards-error
+use Rattle.receiver.proofs.state.Failure.is_errno.Kinds as is-errno-kinds
+use Rattle.receiver.proofs.state.Failure.is_errno.Reads as is-errno
 use Rattle.receiver.proofs.state.OperationalState.failure.Kinds as failure-kinds
 use Rattle.receiver.proofs.state.OperationalState.failure.Reads as failure
 use Rattle.receiver.proofs.state.OperationalState.with_failure.Kinds as with-failure-kinds
@@ -64,6 +58,9 @@ Failure-normalize-decided κs a q z z′ ws ws′ p p′ = (p ∙ sym p′, refl
 pub advance-failure-towards-error-decided : Decides 0 advance-failure-towards-error-kinds.ps advance-failure-towards-error-kinds.r advance-failure-towards-error.Asked advance-failure-towards-error.Learnt
 advance-failure-towards-error-decided κs a q z z′ ws ws′ p p′ = (p ∙ sym p′, refl)
 
+pub is-errno-decided : Decides 0 is-errno-kinds.ps is-errno-kinds.r is-errno.Asked is-errno.Learnt
+is-errno-decided κs a q z z′ ws ws′ p p′ = (p ∙ sym p′, refl)
+
 pub failure-decided : Decides 0 failure-kinds.ps failure-kinds.r failure.Asked failure.Learnt
 failure-decided κs a q z z′ ws ws′ p p′ = (p ∙ sym p′, refl)
 
@@ -99,21 +96,3 @@ Call-retries-decided κs a q z z′ ws ws′ p p′ = (p ∙ sym p′, refl)
 
 pub Call-answered-decided : Decides 1 Call-answered-kinds.ps Call-answered-kinds.r Call-answered.Asked Call-answered.Learnt
 Call-answered-decided κs a q z z′ ws ws′ p p′ = (p ∙ sym p′, refl)
-
--- ---- the calls over a lent run: the toolchain reads no such contract, so each cites one predicate of its outcome
-pub fetch-decided : (answers : List Answer) (i : ℕ) (r r′ : Fetched) → FetchLeaves answers i r → FetchLeaves answers i r′ → r ≡ r′
-fetch-decided answers i r r′ p p′ = p ∙ sym p′
-
-pub service-decided : (q : ReceiverState) (answers : List Answer) (r r′ : Ended) → ServiceLeaves q answers r → ServiceLeaves q answers r′ → r ≡ r′
-service-decided q answers r r′ p p′ = p ∙ sym p′
-
-pub shutdown-decided : (q : ReceiverState) (answers : List Answer) (r r′ : Ended) → ShutdownLeaves q answers r → ShutdownLeaves q answers r′ → r ≡ r′
-shutdown-decided q answers r r′ p p′ = p ∙ sym p′
-
-pub read-impl-decided : (q : ReceiverState) (ring dst : List ℕ) (top : ℕ) (answers : List Answer) (r r′ : Ended) (left left′ : List ℕ)
-    → ReadImplLeaves q ring dst top answers r left → ReadImplLeaves q ring dst top answers r′ left′ → (r ≡ r′) × (left ≡ left′)
-read-impl-decided q ring dst top answers r r′ left left′ p p′ = (ap (λ (d : Delivery). d .answer) (p ∙ sym p′), ap (λ (d : Delivery). d .memory) (p ∙ sym p′))
-
-pub read-decided : (q : ReceiverState) (ring dst : List ℕ) (top : ℕ) (answers : List Answer) (r r′ : Ended) (left left′ : List ℕ)
-    → ReadLeaves q ring dst top answers r left → ReadLeaves q ring dst top answers r′ left′ → (r ≡ r′) × (left ≡ left′)
-read-decided q ring dst top answers r r′ left left′ p p′ = (ap (λ (d : Delivery). d .answer) (p ∙ sym p′), ap (λ (d : Delivery). d .memory) (p ∙ sym p′))

@@ -4,17 +4,9 @@ pub mod ChunkLaws
 pub mod SoundLaws
 pub mod CallLaws
 pub mod AnsweredLaws
-pub mod DriveLaws
-pub mod Comes
-pub mod ComesServiced
-pub mod ComesRead
 pub mod Kept
 pub mod Moved
-pub mod Driven
 pub mod Spent
 pub mod PendingSum
-pub mod Thin
-pub mod Begun
-pub mod Reading
 pub mod Rows
 pub mod Decided

@@ -214,3 +214,26 @@ beginServiceOf q = testedCall q (serviceCall q (q .scheduler) (Told outcome.Done
 
 abbrev pub beginShutdownOf : ReceiverState → Call
 beginShutdownOf q = testedCall q (advanceCall (Draining (Io 32)) q (q .scheduler) (Told outcome.Done))
+
+-- ---- what a driver asks
+-- a call that is over waits for nothing more
+abbrev pub isOver : Phase → Bool
+isOver (phase.Receive top asked) = false
+isOver (phase.Send batch e) = false
+isOver (phase.Shutdown e) = false
+isOver (phase.Finished o) = true
+isOver (phase.Refused r) = true
+
+abbrev pub overOf : Call → Bool
+overOf c = isOver (c .phase)
+
+-- an interruption is waited out by a receive and by a send; a shutdown is not tried again
+abbrev pub retriesIn : Phase → Answer → Bool
+retriesIn (phase.Receive top asked) a = interruptedOf a
+retriesIn (phase.Send batch e) a = interruptedOf a
+retriesIn (phase.Shutdown e) a = false
+retriesIn (phase.Finished o) a = false
+retriesIn (phase.Refused r) a = false
+
+abbrev pub retriesOf : Call → Answer → Bool
+retriesOf c a = retriesIn (c .phase) a

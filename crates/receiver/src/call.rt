@@ -5,7 +5,7 @@ ghost use Prim.Native.Nat.{min};
 ghost use lib.ListN.{length};
 ghost use Rattle.sched.specs.Scheduler.{IsSound};
 ghost use Rattle.receiver.specs.Receiver.{withScheduler, withState, withPending, withShutdown, handedOut};
-ghost use Rattle.receiver.specs.Call.{finishedCall, outcomeIn, toldIn, shutOrFinish, shutdownCall, advanceCall, flushCall, serviceCall, drainCall, Covered, sentCall, unsentCall, afterSend, refusedCall, afterShutdown, Handing, Announces, handOutCall, failedCall, blockedCall, announcedCall, afterReceive, receivedCall, answeredOf, liveCall, readCall, testedCall, beginReadOf, beginServiceOf, beginShutdownOf};
+ghost use Rattle.receiver.specs.Call.{finishedCall, outcomeIn, toldIn, shutOrFinish, shutdownCall, advanceCall, flushCall, serviceCall, drainCall, Covered, sentCall, unsentCall, afterSend, refusedCall, afterShutdown, Handing, Announces, handOutCall, failedCall, blockedCall, announcedCall, afterReceive, receivedCall, answeredOf, liveCall, readCall, testedCall, beginReadOf, beginServiceOf, beginShutdownOf, overOf, retriesOf};
 use crate::announcement::Announced;
 use crate::announcement::recv_chunk_announcement;
 use crate::answer::Answer;
@@ -581,6 +581,34 @@ impl Call {
             Phase::Shutdown(ending) => after_shutdown(receiver, source, ending, answer, place),
             Phase::Finished(_) => self,
             Phase::Refused(_) => self,
+        }
+    }
+
+    // A call that is over waits for nothing more.
+    pub fn is_over(self) -> bool
+        ensures { λ r. ⌜ r ≡ overOf self ⌝ }
+    {
+        let phase = self.phase;
+        match phase {
+            Phase::Receive { .. } => false,
+            Phase::Send { .. } => false,
+            Phase::Shutdown(_) => false,
+            Phase::Finished(_) => true,
+            Phase::Refused(_) => true,
+        }
+    }
+
+    // An interruption is waited out by a receive and by a send; a shutdown is not tried again.
+    pub fn retries(self, answer: Answer) -> bool
+        ensures { λ r. ⌜ r ≡ retriesOf self answer ⌝ }
+    {
+        let phase = self.phase;
+        match phase {
+            Phase::Receive { .. } => answer.is_interruption(),
+            Phase::Send { .. } => answer.is_interruption(),
+            Phase::Shutdown(_) => false,
+            Phase::Finished(_) => false,
+            Phase::Refused(_) => false,
         }
     }
 }

@@ -1,12 +1,10 @@
 // The receiver of a stream of chunks: the port of rosenpass's receiver.rs, without input and output. A call in progress is a value: a
-// host begins one, does what it waits for, and hands in the answer; or it hands in a whole run of answers at once.
+// host begins one, does what it waits for, and hands in the answer. `driver` hands in a whole run of answers at once.
 mod announcement;
 mod answer;
 mod call;
-mod drive;
 mod receiver;
 mod refusal;
-mod run;
 mod sound;
 mod state;
 
@@ -17,9 +15,6 @@ pub use answer::Shut;
 pub use call::Call;
 pub use call::Ending;
 pub use call::Phase;
-pub use drive::Driven;
-pub use drive::Fetched;
-pub use drive::fetch;
 pub use receiver::Ended;
 pub use receiver::Outcome;
 pub use receiver::ReceiverAnswer;

@@ -92,7 +92,7 @@ impl Failure {
         }
     }
 
-    pub(crate) fn is_errno(self, errno: u64) -> bool
+    pub fn is_errno(self, errno: u64) -> bool
         ensures { λ r. ⌜ r ≡ isErrno self errno ⌝ }
     {
         match self {

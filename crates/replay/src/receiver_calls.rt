@@ -1,10 +1,9 @@
 // The receiver's calls over the answers of a line. What lends a slice of answers is proved by hand, so a call is begun here and
-// handed answer after answer, as the receiver's own driver does it.
+// handed answer after answer, as `driver` does it.
 use crate::line::Line;
 use crate::receiver_answers;
 use receiver::Answer;
 use receiver::Call;
-use receiver::Driven;
 use receiver::Ended;
 use receiver::Failure;
 use receiver::Outcome;
@@ -12,6 +11,12 @@ use receiver::Phase;
 use receiver::ReceiverState;
 use receiver::Refusal;
 use sched::RingBufferScheduler;
+
+// A call, and how many answers it used.
+pub struct Driven {
+    pub call: Call,
+    pub used: u64,
+}
 
 // The most bytes of a ring and of a destination. A line that says more is bad.
 const ROOM: usize = 64;

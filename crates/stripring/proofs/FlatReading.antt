@@ -41,13 +41,13 @@ use Rattle.receiver.specs.declared.answer.Answer.{Answer}
 use Rattle.receiver.specs.declared.receiver.Ended.{Ended}
 use Rattle.receiver.specs.declared.receiver.ReceiverState.{ReceiverState}
 use Rattle.receiver.specs.Receiver.{delivery}
-use Rattle.receiver.proofs.Reading.{Reads, reading}
-use Rattle.receiver.proofs.Thin.{R}
+use Rattle.driver.proofs.Reading.{Reads, reading}
+use Rattle.driver.proofs.Thin.{R}
 use Rattle.receiver.proofs.receiver.Ended as E
 use Rattle.receiver.proofs.receiver.Ended.Laws as E′
 use Rattle.receiver.proofs.receiver.ReceiverState as Q
 use Rattle.receiver.proofs.receiver.ReceiverState.Laws as Q′
-use Rattle.receiver.proofs.receiver.ReceiverState.read_with_fds as g₁
+use Rattle.driver.proofs.read_with_fds as g₁
 use Rattle.stripring.specs.Receiver.{receiverAt, flatEnded}
 use Rattle.stripring.specs.Run.{endedAnswerLeft, flatDelivery}
 use Rattle.stripring.specs.declared.flat.EndedAnswer.{EndedAnswer}

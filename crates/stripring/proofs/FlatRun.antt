@@ -35,13 +35,13 @@ use Rattle.copies.proofs.Calls.{lent, asks, calls}
 use Rattle.receiver.specs.declared.answer.Answer.{Answer}
 use Rattle.receiver.specs.declared.receiver.Ended.{Ended}
 use Rattle.receiver.specs.declared.receiver.ReceiverState.{ReceiverState}
-use Rattle.receiver.proofs.Begun.{answering}
-use Rattle.receiver.proofs.Thin.{R}
+use Rattle.driver.proofs.Begun.{answering}
+use Rattle.driver.proofs.Thin.{R}
 use Rattle.receiver.proofs.receiver.Ended as E
 use Rattle.receiver.proofs.receiver.Ended.Laws as E′
 use Rattle.receiver.proofs.receiver.ReceiverState as Q
 use Rattle.receiver.proofs.receiver.ReceiverState.Laws as Q′
-use Rattle.receiver.proofs.receiver.ReceiverState.service_chunk_acknowledgements as g₁
+use Rattle.driver.proofs.service_chunk_acknowledgements as g₁
 use Rattle.stripring.specs.Receiver.{receiverAt, flatEnded}
 use Rattle.stripring.specs.declared.flat.EndedAnswer.{EndedAnswer}
 use Rattle.stripring.specs.declared.flat.Receiver.{Receiver}

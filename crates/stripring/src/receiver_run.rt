@@ -16,7 +16,7 @@ pub extern "C" fn stripring_receiver_read_with_fds(
 ) -> EndedAnswer
     ensures { λ a. ⌜ FlatReadLeaves r (now (ring .entry)) (now (dst .entry)) «max_new_fds» (now (answers .entry)) a (now (dst .exit)) ⌝ }
 {
-    flat_ended(receiver_state(r).read_with_fds(ring, dst, max_new_fds, answers))
+    flat_ended(driver::read_with_fds(receiver_state(r), ring, dst, max_new_fds, answers))
 }
 
 // A read that tells the end of the stream as failure 32.
@@ -30,7 +30,7 @@ pub extern "C" fn stripring_receiver_read_with_fds_impl(
 ) -> EndedAnswer
     ensures { λ a. ⌜ FlatReadImplLeaves r (now (ring .entry)) (now (dst .entry)) «max_new_fds» (now (answers .entry)) a (now (dst .exit)) ⌝ }
 {
-    flat_ended(receiver_state(r).read_with_fds_impl(ring, dst, max_new_fds, answers))
+    flat_ended(driver::read_with_fds_impl(receiver_state(r), ring, dst, max_new_fds, answers))
 }
 
 #[no_mangle]
@@ -40,12 +40,12 @@ pub extern "C" fn stripring_receiver_service_chunk_acknowledgements(
 ) -> EndedAnswer
     ensures { λ a. ⌜ FlatServiceLeaves r (now (answers .entry)) a ⌝ }
 {
-    flat_ended(receiver_state(r).service_chunk_acknowledgements(answers))
+    flat_ended(driver::service_chunk_acknowledgements(receiver_state(r), answers))
 }
 
 #[no_mangle]
 pub extern "C" fn stripring_receiver_shutdown(r: Receiver, answers: &[Answer]) -> EndedAnswer
     ensures { λ a. ⌜ FlatShutdownLeaves r (now (answers .entry)) a ⌝ }
 {
-    flat_ended(receiver_state(r).shutdown(answers))
+    flat_ended(driver::shutdown(receiver_state(r), answers))
 }

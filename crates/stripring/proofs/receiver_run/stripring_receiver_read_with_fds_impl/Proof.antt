@@ -3,8 +3,8 @@ use contract.Running.{givenOf, tables, tablesOf}
 use denote.Triple.Spec.{tripleOf}
 use denote.Triple.Table.{entered, cited}
 use Rattle.receiver.specs.Receiver.{readImplDelivery}
-use Rattle.receiver.proofs.receiver.ReceiverState.read_with_fds_impl.Symbol as g₁-def
-use Rattle.receiver.proofs.receiver.ReceiverState.read_with_fds_impl.Met as g₁-thm
+use Rattle.driver.proofs.read_with_fds_impl.Symbol as g₁-def
+use Rattle.driver.proofs.read_with_fds_impl.Met as g₁-thm
 use Rattle.stripring.proofs.FlatReading.{Read, read-flatly}
 use Rattle.stripring.proofs.FlatRun.{StandsFor, GoesOut}
 use Rattle.stripring.proofs.receiver_record.receiver_state.Symbol as g₀-def
@@ -23,5 +23,5 @@ stripring-receiver-read-with-fds-impl-spec 𝓤 H 𝓜 𝓖 𝓡 =
     (tables 𝓤 H 𝓜 𝓡 code.env .C) (tables 𝓤 H 𝓜 𝓡 code.env .Λ) name code.function (code.unfolded 𝓤 H 𝓜 𝓡)
     (read-flatly g₁-def.name readImplDelivery 𝓤 H (𝓖 .A) (givenOf 𝓤 H 𝓜 𝓖) (𝓜 .mem) (𝓡 .run) (tablesOf 𝓤 H 𝓜 (tables 𝓤 H 𝓜 𝓡 code.env))
     (cited 𝓤 H (StandsFor 𝓤 H (𝓖 .A) (𝓜 .mem) (𝓡 .run)) 𝓜 𝓡 code.env g₀-def.name g₀-def.routine code.calls-stripring·receiver-record·receiver-state (g₀-thm.met 𝓤 H 𝓜 𝓖 𝓡))
-    (cited 𝓤 H (Read 𝓤 H (𝓖 .A) readImplDelivery) 𝓜 𝓡 code.env g₁-def.name g₁-def.routine code.calls-receiver·receiver·ReceiverState·read-with-fds-impl (g₁-thm.met 𝓤 H 𝓜 𝓖 𝓡))
+    (cited 𝓤 H (Read 𝓤 H (𝓖 .A) readImplDelivery) 𝓜 𝓡 code.env g₁-def.name g₁-def.routine code.calls-driver·read-with-fds-impl (g₁-thm.met 𝓤 H 𝓜 𝓖 𝓡))
     (cited 𝓤 H (GoesOut 𝓤 H (𝓖 .A) (𝓜 .mem) (𝓡 .run)) 𝓜 𝓡 code.env g₂-def.name g₂-def.routine code.calls-stripring·receiver-record·flat-ended (g₂-thm.met 𝓤 H 𝓜 𝓖 𝓡)))

@@ -1,6 +1,6 @@
 -- By the phase.
 use mathlib.Core.Path.{refl}
-use Rattle.receiver.proofs.DriveLaws.{over-by}
+use Rattle.receiver.proofs.CallLaws.{over-by}
 use borrow.Author.Needs.{needs}
 use Rattle.receiver.proofs.call.Call.is_over.Statement.{statement}
 use Rattle.receiver.proofs.call.Call.is_over.Tie as tie

@@ -1,5 +1,5 @@
 -- By the phase.
-use Rattle.receiver.proofs.DriveLaws.{retries-by}
+use Rattle.receiver.proofs.CallLaws.{retries-by}
 use borrow.Author.Needs.{needs}
 use Rattle.receiver.proofs.call.Call.retries.Statement.{statement}
 use Rattle.receiver.proofs.call.Call.retries.Tie as tie

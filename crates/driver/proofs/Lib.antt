@@ -1,0 +1,9 @@
+pub mod DriveLaws
+pub mod Comes
+pub mod ComesServiced
+pub mod ComesRead
+pub mod Driven
+pub mod Thin
+pub mod Begun
+pub mod Reading
+pub mod Decided

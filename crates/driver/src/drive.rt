@@ -1,0 +1,149 @@
+// A call over a run of answers: the driver fetches answer after answer, and stops when the call is over or the run is used up.
+ghost use mathlib.Core.Path.{_≡_};
+ghost use Rattle.driver.specs.Drive.{drivenOf, endedOf, deliveredFor, deliveryOf, endOfStreamIn};
+ghost use Rattle.receiver.specs.Receiver.{delivery, endOfStreamFor};
+ghost use Rattle.driver.specs.Run.{FetchLeaves};
+use receiver::Answer;
+use receiver::Call;
+use receiver::Ended;
+use receiver::Failure;
+use receiver::Outcome;
+use receiver::Phase;
+use receiver::Refusal;
+use sched::RingBufferScheduler;
+
+pub enum Fetched {
+    Got(Answer),
+    Missing,
+}
+
+// A call, and how many answers it used.
+pub struct Driven {
+    pub call: Call,
+    pub used: u64,
+}
+
+pub fn fetch(answers: &[Answer], i: u64) -> Fetched
+    ensures { λ r. ⌜ FetchLeaves (now (answers .entry)) i r ⌝ }
+{
+    if i < answers.len() as u64 {
+        Fetched::Got(answers[i as usize])
+    } else {
+        Fetched::Missing
+    }
+}
+
+// Each turn waits out the interruptions, and hands the first other answer to the call.
+pub(crate) fn drive(call: Call, ring: &[u8], answers: &[Answer]) -> Driven
+    ensures { λ r. ⌜ r ≡ drivenOf call (now (ring .entry)) (now (answers .entry)) ⌝ }
+{
+    let mut c = call;
+    let mut i: u64 = 0;
+    'batches: loop {
+        if c.is_over() {
+            break 'batches;
+        }
+        let answer = loop {
+            let Fetched::Got(a) = fetch(answers, i) else {
+                break 'batches;
+            };
+            i += 1;
+            if c.retries(a) {
+                continue;
+            }
+            break a;
+        };
+        c = c.answered(ring, answer, i);
+    }
+    Driven { call: c, used: i }
+}
+
+impl Driven {
+    // A call that still waits where the run is used up is refused with 11.
+    pub(crate) fn ended(self) -> Ended
+        ensures { λ r. ⌜ r ≡ endedOf self ⌝ }
+    {
+        let call = self.call;
+        let phase = call.phase;
+        let receiver = call.receiver;
+        match phase {
+            Phase::Receive { .. } => Ended::Refused(Refusal::AnswerMissing),
+            Phase::Send { .. } => Ended::Refused(Refusal::AnswerMissing),
+            Phase::Shutdown(_) => Ended::Refused(Refusal::AnswerMissing),
+            Phase::Finished(outcome) => Ended::Accepted {
+                receiver,
+                outcome,
+                used: self.used,
+            },
+            Phase::Refused(e) => Ended::Refused(e),
+        }
+    }
+
+    // The destination is written last, by a read that is accepted.
+    pub(crate) fn deliver(self, ring: &[u8], dst: &mut [u8]) -> Ended
+        ensures { λ r. ⌜ delivery r (now (dst .exit)) ≡ deliveryOf self (now (ring .entry)) (now (dst .entry)) ⌝ }
+    {
+        let call = self.call;
+        let source = call.source;
+        match self.ended() {
+            Ended::Accepted {
+                receiver,
+                outcome,
+                used,
+            } => {
+                deliver_by(outcome, source, ring, dst);
+                Ended::Accepted {
+                    receiver,
+                    outcome,
+                    used,
+                }
+            }
+            Ended::Refused(e) => Ended::Refused(e),
+        }
+    }
+}
+
+fn deliver_by(outcome: Outcome, source: RingBufferScheduler, ring: &[u8], dst: &mut [u8])
+    ensures { λ _. ⌜ now (dst .exit) ≡ deliveredFor outcome source (now (ring .entry)) (now (dst .entry)) ⌝ }
+{
+    match outcome {
+        Outcome::Read { .. } => {
+            copies::read(source, ring, dst);
+        }
+        Outcome::Done => {}
+        Outcome::Failed(_) => {}
+    }
+}
+
+// The end of the stream is told as a read of 0 bytes.
+fn end_of_stream_for(outcome: Outcome) -> Outcome
+    ensures { λ r. ⌜ r ≡ endOfStreamFor outcome ⌝ }
+{
+    match outcome {
+        Outcome::Read { n, fds } => Outcome::Read { n, fds },
+        Outcome::Done => Outcome::Done,
+        Outcome::Failed(f) => {
+            if f.is_errno(Failure::SHUTDOWN) {
+                return Outcome::Read { n: 0, fds: 0 };
+            }
+            Outcome::Failed(f)
+        }
+    }
+}
+
+pub(crate) fn end_of_stream(ended: Ended) -> Ended
+    ensures { λ r. ⌜ r ≡ endOfStreamIn ended ⌝ }
+{
+    match ended {
+        Ended::Accepted {
+            receiver,
+            outcome,
+            used,
+        } => Ended::Accepted {
+            receiver,
+            outcome: end_of_stream_for(outcome),
+            used,
+        },
+        Ended::Refused(e) => Ended::Refused(e),
+    }
+}

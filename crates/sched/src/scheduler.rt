@@ -33,8 +33,8 @@ use modular::OptionModulus;
 
 pub struct RingBufferScheduler {
     pub buf_len: u64,
-    pub items_read: Counter,
     pub items_written: Counter,
+    pub items_read: Counter,
 }
 
 // A sound scheduler, or why it is none.

@@ -2,6 +2,7 @@
 mod drive;
 mod run;
 
+pub use drive::Driven;
 pub use drive::Fetched;
 pub use drive::fetch;
 pub use run::read_with_fds;

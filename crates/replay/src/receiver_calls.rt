@@ -2,6 +2,7 @@
 // handed answer after answer, as `driver` does it.
 use crate::line::Line;
 use crate::receiver_answers;
+use driver::Driven;
 use receiver::Answer;
 use receiver::Call;
 use receiver::Ended;
@@ -11,12 +12,6 @@ use receiver::Phase;
 use receiver::ReceiverState;
 use receiver::Refusal;
 use sched::RingBufferScheduler;
-
-// A call, and how many answers it used.
-pub struct Driven {
-    pub call: Call,
-    pub used: u64,
-}
 
 // The most bytes of a ring and of a destination. A line that says more is bad.
 const ROOM: usize = 64;

@@ -3,18 +3,18 @@ use Prim.Native.Nat.{ℕ}
 use mathlib.Core.Path.{_≡_, sym, ap, _∙_}
 use mathlib.Core.List.{List}
 use Rattle.sched.specs.declared.scheduler.RingBufferScheduler.{RingBufferScheduler}
-use Rattle.driver.specs.Drive.{endedBy, endedOf, deliveredFor, deliveredBy, endOfStreamIn}
+use Rattle.driver.specs.Drive.{endedBy, endedIn, deliveredFor, deliveredBy, endOfStreamIn}
 use Rattle.receiver.specs.Receiver.{delivery, endOfStreamFor}
 use Rattle.receiver.specs.declared.call.Phase.{Phase}
-use Rattle.driver.specs.declared.drive.Driven.{Driven}
+use Rattle.receiver.specs.declared.call.Call.{Call}
 use Rattle.receiver.specs.declared.receiver.Ended.{Ended}
 use Rattle.receiver.specs.declared.receiver.Ended.the-variants.{Accepted, Refused}
 use Rattle.receiver.specs.declared.receiver.Outcome.{Outcome}
 use Rattle.receiver.specs.declared.receiver.ReceiverState.{ReceiverState}
 use Rattle.receiver.specs.declared.refusal.Refusal.{Refusal}
 
-pub ended-by : (d : Driven) (ph : Phase) → d .call .phase ≡ ph → (r : Ended) → r ≡ endedBy ph d → r ≡ endedOf d
-ended-by d ph e r p = p ∙ ap (λ (x : Phase). endedBy x d) (sym e)
+pub ended-by : (c : Call) (i : ℕ) (ph : Phase) → c .phase ≡ ph → (r : Ended) → r ≡ endedBy ph c i → r ≡ endedIn c i
+ended-by c i ph e r p = p ∙ ap (λ (x : Phase). endedBy x c i) (sym e)
 
 pub ends-by : (e f : Ended) → e ≡ f → (r : Ended) → r ≡ endOfStreamIn f → r ≡ endOfStreamIn e
 ends-by e f h r p = p ∙ ap endOfStreamIn (sym h)
@@ -26,12 +26,12 @@ module _ (s : RingBufferScheduler) (ring dst left : List ℕ) where
   pub delivered-by : (o x : Outcome) → o ≡ x → left ≡ deliveredFor x s ring dst → left ≡ deliveredFor o s ring dst
   delivered-by o x e p = p ∙ ap (λ (y : Outcome). deliveredFor y s ring dst) (sym e)
 
-module _ (s : RingBufferScheduler) (ring dst : List ℕ) (e f : Ended) (h : e ≡ f) where
-  picked : (x : Ended) → e ≡ x → deliveredBy x s ring dst ≡ deliveredBy f s ring dst
-  picked x p = ap (λ (y : Ended). deliveredBy y s ring dst) (sym p ∙ h)
+module _ (s : RingBufferScheduler) (ring dst : List ℕ) (e : Ended) where
+  picked : (x : Ended) → e ≡ x → deliveredBy x s ring dst ≡ deliveredBy e s ring dst
+  picked x p = ap (λ (y : Ended). deliveredBy y s ring dst) (sym p)
 
-  pub delivered : (q : ReceiverState) (o : Outcome) (used : ℕ) (left : List ℕ) → e ≡ Accepted q o used → left ≡ deliveredFor o s ring dst → delivery (Accepted q o used) left ≡ deliveredBy f s ring dst
+  pub delivered : (q : ReceiverState) (o : Outcome) (used : ℕ) (left : List ℕ) → e ≡ Accepted q o used → left ≡ deliveredFor o s ring dst → delivery (Accepted q o used) left ≡ deliveredBy e s ring dst
   delivered q o used left p l = ap (delivery (Accepted q o used)) l ∙ picked _ p
 
-  pub not-delivered : (r : Refusal) → e ≡ Refused r → delivery (Refused r) dst ≡ deliveredBy f s ring dst
+  pub not-delivered : (r : Refusal) → e ≡ Refused r → delivery (Refused r) dst ≡ deliveredBy e s ring dst
   not-delivered r p = picked _ p

@@ -10,16 +10,19 @@ use Rattle.sched.specs.Scheduler.{offsetIn}
 use Rattle.copies.specs.declared.Ready.{Ready}
 use Rattle.copies.specs.Copies.{readFrom}
 use Rattle.copies.specs.Ring.{get}
-use Rattle.driver.proofs.Comes.{Came, done, never, cameBy, came, cameFrom, comes}
+use Rattle.driver.proofs.Comes.{Came, done, never, cameBy, cameFor, came, cameFrom, comes}
 use Rattle.driver.proofs.ComesRead.{read-driven, service-driven, shutdown-driven}
 use Rattle.receiver.proofs.Moved.{MovedBy, Moved, read-moved, readable-ready}
 use Rattle.receiver.specs.Call.{beginReadOf, beginServiceOf, beginShutdownOf}
-use Rattle.driver.specs.Drive.{drivenOf, endedBy, endedOf, deliveredFor, deliveredBy, deliveryOf, endOfStreamIn}
+use Rattle.driver.specs.Drive.{drivenOf, endedBy, endedFor, endedOf, deliveredFor, deliveredBy, deliveryFor, deliveryOf, endOfStreamIn}
 use Rattle.receiver.specs.Receiver.{At, Went, went, refused, endedFrom, endOfStreamFor, endOfStream, readImplOf, serviceOf, shutdownOf, Delivery, delivery, destinationFor, deliveryFrom, readImplDelivery, readDelivery}
 use Rattle.receiver.specs.State.{isErrno}
 use Rattle.receiver.specs.declared.answer.Answer.{Answer}
 use Rattle.receiver.specs.declared.call.Phase.{Phase}
 use Rattle.receiver.specs.declared.call.Phase.the-variants as phase
+use Rattle.receiver.specs.declared.call.Call.{Call}
+use Rattle.receiver.specs.declared.call.Step.{Step}
+use Rattle.receiver.specs.declared.call.Step.the-variants as step
 use Rattle.driver.specs.declared.drive.Driven.{Driven}
 use Rattle.receiver.specs.declared.receiver.Ended.{Ended}
 use Rattle.receiver.specs.declared.receiver.Ended.the-variants as ended
@@ -33,19 +36,22 @@ abbrev endedCame : Came → Ended
 endedCame (done q s o i) = ended.Accepted q o i
 endedCame (never r) = ended.Refused r
 
-ended-by : (d : Driven) (x : Phase) → endedBy x d ≡ endedCame (cameBy x (d .call .receiver) (d .call .source) (d .used))
-ended-by d (phase.Receive top asked) = refl
-ended-by d (phase.Send batch e) = refl
-ended-by d (phase.Shutdown e) = refl
-ended-by d (phase.Finished o) = refl
-ended-by d (phase.Refused r) = refl
+ended-by : (c : Call) (i : ℕ) (x : Phase) → endedBy x c i ≡ endedCame (cameBy x (c .receiver) (c .source) i)
+ended-by c i (phase.Receive top asked) = refl
+ended-by c i (phase.Send batch e) = refl
+ended-by c i (phase.Shutdown e) = refl
+ended-by c i (phase.Finished o) = refl
+
+ended-for : (i : ℕ) (x : Step) → endedFor x i ≡ endedCame (cameFor x i)
+ended-for i (step.Of c) = ended-by c i (c .phase)
+ended-for i (step.Refused r) = refl
 
 ended-from : (w : Went Outcome) → endedCame (cameFrom w) ≡ endedFrom w
 ended-from (went p o) = refl
 ended-from (refused r) = refl
 
 answered : (d : Driven) (w : Went Outcome) → came d ≡ cameFrom w → endedOf d ≡ endedFrom w
-answered d w h = ended-by d (d .call .phase) ∙ ap endedCame h ∙ ended-from w
+answered d w h = ended-for (d .used) (d .step) ∙ ap endedCame h ∙ ended-from w
 
 module _ (q : ReceiverState) (ring : List ℕ) (answers : List Answer) where
   pub service-ended : endedOf (drivenOf (beginServiceOf q) ring answers) ≡ endedFrom (serviceOf q answers)
@@ -62,12 +68,15 @@ module _ (ring dst : List ℕ) where
   deliveredCame (done q s o i) = delivery (ended.Accepted q o i) (deliveredFor o s ring dst)
   deliveredCame (never r) = delivery (ended.Refused r) dst
 
-  delivered-by : (d : Driven) (x : Phase) → deliveredBy (endedBy x d) (d .call .source) ring dst ≡ deliveredCame (cameBy x (d .call .receiver) (d .call .source) (d .used))
-  delivered-by d (phase.Receive top asked) = refl
-  delivered-by d (phase.Send batch e) = refl
-  delivered-by d (phase.Shutdown e) = refl
-  delivered-by d (phase.Finished o) = refl
-  delivered-by d (phase.Refused r) = refl
+  delivered-by : (c : Call) (i : ℕ) (x : Phase) → deliveredBy (endedBy x c i) (c .source) ring dst ≡ deliveredCame (cameBy x (c .receiver) (c .source) i)
+  delivered-by c i (phase.Receive top asked) = refl
+  delivered-by c i (phase.Send batch e) = refl
+  delivered-by c i (phase.Shutdown e) = refl
+  delivered-by c i (phase.Finished o) = refl
+
+  delivered-for : (i : ℕ) (x : Step) → deliveryFor x i ring dst ≡ deliveredCame (cameFor x i)
+  delivered-for i (step.Of c) = delivered-by c i (c .phase)
+  delivered-for i (step.Refused r) = refl
 
   copied : (o : Outcome) (s : RingBufferScheduler) → MovedBy ring (length dst) o s → deliveredFor o s ring dst ≡ destinationFor o s ring dst
   copied (outcome.Read n fds) s h =
@@ -87,7 +96,7 @@ module _ (ring dst : List ℕ) where
     pub read-impl-delivered : deliveryOf run ring dst ≡ readImplDelivery q ring dst top answers
     unfolding comes
     read-impl-delivered =
-        delivered-by run (run .call .phase)
+        delivered-for (run .used) (run .step)
         ∙ ap deliveredCame (read-driven ring q answers top (length dst))
         ∙ delivered-from (readImplOf q ring (length dst) top answers) (read-moved ring (length dst) top q answers)
 

@@ -1,6 +1,6 @@
 -- Driving a call over a run of answers: what it comes to, and how many answers it used.
 use Prim.Native.Nat.{ℕ, zero, suc}
-use mathlib.Core.Bool.{cond}
+use mathlib.Core.Bool.{Bool, cond, true, false}
 use mathlib.Core.List.{List, [], _∷_}
 use Rattle.sched.specs.declared.scheduler.RingBufferScheduler.{RingBufferScheduler}
 use Rattle.copies.specs.Copies as copies
@@ -10,6 +10,8 @@ use Rattle.receiver.specs.declared.answer.Answer.{Answer}
 use Rattle.receiver.specs.declared.call.Call.{Call}
 use Rattle.receiver.specs.declared.call.Phase.{Phase}
 use Rattle.receiver.specs.declared.call.Phase.the-variants as phase
+use Rattle.receiver.specs.declared.call.Step.{Step}
+use Rattle.receiver.specs.declared.call.Step.the-variants as step
 use Rattle.driver.specs.declared.drive.Driven.{Driven}
 use Rattle.driver.specs.declared.drive.Fetched.{Fetched}
 use Rattle.driver.specs.declared.drive.Fetched.the-variants.{Got, Missing}
@@ -25,35 +27,54 @@ fetchedOf [] i = Missing
 fetchedOf (a ∷ rest) zero = Got a
 fetchedOf (a ∷ rest) (suc i) = fetchedOf rest i
 
-abbrev pub driven : Call → ℕ → Driven
-driven c i = record { call = c; used = i }
+-- over a run a refusal throws the whole call away: what is refused waits for nothing more
+abbrev pub overIn : Step → Bool
+overIn (step.Of c) = overOf c
+overIn (step.Refused r) = true
 
-abbrev pub overOr : Call → ℕ → Driven → Driven
-overOr c i d = cond (overOf c) (driven c i) d
+abbrev pub retriesIn : Step → Answer → Bool
+retriesIn (step.Of c) a = retriesOf c a
+retriesIn (step.Refused r) a = false
+
+abbrev pub answeredIn : Step → List ℕ → Answer → ℕ → Step
+answeredIn (step.Of c) ring a place = answeredOf c ring a place
+answeredIn (step.Refused r) ring a place = step.Refused r
+
+abbrev pub driven : Step → ℕ → Driven
+driven x i = record { step = x; used = i }
+
+abbrev pub overOr : Step → ℕ → Driven → Driven
+overOr x i d = cond (overIn x) (driven x i) d
 
 -- a call that waits, with i answers used: the first answer that is no interruption is its answer
-abbrev pub waitedOf : ℕ → Call → List ℕ → List Answer → Driven
-waitedOf i c ring [] = driven c i
-waitedOf i c ring (a ∷ rest) =
-    cond (retriesOf c a) (waitedOf (suc i) c ring rest)
-    (overOr (answeredOf c ring a (suc i)) (suc i) (waitedOf (suc i) (answeredOf c ring a (suc i)) ring rest))
+abbrev pub waitedOf : ℕ → Step → List ℕ → List Answer → Driven
+waitedOf i x ring [] = driven x i
+waitedOf i x ring (a ∷ rest) =
+    cond (retriesIn x a) (waitedOf (suc i) x ring rest)
+    (overOr (answeredIn x ring a (suc i)) (suc i) (waitedOf (suc i) (answeredIn x ring a (suc i)) ring rest))
 
-abbrev pub drivenFrom : ℕ → Call → List ℕ → List Answer → Driven
-drivenFrom i c ring answers = overOr c i (waitedOf i c ring answers)
+abbrev pub drivenFrom : ℕ → Step → List ℕ → List Answer → Driven
+drivenFrom i x ring answers = overOr x i (waitedOf i x ring answers)
 
-abbrev pub drivenOf : Call → List ℕ → List Answer → Driven
-drivenOf c ring answers = drivenFrom 0 c ring answers
+abbrev pub drivenOf : Step → List ℕ → List Answer → Driven
+drivenOf x ring answers = drivenFrom 0 x ring answers
 
 -- a call that still waits where the run is used up is refused with 11
-abbrev pub endedBy : Phase → Driven → Ended
-endedBy (phase.Receive top asked) d = ended.Refused AnswerMissing
-endedBy (phase.Send batch e) d = ended.Refused AnswerMissing
-endedBy (phase.Shutdown e) d = ended.Refused AnswerMissing
-endedBy (phase.Finished o) d = ended.Accepted (d .call .receiver) o (d .used)
-endedBy (phase.Refused r) d = ended.Refused r
+abbrev pub endedBy : Phase → Call → ℕ → Ended
+endedBy (phase.Receive top asked) c i = ended.Refused AnswerMissing
+endedBy (phase.Send batch e) c i = ended.Refused AnswerMissing
+endedBy (phase.Shutdown e) c i = ended.Refused AnswerMissing
+endedBy (phase.Finished o) c i = ended.Accepted (c .receiver) o i
+
+abbrev pub endedIn : Call → ℕ → Ended
+endedIn c i = endedBy (c .phase) c i
+
+abbrev pub endedFor : Step → ℕ → Ended
+endedFor (step.Of c) i = endedIn c i
+endedFor (step.Refused r) i = ended.Refused r
 
 abbrev pub endedOf : Driven → Ended
-endedOf d = endedBy (d .call .phase) d
+endedOf d = endedFor (d .step) (d .used)
 
 -- the destination is written last, by a read that is accepted
 abbrev pub deliveredFor : Outcome → RingBufferScheduler → List ℕ → List ℕ → List ℕ
@@ -65,8 +86,12 @@ abbrev pub deliveredBy : Ended → RingBufferScheduler → List ℕ → List ℕ
 deliveredBy (ended.Accepted q o used) s ring dst = delivery (ended.Accepted q o used) (deliveredFor o s ring dst)
 deliveredBy (ended.Refused r) s ring dst = delivery (ended.Refused r) dst
 
+abbrev pub deliveryFor : Step → ℕ → List ℕ → List ℕ → Delivery
+deliveryFor (step.Of c) i ring dst = deliveredBy (endedIn c i) (c .source) ring dst
+deliveryFor (step.Refused r) i ring dst = delivery (ended.Refused r) dst
+
 abbrev pub deliveryOf : Driven → List ℕ → List ℕ → Delivery
-deliveryOf d ring dst = deliveredBy (endedOf d) (d .call .source) ring dst
+deliveryOf d ring dst = deliveryFor (d .step) (d .used) ring dst
 
 abbrev pub endOfStreamIn : Ended → Ended
 endOfStreamIn (ended.Accepted q o used) = ended.Accepted q (endOfStreamFor o) used

@@ -1,6 +1,6 @@
 // A call over a run of answers: the driver fetches answer after answer, and stops when the call is over or the run is used up.
 ghost use mathlib.Core.Path.{_≡_};
-ghost use Rattle.driver.specs.Drive.{drivenOf, endedOf, deliveredFor, deliveryOf, endOfStreamIn};
+ghost use Rattle.driver.specs.Drive.{overIn, retriesIn, answeredIn, drivenOf, endedIn, endedOf, deliveredFor, deliveredBy, deliveryOf, endOfStreamIn};
 ghost use Rattle.receiver.specs.Receiver.{delivery, endOfStreamFor};
 ghost use Rattle.driver.specs.Run.{FetchLeaves};
 use receiver::Answer;
@@ -10,6 +10,7 @@ use receiver::Failure;
 use receiver::Outcome;
 use receiver::Phase;
 use receiver::Refusal;
+use receiver::Step;
 use sched::RingBufferScheduler;
 
 pub enum Fetched {
@@ -17,9 +18,9 @@ pub enum Fetched {
     Missing,
 }
 
-// A call, and how many answers it used.
+// What a call has come to, and how many answers it used.
 pub struct Driven {
-    pub call: Call,
+    pub step: Step,
     pub used: u64,
 }
 
@@ -33,14 +34,42 @@ pub fn fetch(answers: &[Answer], i: u64) -> Fetched
     }
 }
 
-// Each turn waits out the interruptions, and hands the first other answer to the call.
-pub(crate) fn drive(call: Call, ring: &[u8], answers: &[Answer]) -> Driven
-    ensures { λ r. ⌜ r ≡ drivenOf call (now (ring .entry)) (now (answers .entry)) ⌝ }
+// Over a run a refusal throws the whole call away, so one that is refused waits for nothing more.
+fn is_over(step: Step) -> bool
+    ensures { λ r. ⌜ r ≡ overIn step ⌝ }
 {
-    let mut c = call;
+    match step {
+        Step::Of(call) => call.is_over(),
+        Step::Refused(_) => true,
+    }
+}
+
+fn retries(step: Step, answer: Answer) -> bool
+    ensures { λ r. ⌜ r ≡ retriesIn step answer ⌝ }
+{
+    match step {
+        Step::Of(call) => call.retries(answer),
+        Step::Refused(_) => false,
+    }
+}
+
+fn answered(step: Step, ring: &[u8], answer: Answer, place: u64) -> Step
+    ensures { λ r. ⌜ r ≡ answeredIn step (now (ring .entry)) answer place ⌝ }
+{
+    match step {
+        Step::Of(call) => call.answered(ring, answer, place),
+        Step::Refused(e) => Step::Refused(e),
+    }
+}
+
+// Each turn waits out the interruptions, and hands the first other answer to the call.
+pub(crate) fn drive(begun: Step, ring: &[u8], answers: &[Answer]) -> Driven
+    ensures { λ r. ⌜ r ≡ drivenOf begun (now (ring .entry)) (now (answers .entry)) ⌝ }
+{
+    let mut step = begun;
     let mut i: u64 = 0;
     'batches: loop {
-        if c.is_over() {
+        if is_over(step) {
             break 'batches;
         }
         let answer = loop {
@@ -48,34 +77,42 @@ pub(crate) fn drive(call: Call, ring: &[u8], answers: &[Answer]) -> Driven
                 break 'batches;
             };
             i += 1;
-            if c.retries(a) {
+            if retries(step, a) {
                 continue;
             }
             break a;
         };
-        c = c.answered(ring, answer, i);
+        step = answered(step, ring, answer, i);
     }
-    Driven { call: c, used: i }
+    Driven { step, used: i }
+}
+
+// A call that still waits where the run is used up is refused with 11.
+fn ended_in(call: Call, used: u64) -> Ended
+    ensures { λ r. ⌜ r ≡ endedIn call used ⌝ }
+{
+    let phase = call.phase;
+    let receiver = call.receiver;
+    match phase {
+        Phase::Receive { .. } => Ended::Refused(Refusal::AnswerMissing),
+        Phase::Send { .. } => Ended::Refused(Refusal::AnswerMissing),
+        Phase::Shutdown(_) => Ended::Refused(Refusal::AnswerMissing),
+        Phase::Finished(outcome) => Ended::Accepted {
+            receiver,
+            outcome,
+            used,
+        },
+    }
 }
 
 impl Driven {
-    // A call that still waits where the run is used up is refused with 11.
     pub(crate) fn ended(self) -> Ended
         ensures { λ r. ⌜ r ≡ endedOf self ⌝ }
     {
-        let call = self.call;
-        let phase = call.phase;
-        let receiver = call.receiver;
-        match phase {
-            Phase::Receive { .. } => Ended::Refused(Refusal::AnswerMissing),
-            Phase::Send { .. } => Ended::Refused(Refusal::AnswerMissing),
-            Phase::Shutdown(_) => Ended::Refused(Refusal::AnswerMissing),
-            Phase::Finished(outcome) => Ended::Accepted {
-                receiver,
-                outcome,
-                used: self.used,
-            },
-            Phase::Refused(e) => Ended::Refused(e),
+        let step = self.step;
+        match step {
+            Step::Of(call) => ended_in(call, self.used),
+            Step::Refused(e) => Ended::Refused(e),
         }
     }
 
@@ -83,23 +120,34 @@ impl Driven {
     pub(crate) fn deliver(self, ring: &[u8], dst: &mut [u8]) -> Ended
         ensures { λ r. ⌜ delivery r (now (dst .exit)) ≡ deliveryOf self (now (ring .entry)) (now (dst .entry)) ⌝ }
     {
-        let call = self.call;
-        let source = call.source;
-        match self.ended() {
+        let step = self.step;
+        match step {
+            Step::Of(call) => {
+                let source = call.source;
+                deliver_ended(ended_in(call, self.used), source, ring, dst)
+            }
+            Step::Refused(e) => Ended::Refused(e),
+        }
+    }
+}
+
+fn deliver_ended(ended: Ended, source: RingBufferScheduler, ring: &[u8], dst: &mut [u8]) -> Ended
+    ensures { λ r. ⌜ delivery r (now (dst .exit)) ≡ deliveredBy ended source (now (ring .entry)) (now (dst .entry)) ⌝ }
+{
+    match ended {
+        Ended::Accepted {
+            receiver,
+            outcome,
+            used,
+        } => {
+            deliver_by(outcome, source, ring, dst);
             Ended::Accepted {
                 receiver,
                 outcome,
                 used,
-            } => {
-                deliver_by(outcome, source, ring, dst);
-                Ended::Accepted {
-                    receiver,
-                    outcome,
-                    used,
-                }
             }
-            Ended::Refused(e) => Ended::Refused(e),
         }
+        Ended::Refused(e) => Ended::Refused(e),
     }
 }
 

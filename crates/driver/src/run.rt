@@ -9,13 +9,14 @@ use receiver::Answer;
 use receiver::Call;
 use receiver::Ended;
 use receiver::ReceiverState;
+use receiver::Step;
 
 // A call that waits for no announcement looks at no ring: it is driven over an empty one.
-pub(crate) fn drive_without_ring(call: Call, answers: &[Answer]) -> Ended
-    ensures { λ r. ⌜ r ≡ endedOf (drivenOf call [] (now (answers .entry))) ⌝ }
+pub(crate) fn drive_without_ring(begun: Step, answers: &[Answer]) -> Ended
+    ensures { λ r. ⌜ r ≡ endedOf (drivenOf begun [] (now (answers .entry))) ⌝ }
 {
     let none: [u8; 0] = [];
-    let driven = drive(call, &none, answers);
+    let driven = drive(begun, &none, answers);
     driven.ended()
 }
 
@@ -41,8 +42,8 @@ pub fn read_with_fds_impl(
 ) -> Ended
     ensures { λ r. ⌜ ReadImplLeaves receiver (now (ring .entry)) (now (dst .entry)) «max_new_fds» (now (answers .entry)) r (now (dst .exit)) ⌝ }
 {
-    let call = Call::begin_read(receiver, ring.len(), max_new_fds, dst.len() as u64);
-    let driven = drive(call, ring, answers);
+    let begun = Call::begin_read(receiver, ring.len(), max_new_fds, dst.len() as u64);
+    let driven = drive(begun, ring, answers);
     driven.deliver(ring, dst)
 }
 

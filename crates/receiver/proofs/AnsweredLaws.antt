@@ -1,6 +1,6 @@
 -- Laws of the machine's steps: what a test or a case tells.
 use Prim.Native.Nat.{ℕ, zero, suc, _-_, _^_, _<_, _≤_, _%_, _/_}
-use mathlib.Core.Path.{_≡_, refl, sym, ap, _∙_}
+use mathlib.Core.Path.{_≡_, refl, sym, ap, subst, _∙_}
 use mathlib.Core.Bool.{Bool, cond, true, false}
 use mathlib.Core.List.{List}
 use native.Mathlib.Omega.{arith}
@@ -17,13 +17,12 @@ use Rattle.copies.specs.declared.Refusal.the-variants.{RingMemory}
 use Rattle.copies.specs.Copies.{readyFrom, readyOf}
 use Rattle.copies.specs.Ring.{get}
 use Rattle.receiver.proofs.ChunkLaws.{announced, held}
-use Rattle.receiver.specs.Call.{Handing, Announces, answeredBy, answeredOf}
+use Rattle.receiver.specs.Call.{Handing, Announces, ByteSized}
 use Rattle.receiver.specs.Receiver.{withScheduler, numberFrom, headerIn, byteIn}
 use Rattle.receiver.specs.declared.announcement.Announced.{Announced}
 use Rattle.receiver.specs.declared.announcement.Announced.the-variants as announced
-use Rattle.receiver.specs.declared.answer.Answer.{Answer}
-use Rattle.receiver.specs.declared.call.Call.{Call}
-use Rattle.receiver.specs.declared.call.Phase.{Phase}
+use Rattle.receiver.specs.declared.answer.Received.{Received}
+use Rattle.receiver.specs.declared.answer.Received.the-variants as received
 use Rattle.receiver.specs.declared.receiver.ReceiverState.{ReceiverState}
 
 -- a chunk can be handed out
@@ -82,18 +81,13 @@ ready-sound s u n p = by (soundOf s) refl p
     by (checked.Sound v) e p = same v (sym e) (eqb n (v .«buf_len»)) refl p
     by (checked.Refused r) e p = let z : _≡_ {A = ℕ} 0 1 = cc in absurd (omega arith)
 
-pub by-phase : (c : Call) (ring : List ℕ) (a : Answer) (place : ℕ) (ph : Phase) → c .phase ≡ ph → (r : Call) → r ≡ answeredBy ph c ring a place → r ≡ answeredOf c ring a place
-by-phase c ring a place ph e r p = p ∙ ap (λ (x : Phase). answeredBy x c ring a place) (sym e)
-
-below : (n : ℕ) → n < 2 ^ 64 → (n ≡ 2 ^ 64 - 1 → ⊥) → n < 2 ^ 64 - 1
+pub below : (n : ℕ) → n < 2 ^ 64 → (n ≡ 2 ^ 64 - 1 → ⊥) → n < 2 ^ 64 - 1
 below n t f = by (ltb n (2 ^ 64 - 1)) refl
   where
     by : (b : Bool) → ltb n (2 ^ 64 - 1) ≡ b → n < 2 ^ 64 - 1
     by true e = ltb-true _ _ e
     by false e = absurd (f (omega (arith, t, ltb-false n (2 ^ 64 - 1) e)))
 
-pub ready-handing : (q : ReceiverState) (u : RingBufferScheduler) (n : ℕ) → ready.Sound u ≡ readyOf (q .scheduler) n → (q .«pending_ack_count» ≡ 2 ^ 64 - 1 → ⊥) → q .«pending_ack_count» < 2 ^ 64 → Handing q 0 × (n ≡ q .scheduler .«buf_len»)
-ready-handing q u n p f t = (
-  record { sound = ready-sound (q .scheduler) u n p .0; held = omega arith; counted = below _ t f },
-  ready-sound (q .scheduler) u n p .1,
-)
+-- a byte that was received
+pub byte-sized : (x : Received) (q : ReceiverState) (n b fds : ℕ) → x ≡ received.Byte b fds → ByteSized x n q → n ≡ q .scheduler .«buf_len»
+byte-sized x q n b fds e h = subst (λ (y : Received). ByteSized y n q) e h

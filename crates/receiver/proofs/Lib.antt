@@ -4,8 +4,12 @@ pub mod ChunkLaws
 pub mod SoundLaws
 pub mod CallLaws
 pub mod AnsweredLaws
+pub mod AdmissionLaws
+pub mod ResumedLaws
 pub mod Kept
 pub mod Moved
+pub mod Fits
+pub mod Made
 pub mod Spent
 pub mod PendingSum
 pub mod Rows

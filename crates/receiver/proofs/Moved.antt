@@ -11,15 +11,19 @@ use borrow.Author.Tests.{eq-eqb, eqb-true}
 use Rattle.sched.proofs.Laws.{sound-is}
 use Rattle.sched.specs.declared.scheduler.RingBufferScheduler.{RingBufferScheduler}
 use Rattle.sched.specs.Scheduler.{IsSound, dataIn}
-use Rattle.copies.specs.declared.Ready.{Ready}
 use Rattle.copies.specs.declared.Ready.the-variants as ready
 use Rattle.copies.specs.declared.Refusal.the-variants.{RingMemory}
 use Rattle.copies.specs.Copies.{readyFrom, readyOf}
-use Rattle.receiver.proofs.AnsweredLaws.{Chunked, byte-chunked, ready-sound}
+use Rattle.receiver.proofs.AdmissionLaws.{passed-sound, passed-sized}
+use Rattle.receiver.proofs.AnsweredLaws.{Chunked, byte-chunked}
 use Rattle.receiver.proofs.Kept.{Kept, service-kept}
+use Rattle.receiver.specs.Admission.{admissionOf}
 use Rattle.receiver.specs.Answer.{interruptedOf, receivedOf}
-use Rattle.receiver.specs.State.{fitsState, isErrno}
-use Rattle.receiver.specs.Receiver.{At, at, Went, went, refused, withScheduler, advanceTo, serviceIn, byteIn, byReceived, announceIn, handedOut, dropped, handOut, answering, blockedRead, announcedRead, liveRead, readIn, fitting, readyFor, begin, readImplOf}
+use Rattle.receiver.specs.State.{isErrno}
+use Rattle.receiver.specs.Receiver.{At, at, Went, went, refused, withScheduler, advanceTo, serviceIn, byteIn, byReceived, announceIn, handedOut, dropped, handOut, answering, blockedRead, announcedRead, liveRead, readIn, admitted, begin, readImplOf}
+use Rattle.receiver.specs.declared.admission.Admission.{Admission}
+use Rattle.receiver.specs.declared.admission.Admission.the-variants.{Passed, Refused}
+use Rattle.receiver.specs.declared.admission.Memory.the-variants.{Of}
 use Rattle.receiver.specs.declared.announcement.Announced.{Announced}
 use Rattle.receiver.specs.declared.announcement.Announced.the-variants as announced
 use Rattle.receiver.specs.declared.answer.Answer.{Answer}
@@ -117,14 +121,12 @@ module _ (ring : List ℕ) (asked : ℕ) where
       by-state (Draining f) = live
       by-state (Terminated f) = tt
 
-    ready-first : (x : Ready) → readyOf (q .scheduler) (length ring) ≡ x → Moved (readyFor x (fitting q (readIn (q .state) ring asked top (begin q answers))))
-    ready-first (ready.Sound u) e =
-        let k = ready-sound (q .scheduler) u (length ring) (sym e) in
-        either (fitsState (q .state)) _ _ (by-state (record { sound = k .0; sized = k .1 }) (q .state)) tt
-    ready-first (ready.Refused e) h = tt
+    passed-first : (x : Admission) → x ≡ admissionOf q (Of (length ring)) → Moved (admitted x (readIn (q .state) ring asked top (begin q answers)))
+    passed-first Passed e = by-state (record { sound = passed-sound q (Of (length ring)) e; sized = passed-sized q (length ring) e }) (q .state)
+    passed-first (Refused r) e = tt
 
     pub read-moved : Moved (readImplOf q ring asked top answers)
-    read-moved = ready-first (readyOf (q .scheduler) (length ring)) refl
+    read-moved = passed-first (admissionOf q (Of (length ring))) refl
 
 pub readable-ready : (ring : List ℕ) (s : RingBufferScheduler) → Readable ring s → readyOf s (length ring) ≡ ready.Sound s
 unfolding readyFrom

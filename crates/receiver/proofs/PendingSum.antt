@@ -9,20 +9,20 @@ use lib.Dec.{eqb}
 use lib.ListN.{length, take, drop}
 use borrow.Author.Tests.{eqb-true, ne-eqb}
 use Rattle.sched.specs.declared.operation.OperationType.the-variants.{Read}
-use Rattle.sched.specs.declared.scheduler.Checked.{Checked}
-use Rattle.sched.specs.declared.scheduler.Checked.the-variants as checked
 use Rattle.sched.specs.declared.scheduler.RingBufferScheduler.{RingBufferScheduler}
-use Rattle.sched.specs.Scheduler.{IsSound, soundOf, dataIn, advancedIn}
-use Rattle.copies.specs.declared.Ready.{Ready}
-use Rattle.copies.specs.declared.Ready.the-variants as ready
-use Rattle.copies.specs.Copies.{readyOf}
-use Rattle.receiver.proofs.AnsweredLaws.{Chunked, byte-chunked, ready-sound}
+use Rattle.sched.specs.Scheduler.{IsSound, dataIn, advancedIn}
+use Rattle.receiver.proofs.AdmissionLaws.{passed-sound}
+use Rattle.receiver.proofs.AnsweredLaws.{Chunked, byte-chunked}
 use Rattle.receiver.proofs.CallLaws.{sent-covered}
 use Rattle.receiver.proofs.Spent.{drop-more, sent-more, interrupted-sends, shut-sends, received-sends, sent-sends, failed-sends}
+use Rattle.receiver.specs.Admission.{admissionOf}
 use Rattle.receiver.specs.Answer.{interruptedOf, receivedOf, sentOf, shutOf}
-use Rattle.receiver.specs.State.{fitsState, failureIn, isErrno, advanceIn}
-use Rattle.receiver.specs.Receiver.{At, at, Went, went, refused, withScheduler, withState, withPending, withShutdown, shutBy, askShutdownOf, shutdownIn, advanceTo, batchIn, bySent, flushIn, drained, flushed, serviceBy, serviceIn, byteIn, byReceived, announceIn, dropped, handOut, answering, failedRead, blockedRead, announcedRead, readIn, endedFrom, fitting, soundFrom, readyFor, begin, readImplOf, endOfStream, serviceOf, shutdownFrom, shutdownOf}
+use Rattle.receiver.specs.State.{failureIn, isErrno, advanceIn}
+use Rattle.receiver.specs.Receiver.{At, at, Went, went, refused, withScheduler, withState, withPending, withShutdown, shutBy, askShutdownOf, shutdownIn, advanceTo, batchIn, bySent, flushIn, drained, flushed, serviceBy, serviceIn, byteIn, byReceived, announceIn, dropped, handOut, answering, failedRead, blockedRead, announcedRead, readIn, endedFrom, admitted, begin, readImplOf, endOfStream, serviceOf, shutdownFrom, shutdownOf}
 use Rattle.receiver.specs.Pending.{Asked, reads, readsImpl, services, shuts, wentOf, answersOf, sentBy, sentIn, wholeIn, nextOver, sentOver, wholeOver, nextOf, after, allSent, allWhole}
+use Rattle.receiver.specs.declared.admission.Admission.{Admission}
+use Rattle.receiver.specs.declared.admission.Admission.the-variants.{Passed, Refused}
+use Rattle.receiver.specs.declared.admission.Memory.the-variants as memory
 use Rattle.receiver.specs.declared.announcement.Announced.{Announced}
 use Rattle.receiver.specs.declared.announcement.Announced.the-variants as announced
 use Rattle.receiver.specs.declared.answer.Answer.{Answer}
@@ -247,29 +247,23 @@ module _ (q : ReceiverState) (answers : List Answer) where
   begins : Spent answers (q .«pending_ack_count») (q .scheduler) q 0 answers
   begins = record { left = refl; sum = omega arith; same = refl }
 
-  fits : (w : Went Outcome) → Kept w → (b : Bool) → Kept (cond b w (refused (Misfit 0)))
-  fits w h true = h
-  fits w h false = tt
-
-  sound-first : (x : Checked) (w : Went Outcome) → Kept w → Kept (soundFrom x w)
-  sound-first (checked.Sound s) w h = h
-  sound-first (checked.Refused e) w h = tt
+  admits : (x : Admission) (w : Went Outcome) → Kept w → Kept (admitted x w)
+  admits Passed w h = h
+  admits (Refused r) w h = tt
 
   service-kept : Kept (serviceOf q answers)
   service-kept =
-      sound-first (soundOf (q .scheduler)) (fitting q (serviceIn start))
-      (fits (serviceIn start) (balanced answers (q .«pending_ack_count») (q .scheduler) (serviceIn start) (service-sums answers (q .«pending_ack_count») (q .scheduler) start begins)) (fitsState (q .state)))
+      admits (admissionOf q memory.None) (serviceIn start)
+      (balanced answers (q .«pending_ack_count») (q .scheduler) (serviceIn start) (service-sums answers (q .«pending_ack_count») (q .scheduler) start begins))
 
   abbrev shutting : Went PotentialFailure
   shutting = advanceTo (Draining (Io 32)) start
 
   shutdown-kept : Kept (shutdownOf q answers)
   shutdown-kept =
-      sound-first (soundOf (q .scheduler)) (fitting q (shutdownFrom shutting))
-      (fits (shutdownFrom shutting)
+      admits (admissionOf q memory.None) (shutdownFrom shutting)
       (balanced answers (q .«pending_ack_count») (q .scheduler) (shutdownFrom shutting)
       (shutdown-sums answers (q .«pending_ack_count») (q .scheduler) shutting (advance-spent answers (q .«pending_ack_count») (q .scheduler) (Draining (Io 32)) start begins)))
-      (fitsState (q .state)))
 
   module _ (ring : List ℕ) (asked top : ℕ) where
     module _ (sound : IsSound (q .scheduler)) where
@@ -297,12 +291,12 @@ module _ (q : ReceiverState) (answers : List Answer) where
       by-state (Draining f) = live (eqb asked 0) refl
       by-state (Terminated f) = omega arith
 
-    ready-first : (x : Ready) → readyOf (q .scheduler) (length ring) ≡ x → Kept (readyFor x (fitting q (readIn (q .state) ring asked top start)))
-    ready-first (ready.Sound u) e = fits (readIn (q .state) ring asked top start) (by-state (ready-sound (q .scheduler) u (length ring) (sym e) .0) (q .state)) (fitsState (q .state))
-    ready-first (ready.Refused e) h = tt
+    passed-first : (x : Admission) → x ≡ admissionOf q (memory.Of (length ring)) → Kept (admitted x (readIn (q .state) ring asked top start))
+    passed-first Passed e = by-state (passed-sound q (memory.Of (length ring)) e) (q .state)
+    passed-first (Refused r) e = tt
 
     read-impl-kept : Kept (readImplOf q ring asked top answers)
-    read-impl-kept = ready-first (readyOf (q .scheduler) (length ring)) refl
+    read-impl-kept = passed-first (admissionOf q (memory.Of (length ring))) refl
 
   -- the end of the stream hands nothing out
   end-kept : (w : Went Outcome) → Kept w → Kept (endOfStream w)

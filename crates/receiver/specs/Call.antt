@@ -1,20 +1,21 @@
--- The machine: what a call in progress becomes with each answer.
+-- The machine: what a call in progress becomes with each answer. A call of the machine comes to a step: the call as it goes on, or
+-- why it is refused, and then the call stays what it was.
 use Prim.Native.Nat.{ℕ, _-_, _^_, _<_, _≤_, min}
+use mathlib.Core.Path.{_≡_}
 use mathlib.Core.Bool.{Bool, cond, true, false}
 use mathlib.Core.List.{List}
 use lib.Dec.{eqb}
 use lib.ListN.{length}
-use Rattle.sched.specs.declared.scheduler.Checked.{Checked}
-use Rattle.sched.specs.declared.scheduler.Checked.the-variants as checked
-use Rattle.copies.specs.declared.Ready.{Ready}
-use Rattle.copies.specs.declared.Ready.the-variants as ready
-use Rattle.copies.specs.declared.Refusal.the-variants.{Scheduler}
-use Rattle.copies.specs.Copies.{readyOf}
 use Rattle.sched.specs.declared.scheduler.RingBufferScheduler.{RingBufferScheduler}
-use Rattle.sched.specs.Scheduler.{IsSound, soundOf, dataIn}
+use Rattle.sched.specs.Scheduler.{IsSound, dataIn}
+use Rattle.receiver.specs.Admission.{admissionOf}
 use Rattle.receiver.specs.Answer.{interruptedOf, receivedOf, sentOf, shutOf}
-use Rattle.receiver.specs.State.{fitsState, failureIn, isErrno, advanceIn}
+use Rattle.receiver.specs.State.{failureIn, isErrno, advanceIn}
 use Rattle.receiver.specs.Receiver.{withScheduler, withState, withPending, withShutdown, batchIn, bySent, byteIn, handedOut}
+use Rattle.receiver.specs.declared.admission.Admission.{Admission}
+use Rattle.receiver.specs.declared.admission.Admission.the-variants as admission
+use Rattle.receiver.specs.declared.admission.Memory.{Memory}
+use Rattle.receiver.specs.declared.admission.Memory.the-variants as memory
 use Rattle.receiver.specs.declared.announcement.Announced.{Announced}
 use Rattle.receiver.specs.declared.announcement.Announced.the-variants as announced
 use Rattle.receiver.specs.declared.answer.Answer.{Answer}
@@ -27,11 +28,13 @@ use Rattle.receiver.specs.declared.call.Ending.{Ending}
 use Rattle.receiver.specs.declared.call.Ending.the-variants.{Dropped, Told}
 use Rattle.receiver.specs.declared.call.Phase.{Phase}
 use Rattle.receiver.specs.declared.call.Phase.the-variants as phase
+use Rattle.receiver.specs.declared.call.Step.{Step}
+use Rattle.receiver.specs.declared.call.Step.the-variants as step
 use Rattle.receiver.specs.declared.receiver.Outcome.{Outcome}
 use Rattle.receiver.specs.declared.receiver.Outcome.the-variants as outcome
 use Rattle.receiver.specs.declared.receiver.ReceiverState.{ReceiverState}
 use Rattle.receiver.specs.declared.refusal.Refusal.{Refusal}
-use Rattle.receiver.specs.declared.refusal.Refusal.the-variants.{Copy, Misfit, PendingFull}
+use Rattle.receiver.specs.declared.refusal.Refusal.the-variants.{Misfit, PendingFull}
 use Rattle.receiver.specs.declared.state.Failure.{Failure}
 use Rattle.receiver.specs.declared.state.Failure.the-variants.{Io}
 use Rattle.receiver.specs.declared.state.OperationalState.{OperationalState}
@@ -44,9 +47,6 @@ call q s p = record { receiver = q; source = s; phase = p }
 
 abbrev pub finishedCall : ReceiverState → RingBufferScheduler → Outcome → Call
 finishedCall q s o = call q s (phase.Finished o)
-
-abbrev pub refusedCall : ReceiverState → RingBufferScheduler → Refusal → Call
-refusedCall q s r = call q s (phase.Refused r)
 
 abbrev pub outcomeIn : Ending → Outcome
 outcomeIn (Dropped o) = o
@@ -91,9 +91,6 @@ serviceCall q s e = serviceCallBy (failureIn (q .state)) q s e
 abbrev pub drainCall : Failure → ReceiverState → RingBufferScheduler → Ending → Call
 drainCall f q s e = advanceCall (Draining f) q s (toldIn f e)
 
-abbrev pub misfitCall : ℕ → ReceiverState → RingBufferScheduler → Call
-misfitCall place q s = refusedCall q s (Misfit place)
-
 -- no more is sent than is pending
 abbrev pub Covered : ℕ → ReceiverState → Type 0
 Covered n q = n ≤ q .«pending_ack_count»
@@ -104,15 +101,17 @@ sentCall n q s e = cond (eqb n 0) (drainCall (Io 5) q s e) (flushCall (withPendi
 abbrev pub unsentCall : ℕ → ReceiverState → RingBufferScheduler → Ending → Call
 unsentCall n q s e = cond (eqb n 11) (finishedCall q s (outcomeIn e)) (drainCall (Io n) q s e)
 
-abbrev pub afterSend : ReceiverState → RingBufferScheduler → Ending → Answer → ℕ → Call
-afterSend q s e a place = bySent (sentOf (batchIn q) a) (λ n. sentCall n q s e) (λ n. unsentCall n q s e) (misfitCall place q s)
+-- an answer that the place cannot have is 12
+abbrev pub afterSend : ReceiverState → RingBufferScheduler → Ending → Answer → ℕ → Step
+afterSend q s e a place =
+    bySent (sentOf (batchIn q) a) (λ n. step.Of (sentCall n q s e)) (λ n. step.Of (unsentCall n q s e)) (step.Refused (Misfit place))
 
-abbrev pub afterShut : Shut → ReceiverState → RingBufferScheduler → Ending → ℕ → Call
-afterShut shut.Done q s e place = finishedCall (withShutdown q) s (outcomeIn e)
-afterShut (shut.Failed n) q s e place = finishedCall q s (outcomeIn (toldIn (Io n) e))
-afterShut shut.Misfit q s e place = misfitCall place q s
+abbrev pub afterShut : Shut → ReceiverState → RingBufferScheduler → Ending → ℕ → Step
+afterShut shut.Done q s e place = step.Of (finishedCall (withShutdown q) s (outcomeIn e))
+afterShut (shut.Failed n) q s e place = step.Of (finishedCall q s (outcomeIn (toldIn (Io n) e)))
+afterShut shut.Misfit q s e place = step.Refused (Misfit place)
 
-abbrev pub afterShutdown : ReceiverState → RingBufferScheduler → Ending → Answer → ℕ → Call
+abbrev pub afterShutdown : ReceiverState → RingBufferScheduler → Ending → Answer → ℕ → Step
 afterShutdown q s e a place = afterShut (shutOf a) q s e place
 
 -- ---- reading
@@ -146,74 +145,99 @@ abbrev pub announcedCall : Announced → ℕ → ReceiverState → RingBufferSch
 announcedCall (announced.Chunk u fds) asked q s = handOutCall asked fds (withScheduler q u)
 announcedCall (announced.Failed f) asked q s = cond (isErrno f 11) (blockedCall q s) (failedCall f q s)
 
-abbrev pub afterReceive : ReceiverState → RingBufferScheduler → List ℕ → Received → ℕ → ℕ → Call
-afterReceive q s ring (received.Byte b fds) asked place = announcedCall (byteIn ring (q .scheduler) b fds) asked q s
-afterReceive q s ring (received.Failed n) asked place = announcedCall (announced.Failed (Io n)) asked q s
-afterReceive q s ring received.Misfit asked place = misfitCall place q s
+abbrev pub afterReceive : ReceiverState → RingBufferScheduler → List ℕ → Received → ℕ → ℕ → Step
+afterReceive q s ring (received.Byte b fds) asked place = step.Of (announcedCall (byteIn ring (q .scheduler) b fds) asked q s)
+afterReceive q s ring (received.Failed n) asked place = step.Of (announcedCall (announced.Failed (Io n)) asked q s)
+afterReceive q s ring received.Misfit asked place = step.Refused (Misfit place)
 
--- the record is tested where the ring is touched: 1 to 5, 9, 13
-abbrev pub receivedBy : Ready → ReceiverState → RingBufferScheduler → List ℕ → Received → ℕ → ℕ → Call
-receivedBy (ready.Sound u) q s ring r asked place =
-    cond (eqb (q .«pending_ack_count») (2 ^ 64 - 1)) (refusedCall q s PendingFull) (afterReceive q s ring r asked place)
-receivedBy (ready.Refused e) q s ring r asked place = refusedCall q s (Copy e)
+-- where a byte was received, the ring has the scheduler's length
+abbrev pub ByteSized : Received → ℕ → ReceiverState → Type 0
+ByteSized (received.Byte b fds) n q = n ≡ q .scheduler .«buf_len»
+ByteSized (received.Failed e) n q = Unit {0}
+ByteSized received.Misfit n q = Unit {0}
 
-abbrev pub receivedCall : ReceiverState → RingBufferScheduler → List ℕ → Received → ℕ → ℕ → Call
-receivedCall q s ring r asked place = receivedBy (readyOf (q .scheduler) (length ring)) q s ring r asked place
-
--- ---- the call after an answer
--- an interruption leaves it waiting; a shutdown is not tried again; a call that is over stays as it is
-abbrev pub answeredBy : Phase → Call → List ℕ → Answer → ℕ → Call
-answeredBy (phase.Receive top asked) c ring a place =
-    cond (interruptedOf a) c (receivedCall (c .receiver) (c .source) ring (receivedOf top a) asked place)
-answeredBy (phase.Send batch e) c ring a place = cond (interruptedOf a) c (afterSend (c .receiver) (c .source) e a place)
-answeredBy (phase.Shutdown e) c ring a place = afterShutdown (c .receiver) (c .source) e a place
-answeredBy (phase.Finished o) c ring a place = c
-answeredBy (phase.Refused r) c ring a place = c
-
-abbrev pub answeredOf : Call → List ℕ → Answer → ℕ → Call
-answeredOf c ring a place = answeredBy (c .phase) c ring a place
-
--- ---- the beginnings
 -- in order: the empty destination, 13, the announcement if there is no data
-abbrev pub liveCall : ReceiverState → ℕ → ℕ → Call
+abbrev pub liveCall : ReceiverState → ℕ → ℕ → Step
 liveCall q top asked =
-    cond (eqb asked 0) (finishedCall q (q .scheduler) (outcome.Read 0 0))
-    (cond (eqb (q .«pending_ack_count») (2 ^ 64 - 1)) (refusedCall q (q .scheduler) PendingFull)
-    (cond (eqb (dataIn (q .scheduler)) 0) (call q (q .scheduler) (phase.Receive top asked)) (handOutCall asked 0 q)))
+    cond (eqb asked 0) (step.Of (finishedCall q (q .scheduler) (outcome.Read 0 0)))
+    (cond (eqb (q .«pending_ack_count») (2 ^ 64 - 1)) (step.Refused PendingFull)
+    (cond (eqb (dataIn (q .scheduler)) 0) (step.Of (call q (q .scheduler) (phase.Receive top asked))) (step.Of (handOutCall asked 0 q))))
 
-abbrev pub readBy : OperationalState → ReceiverState → ℕ → ℕ → Call
+abbrev pub readBy : OperationalState → ReceiverState → ℕ → ℕ → Step
 readBy Normal q top asked = liveCall q top asked
 readBy (Draining f) q top asked = liveCall q top asked
-readBy (Terminated f) q top asked = finishedCall q (q .scheduler) (outcome.Failed f)
+readBy (Terminated f) q top asked = step.Of (finishedCall q (q .scheduler) (outcome.Failed f))
 
-abbrev pub readCall : ReceiverState → ℕ → ℕ → Call
+abbrev pub readCall : ReceiverState → ℕ → ℕ → Step
 readCall q top asked = readBy (q .state) q top asked
 
--- 12 with place 0 where a stored errno does not fit
-abbrev pub fittingCall : ReceiverState → Call → Call
-fittingCall q c = cond (fitsState (q .state)) c (misfitCall 0 q (q .scheduler))
+-- ---- the beginnings: the tests, and then the rules
+abbrev pub admittedStep : Admission → Step → Step
+admittedStep admission.Passed x = x
+admittedStep (admission.Refused r) x = step.Refused r
 
--- 1 to 5, then 9
-abbrev pub readyCall : Ready → ReceiverState → Call → Call
-readyCall (ready.Sound u) q c = c
-readyCall (ready.Refused e) q c = refusedCall q (q .scheduler) (Copy e)
+abbrev pub beginReadOf : ReceiverState → ℕ → ℕ → ℕ → Step
+beginReadOf q n top asked = admittedStep (admissionOf q (memory.Of n)) (readCall q top asked)
 
--- 1 to 5
-abbrev pub soundCall : Checked → ReceiverState → Call → Call
-soundCall (checked.Sound u) q c = c
-soundCall (checked.Refused e) q c = refusedCall q (q .scheduler) (Copy (Scheduler e))
+abbrev pub beginServiceOf : ReceiverState → Step
+beginServiceOf q = admittedStep (admissionOf q memory.None) (step.Of (serviceCall q (q .scheduler) (Told outcome.Done)))
 
-abbrev pub beginReadOf : ReceiverState → ℕ → ℕ → ℕ → Call
-beginReadOf q n top asked = readyCall (readyOf (q .scheduler) n) q (fittingCall q (readCall q top asked))
+abbrev pub beginShutdownOf : ReceiverState → Step
+beginShutdownOf q = admittedStep (admissionOf q memory.None) (step.Of (advanceCall (Draining (Io 32)) q (q .scheduler) (Told outcome.Done)))
 
-abbrev pub testedCall : ReceiverState → Call → Call
-testedCall q c = soundCall (soundOf (q .scheduler)) q (fittingCall q c)
+-- ---- the call after an answer
+-- the ring is looked at where a byte was received, and only there
+abbrev pub looksBy : Received → ℕ → Memory
+looksBy (received.Byte b fds) n = memory.Of n
+looksBy (received.Failed e) n = memory.None
+looksBy received.Misfit n = memory.None
 
-abbrev pub beginServiceOf : ReceiverState → Call
-beginServiceOf q = testedCall q (serviceCall q (q .scheduler) (Told outcome.Done))
+abbrev pub looksAt : Phase → Answer → ℕ → Memory
+looksAt (phase.Receive top asked) a n = looksBy (receivedOf top a) n
+looksAt (phase.Send batch e) a n = memory.None
+looksAt (phase.Shutdown e) a n = memory.None
+looksAt (phase.Finished o) a n = memory.None
 
-abbrev pub beginShutdownOf : ReceiverState → Call
-beginShutdownOf q = testedCall q (advanceCall (Draining (Io 32)) q (q .scheduler) (Told outcome.Done))
+-- A phase can be made up, and so the rules are asked anew what the call waits for with this record. A call that the machine made is
+-- what they say.
+abbrev pub resumedBy : Phase → Call → Step
+resumedBy (phase.Receive top asked) c = readCall (c .receiver) top asked
+resumedBy (phase.Send batch e) c = step.Of (serviceCall (c .receiver) (c .source) e)
+resumedBy (phase.Shutdown e) c = step.Of (shutdownCall (c .receiver) (c .source) e)
+resumedBy (phase.Finished o) c = step.Of c
+
+abbrev pub resumedOf : Call → Step
+resumedOf c = resumedBy (c .phase) c
+
+-- a receive is answered of a record that passed its tests
+abbrev pub StepsBy : Phase → ReceiverState → Answer → ℕ → Type 0
+StepsBy (phase.Receive top asked) q a n = Handing q 0 × ByteSized (receivedOf top a) n q
+StepsBy (phase.Send batch e) q a n = Unit {0}
+StepsBy (phase.Shutdown e) q a n = Unit {0}
+StepsBy (phase.Finished o) q a n = Unit {0}
+
+abbrev pub Steps : Call → Answer → ℕ → Type 0
+Steps c a n = StepsBy (c .phase) (c .receiver) a n
+
+-- an interruption leaves it waiting; a shutdown is not tried again; a call that is over stays as it is
+abbrev pub steppedBy : Phase → Call → List ℕ → Answer → ℕ → Step
+steppedBy (phase.Receive top asked) c ring a place =
+    cond (interruptedOf a) (step.Of c) (afterReceive (c .receiver) (c .source) ring (receivedOf top a) asked place)
+steppedBy (phase.Send batch e) c ring a place = cond (interruptedOf a) (step.Of c) (afterSend (c .receiver) (c .source) e a place)
+steppedBy (phase.Shutdown e) c ring a place = afterShutdown (c .receiver) (c .source) e a place
+steppedBy (phase.Finished o) c ring a place = step.Of c
+
+abbrev pub steppedOf : Call → List ℕ → Answer → ℕ → Step
+steppedOf c ring a place = steppedBy (c .phase) c ring a place
+
+abbrev pub answeredFrom : Step → List ℕ → Answer → ℕ → Step
+answeredFrom (step.Of c) ring a place = steppedOf c ring a place
+answeredFrom (step.Refused r) ring a place = step.Refused r
+
+-- 1 to 5, 9 where the ring is looked at, 12 with place 0, as of every call
+abbrev pub answeredOf : Call → List ℕ → Answer → ℕ → Step
+answeredOf c ring a place =
+    admittedStep (admissionOf (c .receiver) (looksAt (c .phase) a (length ring))) (answeredFrom (resumedOf c) ring a place)
 
 -- ---- what a driver asks
 -- a call that is over waits for nothing more
@@ -222,7 +246,6 @@ isOver (phase.Receive top asked) = false
 isOver (phase.Send batch e) = false
 isOver (phase.Shutdown e) = false
 isOver (phase.Finished o) = true
-isOver (phase.Refused r) = true
 
 abbrev pub overOf : Call → Bool
 overOf c = isOver (c .phase)
@@ -233,7 +256,6 @@ retriesIn (phase.Receive top asked) a = interruptedOf a
 retriesIn (phase.Send batch e) a = interruptedOf a
 retriesIn (phase.Shutdown e) a = false
 retriesIn (phase.Finished o) a = false
-retriesIn (phase.Refused r) a = false
 
 abbrev pub retriesOf : Call → Answer → Bool
 retriesOf c a = retriesIn (c .phase) a

@@ -10,13 +10,14 @@ use Rattle.sched.specs.declared.scheduler.Checked.{Checked}
 use Rattle.sched.specs.declared.scheduler.Checked.the-variants as checked
 use Rattle.sched.specs.declared.scheduler.RingBufferScheduler.{RingBufferScheduler}
 use Rattle.sched.specs.Scheduler.{soundOf, dataIn, spaceIn, offsetIn, advancedIn}
-use Rattle.copies.specs.declared.Ready.{Ready}
-use Rattle.copies.specs.declared.Ready.the-variants as ready
 use Rattle.copies.specs.declared.Refusal.the-variants.{Scheduler}
-use Rattle.copies.specs.Copies.{readyOf}
 use Rattle.copies.specs.Ring.{get}
+use Rattle.receiver.specs.Admission.{admissionOf}
 use Rattle.receiver.specs.Answer.{interruptedOf, receivedOf, sentOf, shutOf}
-use Rattle.receiver.specs.State.{fitsState, failureIn, isErrno, advanceIn}
+use Rattle.receiver.specs.State.{failureIn, isErrno, advanceIn}
+use Rattle.receiver.specs.declared.admission.Admission.{Admission}
+use Rattle.receiver.specs.declared.admission.Admission.the-variants as admission
+use Rattle.receiver.specs.declared.admission.Memory.the-variants as memory
 use Rattle.receiver.specs.declared.announcement.Announced.{Announced}
 use Rattle.receiver.specs.declared.announcement.Announced.the-variants as announced
 use Rattle.receiver.specs.declared.answer.Answer.{Answer}
@@ -243,26 +244,15 @@ abbrev pub endedFrom : Went Outcome → Ended
 endedFrom (went p o) = ended.Accepted (p .rec) o (p .used)
 endedFrom (refused r) = ended.Refused r
 
--- 12 with place 0 where a stored errno does not fit
-abbrev pub fitting : ReceiverState → Went Outcome → Went Outcome
-fitting q w = cond (fitsState (q .state)) w (refused (Misfit 0))
-
--- 1 to 5
-abbrev pub soundFrom : Checked → Went Outcome → Went Outcome
-soundFrom (checked.Sound s) w = w
-soundFrom (checked.Refused e) w = refused (Copy (Scheduler e))
-
--- 1 to 5, then 9
-abbrev pub readyFor : Ready → Went Outcome → Went Outcome
-readyFor (ready.Sound s) w = w
-readyFor (ready.Refused e) w = refused (Copy e)
+abbrev pub admitted : Admission → Went Outcome → Went Outcome
+admitted admission.Passed w = w
+admitted (admission.Refused r) w = refused r
 
 abbrev pub begin : ReceiverState → List Answer → At
 begin q answers = at q (q .scheduler) 0 answers
 
 abbrev pub readImplOf : ReceiverState → List ℕ → ℕ → ℕ → List Answer → Went Outcome
-readImplOf q ring asked top answers =
-    readyFor (readyOf (q .scheduler) (length ring)) (fitting q (readIn (q .state) ring asked top (begin q answers)))
+readImplOf q ring asked top answers = admitted (admissionOf q (memory.Of (length ring))) (readIn (q .state) ring asked top (begin q answers))
 
 -- last, failure 32 becomes a read of 0 bytes
 abbrev pub endOfStreamFor : Outcome → Outcome
@@ -278,7 +268,7 @@ abbrev pub readOf : ReceiverState → List ℕ → ℕ → ℕ → List Answer �
 readOf q ring asked top answers = endOfStream (readImplOf q ring asked top answers)
 
 abbrev pub serviceOf : ReceiverState → List Answer → Went Outcome
-serviceOf q answers = soundFrom (soundOf (q .scheduler)) (fitting q (serviceIn (begin q answers)))
+serviceOf q answers = admitted (admissionOf q memory.None) (serviceIn (begin q answers))
 
 -- draining with 32; what is answered is done, or the shutdown's errno
 abbrev pub shutdownFrom : Went PotentialFailure → Went Outcome
@@ -287,7 +277,7 @@ shutdownFrom (went p (Some e)) = went p (outcome.Failed e)
 shutdownFrom (refused r) = refused r
 
 abbrev pub shutdownOf : ReceiverState → List Answer → Went Outcome
-shutdownOf q answers = soundFrom (soundOf (q .scheduler)) (fitting q (shutdownFrom (advanceTo (Draining (Io 32)) (begin q answers))))
+shutdownOf q answers = admitted (admissionOf q memory.None) (shutdownFrom (advanceTo (Draining (Io 32)) (begin q answers)))
 
 -- ---- what a read leaves
 -- its answer, and the destination

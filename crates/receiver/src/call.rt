@@ -1,11 +1,14 @@
 // A call in progress, as a value: the record so far, and what the call waits for or comes to. A host begins a call, does what it
-// waits for, and hands in the answer, until the call is over.
+// waits for, and hands in the answer, until the call is finished. An answer that is refused leaves the call as it was.
 ghost use mathlib.Core.Path.{_≡_};
 ghost use Prim.Native.Nat.{min};
 ghost use lib.ListN.{length};
 ghost use Rattle.sched.specs.Scheduler.{IsSound};
 ghost use Rattle.receiver.specs.Receiver.{withScheduler, withState, withPending, withShutdown, handedOut};
-ghost use Rattle.receiver.specs.Call.{finishedCall, outcomeIn, toldIn, shutOrFinish, shutdownCall, advanceCall, flushCall, serviceCall, drainCall, Covered, sentCall, unsentCall, afterSend, refusedCall, afterShutdown, Handing, Announces, handOutCall, failedCall, blockedCall, announcedCall, afterReceive, receivedCall, answeredOf, liveCall, readCall, testedCall, beginReadOf, beginServiceOf, beginShutdownOf, overOf, retriesOf};
+ghost use Rattle.receiver.specs.Call.{finishedCall, outcomeIn, toldIn, shutOrFinish, shutdownCall, advanceCall, flushCall, serviceCall, drainCall, Covered, sentCall, unsentCall, afterSend, afterShutdown, Handing, Announces, handOutCall, failedCall, blockedCall, announcedCall, afterReceive, liveCall, readCall, beginReadOf, beginServiceOf, beginShutdownOf, looksBy, looksAt, resumedOf, ByteSized, Steps, steppedOf, answeredOf, overOf, retriesOf};
+use crate::admission::Admission;
+use crate::admission::Memory;
+use crate::admission::admit;
 use crate::announcement::Announced;
 use crate::announcement::recv_chunk_announcement;
 use crate::answer::Answer;
@@ -20,9 +23,6 @@ use crate::sound::register;
 use crate::state::Failure;
 use crate::state::OperationalState;
 use crate::state::PotentialFailure;
-use copies::Ready;
-use copies::demand_ring_memory;
-use sched::Checked;
 use sched::OperationType;
 use sched::RingBufferScheduler;
 
@@ -34,18 +34,27 @@ pub enum Ending {
 }
 
 pub enum Phase {
+    // the host receives a byte, with at most so many descriptors
     Receive { max_new_fds: u64, dst_len: u64 },
+    // the host sends so many acknowledgements
     Send { batch: u64, ending: Ending },
+    // the host shuts the socket down
     Shutdown(Ending),
     Finished(Outcome),
-    Refused(Refusal),
 }
 
+// The record can be taken from a call at any time: it counts what was received, sent and shut down so far.
 pub struct Call {
     pub receiver: ReceiverState,
     // the scheduler that a read copies its bytes by
     pub source: RingBufferScheduler,
     pub phase: Phase,
+}
+
+// What a call of the machine comes to: the call as it goes on, or why it is refused.
+pub enum Step {
+    Of(Call),
+    Refused(Refusal),
 }
 
 impl Ending {
@@ -253,30 +262,19 @@ fn unsent(receiver: ReceiverState, source: RingBufferScheduler, errno: u64, endi
     drain(receiver, source, Failure::Io(errno), ending)
 }
 
-fn refuse(receiver: ReceiverState, source: RingBufferScheduler, refusal: Refusal) -> Call
-    ensures { λ r. ⌜ r ≡ refusedCall receiver source refusal ⌝ }
-{
-    let phase = Phase::Refused(refusal);
-    Call {
-        receiver,
-        source,
-        phase,
-    }
-}
-
 fn after_send(
     receiver: ReceiverState,
     source: RingBufferScheduler,
     ending: Ending,
     answer: Answer,
     place: u64,
-) -> Call
+) -> Step
     ensures { λ r. ⌜ r ≡ afterSend receiver source ending answer place ⌝ }
 {
     match answer.sent(least(128, receiver.pending_ack_count)) {
-        Sent::Sent(n) => sent(receiver, source, n, ending),
-        Sent::Failed(errno) => unsent(receiver, source, errno, ending),
-        Sent::Misfit => refuse(receiver, source, Refusal::Misfit { place }),
+        Sent::Sent(n) => Step::Of(sent(receiver, source, n, ending)),
+        Sent::Failed(errno) => Step::Of(unsent(receiver, source, errno, ending)),
+        Sent::Misfit => Step::Refused(Refusal::Misfit { place }),
     }
 }
 
@@ -287,13 +285,17 @@ fn after_shutdown(
     ending: Ending,
     answer: Answer,
     place: u64,
-) -> Call
+) -> Step
     ensures { λ r. ⌜ r ≡ afterShutdown receiver source ending answer place ⌝ }
 {
     match answer.shut() {
-        Shut::Done => finish(with_shutdown(receiver), source, ending.outcome()),
-        Shut::Failed(errno) => finish(receiver, source, ending.told(Failure::Io(errno)).outcome()),
-        Shut::Misfit => refuse(receiver, source, Refusal::Misfit { place }),
+        Shut::Done => Step::Of(finish(with_shutdown(receiver), source, ending.outcome())),
+        Shut::Failed(errno) => Step::Of(finish(
+            receiver,
+            source,
+            ending.told(Failure::Io(errno)).outcome(),
+        )),
+        Shut::Misfit => Step::Refused(Refusal::Misfit { place }),
     }
 }
 
@@ -393,79 +395,56 @@ fn after_receive(
     received: Received,
     asked: u64,
     place: u64,
-) -> Call
-    requires { ⌜ Handing receiver 0 × (length (now ring) ≡ receiver .scheduler .«buf_len») ⌝ }
+) -> Step
+    requires { ⌜ Handing receiver 0 × ByteSized received (length (now ring)) receiver ⌝ }
     ensures { λ r. ⌜ r ≡ afterReceive receiver source (now (ring .entry)) received asked place ⌝ }
 {
     let scheduler = receiver.scheduler;
     match received {
-        Received::Byte { byte, fds } => after_announcement(
+        Received::Byte { byte, fds } => Step::Of(after_announcement(
             receiver,
             source,
             recv_chunk_announcement(ring, scheduler, byte, fds),
             asked,
-        ),
-        Received::Failed(errno) => after_announcement(
+        )),
+        Received::Failed(errno) => Step::Of(after_announcement(
             receiver,
             source,
             Announced::Failed(Failure::Io(errno)),
             asked,
-        ),
-        Received::Misfit => refuse(receiver, source, Refusal::Misfit { place }),
-    }
-}
-
-// The record is tested where the ring is touched.
-fn received(
-    receiver: ReceiverState,
-    source: RingBufferScheduler,
-    ring: &[u8],
-    received: Received,
-    asked: u64,
-    place: u64,
-) -> Call
-    ensures { λ r. ⌜ r ≡ receivedCall receiver source (now (ring .entry)) received asked place ⌝ }
-{
-    let scheduler = receiver.scheduler;
-    match demand_ring_memory(scheduler, ring.len()) {
-        Ready::Sound(_) => {
-            if receiver.pending_ack_count == 18446744073709551615 {
-                return refuse(receiver, source, Refusal::PendingFull);
-            }
-            after_receive(receiver, source, ring, received, asked, place)
-        }
-        Ready::Refused(e) => refuse(receiver, source, Refusal::Copy(e)),
+        )),
+        Received::Misfit => Step::Refused(Refusal::Misfit { place }),
     }
 }
 
 // In order: the empty destination, 13, the announcement if there is no data.
-fn read_live(receiver: ReceiverState, max_new_fds: u64, dst_len: u64) -> Call
+fn read_live(receiver: ReceiverState, max_new_fds: u64, dst_len: u64) -> Step
     requires { ⌜ IsSound (receiver .scheduler) ⌝ }
     ensures { λ r. ⌜ r ≡ liveCall receiver «max_new_fds» «dst_len» ⌝ }
 {
     let source = receiver.scheduler;
     if dst_len == 0 {
-        return finish(receiver, source, Outcome::Read { n: 0, fds: 0 });
+        return Step::Of(finish(receiver, source, Outcome::Read { n: 0, fds: 0 }));
     }
     if receiver.pending_ack_count == 18446744073709551615 {
-        return refuse(receiver, source, Refusal::PendingFull);
+        return Step::Refused(Refusal::PendingFull);
     }
     if max_operation_len(source, OperationType::Read) == 0 {
         let phase = Phase::Receive {
             max_new_fds,
             dst_len,
         };
-        return Call {
+        return Step::Of(Call {
             receiver,
             source,
             phase,
-        };
+        });
     }
-    read_chunk_bytes(receiver, dst_len, 0)
+    Step::Of(read_chunk_bytes(receiver, dst_len, 0))
 }
 
 // A stream that is terminated answers its reason.
-fn read(receiver: ReceiverState, max_new_fds: u64, dst_len: u64) -> Call
+fn read(receiver: ReceiverState, max_new_fds: u64, dst_len: u64) -> Step
     requires { ⌜ IsSound (receiver .scheduler) ⌝ }
     ensures { λ r. ⌜ r ≡ readCall receiver «max_new_fds» «dst_len» ⌝ }
 {
@@ -474,83 +453,115 @@ fn read(receiver: ReceiverState, max_new_fds: u64, dst_len: u64) -> Call
     match state {
         OperationalState::Normal => read_live(receiver, max_new_fds, dst_len),
         OperationalState::Draining(_) => read_live(receiver, max_new_fds, dst_len),
-        OperationalState::Terminated(f) => finish(receiver, source, Outcome::Failed(f)),
+        OperationalState::Terminated(f) => Step::Of(finish(receiver, source, Outcome::Failed(f))),
     }
 }
 
-// The call, if the record passes its tests: 1 to 5, then 12 with place 0.
-fn tested(receiver: ReceiverState, call: Call) -> Call
-    ensures { λ r. ⌜ r ≡ testedCall receiver call ⌝ }
+// The ring is looked at where a byte was received, and only there.
+fn looks_by(received: Received, ring_len: usize) -> Memory
+    ensures { λ r. ⌜ r ≡ looksBy received «ring_len» ⌝ }
 {
-    let scheduler = receiver.scheduler;
-    let state = receiver.state;
-    match scheduler.demand_soundness() {
-        Checked::Sound(_) => {
-            if state.fits() {
-                return call;
-            }
-            refuse(receiver, scheduler, Refusal::Misfit { place: 0 })
-        }
-        Checked::Refused(e) => refuse(
-            receiver,
-            scheduler,
-            Refusal::Copy(copies::Refusal::Scheduler(e)),
-        ),
+    match received {
+        Received::Byte { .. } => Memory::Of(ring_len),
+        Received::Failed(_) => Memory::None,
+        Received::Misfit => Memory::None,
     }
 }
 
 impl Call {
-    // A read into a destination of `dst_len` bytes, over ring memory of `ring_len`: 1 to 5, 9, 12 with place 0, and then the rules.
+    // A read into a destination of `dst_len` bytes, over ring memory of `ring_len`.
     pub fn begin_read(
         receiver: ReceiverState,
         ring_len: usize,
         max_new_fds: u64,
         dst_len: u64,
-    ) -> Call
+    ) -> Step
         ensures { λ r. ⌜ r ≡ beginReadOf receiver «ring_len» «max_new_fds» «dst_len» ⌝ }
     {
-        let scheduler = receiver.scheduler;
-        let state = receiver.state;
-        match demand_ring_memory(scheduler, ring_len) {
-            Ready::Sound(_) => {
-                if state.fits() {
-                    return read(receiver, max_new_fds, dst_len);
-                }
-                refuse(receiver, scheduler, Refusal::Misfit { place: 0 })
-            }
-            Ready::Refused(e) => refuse(receiver, scheduler, Refusal::Copy(e)),
+        match admit(receiver, Memory::Of(ring_len)) {
+            Admission::Passed => read(receiver, max_new_fds, dst_len),
+            Admission::Refused(e) => Step::Refused(e),
         }
     }
 
-    pub fn begin_service(receiver: ReceiverState) -> Call
+    pub fn begin_service(receiver: ReceiverState) -> Step
         ensures { λ r. ⌜ r ≡ beginServiceOf receiver ⌝ }
     {
         let source = receiver.scheduler;
-        tested(
-            receiver,
-            service(receiver, source, Ending::Told(Outcome::Done)),
-        )
+        match admit(receiver, Memory::None) {
+            Admission::Passed => Step::Of(service(receiver, source, Ending::Told(Outcome::Done))),
+            Admission::Refused(e) => Step::Refused(e),
+        }
     }
 
-    pub fn begin_shutdown(receiver: ReceiverState) -> Call
+    pub fn begin_shutdown(receiver: ReceiverState) -> Step
         ensures { λ r. ⌜ r ≡ beginShutdownOf receiver ⌝ }
     {
         let source = receiver.scheduler;
-        tested(
-            receiver,
-            advance_operational_state_towards_termination(
+        match admit(receiver, Memory::None) {
+            Admission::Passed => Step::Of(advance_operational_state_towards_termination(
                 receiver,
                 source,
                 OperationalState::Draining(Failure::Io(Failure::SHUTDOWN)),
                 Ending::Told(Outcome::Done),
-            ),
-        )
+            )),
+            Admission::Refused(e) => Step::Refused(e),
+        }
     }
 
     // The call after the answer at this place, counted from 1, to what it waits for. An interruption leaves it waiting; a call that is
-    // over stays as it is.
-    pub fn answered(self, ring: &[u8], answer: Answer, place: u64) -> Call
+    // over stays as it is. The record is tested anew, as by every call.
+    pub fn answered(self, ring: &[u8], answer: Answer, place: u64) -> Step
         ensures { λ r. ⌜ r ≡ answeredOf self (now (ring .entry)) answer place ⌝ }
+    {
+        let receiver = self.receiver;
+        match admit(receiver, self.looks_at(answer, ring.len())) {
+            Admission::Passed => match self.resumed() {
+                Step::Of(call) => call.stepped(ring, answer, place),
+                Step::Refused(e) => Step::Refused(e),
+            },
+            Admission::Refused(e) => Step::Refused(e),
+        }
+    }
+
+    fn looks_at(self, answer: Answer, ring_len: usize) -> Memory
+        ensures { λ r. ⌜ r ≡ looksAt (self .phase) answer «ring_len» ⌝ }
+    {
+        let phase = self.phase;
+        match phase {
+            Phase::Receive { max_new_fds, .. } => looks_by(answer.received(max_new_fds), ring_len),
+            Phase::Send { .. } => Memory::None,
+            Phase::Shutdown(_) => Memory::None,
+            Phase::Finished(_) => Memory::None,
+        }
+    }
+
+    // What the rules make of this record in this phase: the call itself, unless a host made it up.
+    fn resumed(self) -> Step
+        requires { ⌜ IsSound (self .receiver .scheduler) ⌝ }
+        ensures { λ r. ⌜ r ≡ resumedOf self ⌝ }
+    {
+        let receiver = self.receiver;
+        let source = self.source;
+        let phase = self.phase;
+        match phase {
+            Phase::Receive {
+                max_new_fds,
+                dst_len,
+            } => read(receiver, max_new_fds, dst_len),
+            Phase::Send { batch: _, ending } => Step::Of(service(receiver, source, ending)),
+            Phase::Shutdown(ending) => Step::Of(issue_notification_socket_shutdown(
+                receiver,
+                source,
+                ending,
+            )),
+            Phase::Finished(_) => Step::Of(self),
+        }
+    }
+
+    fn stepped(self, ring: &[u8], answer: Answer, place: u64) -> Step
+        requires { ⌜ Steps self answer (length (now ring)) ⌝ }
+        ensures { λ r. ⌜ r ≡ steppedOf self (now (ring .entry)) answer place ⌝ }
     {
         let receiver = self.receiver;
         let source = self.source;
@@ -561,9 +572,9 @@ impl Call {
                 dst_len,
             } => {
                 if answer.is_interruption() {
-                    return self;
+                    return Step::Of(self);
                 }
-                received(
+                after_receive(
                     receiver,
                     source,
                     ring,
@@ -574,13 +585,12 @@ impl Call {
             }
             Phase::Send { batch: _, ending } => {
                 if answer.is_interruption() {
-                    return self;
+                    return Step::Of(self);
                 }
                 after_send(receiver, source, ending, answer, place)
             }
             Phase::Shutdown(ending) => after_shutdown(receiver, source, ending, answer, place),
-            Phase::Finished(_) => self,
-            Phase::Refused(_) => self,
+            Phase::Finished(_) => Step::Of(self),
         }
     }
 
@@ -594,7 +604,6 @@ impl Call {
             Phase::Send { .. } => false,
             Phase::Shutdown(_) => false,
             Phase::Finished(_) => true,
-            Phase::Refused(_) => true,
         }
     }
 
@@ -608,7 +617,6 @@ impl Call {
             Phase::Send { .. } => answer.is_interruption(),
             Phase::Shutdown(_) => false,
             Phase::Finished(_) => false,
-            Phase::Refused(_) => false,
         }
     }
 }

@@ -1,5 +1,6 @@
 // The receiver of a stream of chunks: the port of rosenpass's receiver.rs, without input and output. A call in progress is a value: a
 // host begins one, does what it waits for, and hands in the answer. `driver` hands in a whole run of answers at once.
+mod admission;
 mod announcement;
 mod answer;
 mod call;
@@ -15,6 +16,7 @@ pub use answer::Shut;
 pub use call::Call;
 pub use call::Ending;
 pub use call::Phase;
+pub use call::Step;
 pub use receiver::Ended;
 pub use receiver::Outcome;
 pub use receiver::ReceiverAnswer;

@@ -28,9 +28,6 @@ unsent-requires c κs = search needs
 enum-told : tie.Need-enum-told
 enum-told c = search needs
 
-refuse-requires : tie.Need-refuse-requires
-refuse-requires c κs = search needs
-
 returns : tie.Need-returns
 returns c = rw (← (sym (c .before .before .n .given .1) ∙ c .before .before .before .before .sent .ensures ∙ ap (λ (x : ℕ). sentOf x (c .before .before .before .before .before .before .args .answer)) (c .before .before .before .before .before .least .ensures)), c .sent2 .ensures)
 
@@ -38,7 +35,7 @@ returns-2 : tie.Need-returns-2
 returns-2 c = rw (← (sym (c .before .before .errno .given .1) ∙ c .before .before .before .before .sent .ensures ∙ ap (λ (x : ℕ). sentOf x (c .before .before .before .before .before .before .args .answer)) (c .before .before .before .before .before .least .ensures)), c .unsent .ensures)
 
 returns-3 : tie.Need-returns-3
-returns-3 c = rw (← (sym (c .before .enum-told .given .1) ∙ c .before .before .before .sent .ensures ∙ ap (λ (x : ℕ). sentOf x (c .before .before .before .before .before .args .answer)) (c .before .before .before .before .least .ensures)), c .refuse .ensures)
+returns-3 c = rw (← (sym (c .enum-told .given .1) ∙ c .before .before .sent .ensures ∙ ap (λ (x : ℕ). sentOf x (c .before .before .before .before .args .answer)) (c .before .before .before .least .ensures)))
 
 pub after-send-spec : {M : Type 1} → statement M
 after-send-spec =
@@ -51,7 +48,6 @@ after-send-spec =
     enum-known-errno
     unsent-requires
     enum-told
-    refuse-requires
     returns
     returns-2
     returns-3)

@@ -34,9 +34,6 @@ finish-requires-2 c κs = search needs
 enum-told-2 : tie.Need-enum-told-2
 enum-told-2 c = search needs
 
-refuse-requires : tie.Need-refuse-requires
-refuse-requires c κs = search needs
-
 returns : tie.Need-returns
 returns c = rw (← (sym (c .before .before .before .enum-told .given .1) ∙ c .before .before .before .before .before .shut .ensures), c .finish .ensures, c .before .outcome .ensures, c .before .before .with-shutdown .ensures)
 
@@ -44,7 +41,7 @@ returns-2 : tie.Need-returns-2
 returns-2 c = rw (← (sym (c .before .before .before .before .errno .given .1) ∙ c .before .before .before .before .before .before .shut .ensures), c .finish2 .ensures, c .before .outcome2 .ensures, c .before .before .told .ensures)
 
 returns-3 : tie.Need-returns-3
-returns-3 c = rw (← (sym (c .before .enum-told2 .given .1) ∙ c .before .before .before .shut .ensures), c .refuse .ensures)
+returns-3 c = rw (← (sym (c .enum-told2 .given .1) ∙ c .before .before .shut .ensures))
 
 pub after-shutdown-spec : {M : Type 1} → statement M
 after-shutdown-spec =
@@ -60,7 +57,6 @@ after-shutdown-spec =
     outcome-requires-2
     finish-requires-2
     enum-told-2
-    refuse-requires
     returns
     returns-2
     returns-3)

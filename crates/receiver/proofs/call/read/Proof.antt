@@ -1,6 +1,7 @@
 -- By the state.
-use mathlib.Core.Path.{_∙_}
+use mathlib.Core.Path.{ap, _∙_}
 use Rattle.receiver.proofs.CallLaws.{read-by}
+use Rattle.receiver.specs.declared.call.Step.the-variants.{Of}
 use borrow.Author.Needs.{needs}
 use Rattle.receiver.proofs.call.read.Statement.{statement}
 use Rattle.receiver.proofs.call.read.Tie as tie
@@ -30,7 +31,7 @@ returns-2 : tie.Need-returns-2
 returns-2 c = c .read-live2 .ensures ∙ read-by _ _ _ _ (c .before .enum-told2 .given .1)
 
 returns-3 : tie.Need-returns-3
-returns-3 c = c .finish .ensures ∙ read-by _ _ _ _ (c .before .before .state .given .1)
+returns-3 c = ap Of (c .finish .ensures) ∙ read-by _ _ _ _ (c .before .before .state .given .1)
 
 pub read-spec : {M : Type 1} → statement M
 read-spec =

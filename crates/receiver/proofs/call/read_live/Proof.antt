@@ -11,11 +11,8 @@ finish-requires c κs = search needs
 returns : tie.Need-returns
 returns c = rw (eq-eqb _ _ (c .before .if1 .taken), c .finish .ensures)
 
-refuse-requires : tie.Need-refuse-requires
-refuse-requires c κs = search needs
-
 returns-2 : tie.Need-returns-2
-returns-2 c = rw (ne-eqb _ _ (c .before .before .before .if1 .left), eq-eqb _ _ (c .before .if2 .taken), c .refuse .ensures)
+returns-2 c = rw (ne-eqb _ _ (c .before .before .if1 .left), eq-eqb _ _ (c .if2 .taken))
 
 max-operation-len-requires : tie.Need-max-operation-len-requires
 max-operation-len-requires c κs = search needs
@@ -35,7 +32,6 @@ read-live-spec =
     (tie.spec
     finish-requires
     returns
-    refuse-requires
     returns-2
     max-operation-len-requires
     returns-3

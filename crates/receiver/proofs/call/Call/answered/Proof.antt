@@ -1,83 +1,58 @@
--- By the phase, and whether the answer is an interruption.
-use mathlib.Core.Path.{refl, sym, _∙_}
-use Rattle.receiver.proofs.AnsweredLaws.{by-phase}
+-- A record that passed its tests is sound; what the rules make of the call then takes the answer.
+use mathlib.Core.Path.{sym, _∙_}
+use denote.Ref.{now}
+use native.Mathlib.Omega.{arith}
+use Rattle.receiver.proofs.AdmissionLaws.{passed-sound}
+use Rattle.receiver.proofs.ResumedLaws.{resumed-steps, answered-on, not-admitted, passes}
 use borrow.Author.Needs.{needs}
 use Rattle.receiver.proofs.call.Call.answered.Statement.{statement}
 use Rattle.receiver.proofs.call.Call.answered.Tie as tie
 
-enum-known-phase : tie.Need-enum-known-phase
-enum-known-phase c = search needs
+looks-at-requires : tie.Need-looks-at-requires
+looks-at-requires c κs = search needs
 
-is-interruption-requires : tie.Need-is-interruption-requires
-is-interruption-requires c κs = search needs
-
-returns : tie.Need-returns
-returns c = by-phase _ _ _ _ _ (c .before .before .before .phase .given .1) _ (rw (sym (c .before .is-interruption .ensures) ∙ c .if1 .taken))
-
-received-requires : tie.Need-received-requires
-received-requires c κs = search needs
-
-received-requires-2 : tie.Need-received-requires-2
-received-requires-2 c κs = search needs
-
-enum-known-phase-2 : tie.Need-enum-known-phase-2
-enum-known-phase-2 c = search needs
-
-is-interruption-requires-2 : tie.Need-is-interruption-requires-2
-is-interruption-requires-2 c κs = search needs
-
-returns-2 : tie.Need-returns-2
-returns-2 c = by-phase _ _ _ _ _ (c .before .before .before .phase2 .given .1) _ (rw (sym (c .before .is-interruption2 .ensures) ∙ c .if2 .taken))
-
-after-send-requires : tie.Need-after-send-requires
-after-send-requires c κs = search needs
-
-enum-known-phase-3 : tie.Need-enum-known-phase-3
-enum-known-phase-3 c = search needs
-
-after-shutdown-requires : tie.Need-after-shutdown-requires
-after-shutdown-requires c κs = search needs
+admit-requires : tie.Need-admit-requires
+admit-requires c κs = search needs
 
 enum-told : tie.Need-enum-told
 enum-told c = search needs
 
-enum-told-2 : tie.Need-enum-told-2
-enum-told-2 c = search needs
+resumed-requires : tie.Need-resumed-requires
+resumed-requires c κs = passed-sound (c .before .before .before .before .before .before .args .self .receiver) (c .before .before .before .looks-at .result) (sym (c .enum-told .given .1) ∙ c .before .before .admit .ensures)
+
+enum-known-call : tie.Need-enum-known-call
+enum-known-call c = search needs
+
+stepped-requires : tie.Need-stepped-requires
+stepped-requires c κs = resumed-steps (c .before .before .before .before .before .before .before .before .before .before .args .answer) _ (c .before .before .before .before .before .before .before .before .before .before .args .self) (passes (c .before .before .before .before .before .before .before .before .before .before .args .self) (now (c .before .before .before .before .before .before .before .before .before .before .args .ring)) (c .before .before .before .before .before .before .before .before .before .before .args .answer) (c .before .before .before .before .before .before .before .before .before .before .args .place) _ (c .before .before .before .before .before .before .before .looks-at .ensures) (sym (c .before .before .before .before .enum-told .given .1) ∙ c .before .before .before .before .before .before .admit .ensures)) (omega (arith, c .before .before .before .before .before .before .before .before .before .before .good)) _ (sym (c .before .call .given .1) ∙ c .before .before .before .resumed .ensures)
+
+enum-known-e : tie.Need-enum-known-e
+enum-known-e c = search needs
+
+enum-known-e-2 : tie.Need-enum-known-e-2
+enum-known-e-2 c = search needs
+
+returns : tie.Need-returns
+returns c = c .stepped .ensures ∙ answered-on (c .before .before .before .before .before .before .before .before .before .before .before .args .self) (now (c .before .before .before .before .before .before .before .before .before .before .before .args .ring)) (c .before .before .before .before .before .before .before .before .before .before .before .args .answer) (c .before .before .before .before .before .before .before .before .before .before .before .args .place) _ (c .before .before .before .before .before .before .before .before .looks-at .ensures) (sym (c .before .before .before .before .before .enum-told .given .1) ∙ c .before .before .before .before .before .before .before .admit .ensures) _ (sym (c .before .before .call .given .1) ∙ c .before .before .before .before .resumed .ensures)
+
+returns-2 : tie.Need-returns-2
+returns-2 c = answered-on (c .before .before .before .before .before .before .before .before .before .before .args .self) (now (c .before .before .before .before .before .before .before .before .before .before .args .ring)) (c .before .before .before .before .before .before .before .before .before .before .args .answer) (c .before .before .before .before .before .before .before .before .before .before .args .place) _ (c .before .before .before .before .before .before .before .looks-at .ensures) (sym (c .before .before .before .before .enum-told .given .1) ∙ c .before .before .before .before .before .before .admit .ensures) _ (sym (c .before .e .given .1) ∙ c .before .before .before .resumed .ensures)
 
 returns-3 : tie.Need-returns-3
-returns-3 c = by-phase _ _ _ _ _ (c .before .before .before .before .before .phase .given .1) _ (rw (sym (c .before .before .before .is-interruption .ensures) ∙ c .before .before .if1 .left, c .received2 .ensures, c .before .received .ensures))
-
-returns-4 : tie.Need-returns-4
-returns-4 c = by-phase _ _ _ _ _ (c .before .before .before .before .phase2 .given .1) _ (rw (sym (c .before .before .is-interruption2 .ensures) ∙ c .before .if2 .left, c .after-send .ensures))
-
-returns-5 : tie.Need-returns-5
-returns-5 c = by-phase _ _ _ _ _ (c .before .before .phase3 .given .1) _ (c .after-shutdown .ensures)
-
-returns-6 : tie.Need-returns-6
-returns-6 c = by-phase _ _ _ _ _ (c .enum-told .given .1) _ refl
-
-returns-7 : tie.Need-returns-7
-returns-7 c = by-phase _ _ _ _ _ (c .enum-told2 .given .1) _ refl
+returns-3 c = not-admitted (c .before .before .before .before .before .before .before .args .self) (now (c .before .before .before .before .before .before .before .args .ring)) (c .before .before .before .before .before .before .before .args .answer) (c .before .before .before .before .before .before .before .args .place) _ (c .before .before .before .before .looks-at .ensures) _ (sym (c .before .e2 .given .1) ∙ c .before .before .before .admit .ensures)
 
 pub answered-spec : {M : Type 1} → statement M
 answered-spec =
     tie.close
     (tie.spec
-    enum-known-phase
-    is-interruption-requires
-    returns
-    received-requires
-    received-requires-2
-    enum-known-phase-2
-    is-interruption-requires-2
-    returns-2
-    after-send-requires
-    enum-known-phase-3
-    after-shutdown-requires
+    looks-at-requires
+    admit-requires
     enum-told
-    enum-told-2
-    returns-3
-    returns-4
-    returns-5
-    returns-6
-    returns-7)
+    resumed-requires
+    enum-known-call
+    stepped-requires
+    enum-known-e
+    enum-known-e-2
+    returns
+    returns-2
+    returns-3)

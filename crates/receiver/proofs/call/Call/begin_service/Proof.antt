@@ -1,16 +1,27 @@
 -- Servicing, of a record that passes its tests.
+use mathlib.Core.Path.{sym, _∙_}
 use borrow.Author.Needs.{needs}
 use Rattle.receiver.proofs.call.Call.begin_service.Statement.{statement}
 use Rattle.receiver.proofs.call.Call.begin_service.Tie as tie
 
+admit-requires : tie.Need-admit-requires
+admit-requires c κs = search needs
+
+enum-told : tie.Need-enum-told
+enum-told c = search needs
+
 service-requires : tie.Need-service-requires
 service-requires c κs = search needs
 
-tested-requires : tie.Need-tested-requires
-tested-requires c κs = search needs
+enum-known-e : tie.Need-enum-known-e
+enum-known-e c = search needs
 
 returns : tie.Need-returns
-returns c = rw (c .tested .ensures, c .before .service .ensures)
+returns c = rw (← (sym (c .before .enum-told .given .1) ∙ c .before .before .before .admit .ensures), c .service .ensures)
+
+returns-2 : tie.Need-returns-2
+returns-2 c = rw (← (sym (c .before .e .given .1) ∙ c .before .before .before .admit .ensures))
 
 pub begin-service-spec : {M : Type 1} → statement M
-begin-service-spec = tie.close (tie.spec service-requires tested-requires returns)
+begin-service-spec =
+    tie.close (tie.spec admit-requires enum-told service-requires enum-known-e returns returns-2)

@@ -22,9 +22,6 @@ enum-told-3 c = search needs
 enum-told-4 : tie.Need-enum-told-4
 enum-told-4 c = search needs
 
-enum-told-5 : tie.Need-enum-told-5
-enum-told-5 c = search needs
-
 returns : tie.Need-returns
 returns c = retries-by _ _ _ (c .before .enum-told .given .1) _ (c .is-interruption .ensures)
 
@@ -37,9 +34,6 @@ returns-3 c = search needs
 returns-4 : tie.Need-returns-4
 returns-4 c = search needs
 
-returns-5 : tie.Need-returns-5
-returns-5 c = search needs
-
 pub retries-spec : {M : Type 1} → statement M
 retries-spec =
     tie.close
@@ -50,9 +44,7 @@ retries-spec =
     is-interruption-requires-2
     enum-told-3
     enum-told-4
-    enum-told-5
     returns
     returns-2
     returns-3
-    returns-4
-    returns-5)
+    returns-4)

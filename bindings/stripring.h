@@ -3,10 +3,9 @@
  * Any bits are legal input: no call traps, whatever numbers, records and bytes it is given. A call keeps no pointer, has no
  * memory of its own and waits for nothing, so threads may call at the same time.
  *
- * Answers. A refused call says so in `refusal`: its number, 0 for accepted, and the values of that number. Every other field
- * is then 0 and no lent byte has changed; the record that was passed stays good. A stripring_call, which a host drives answer by
- * answer, is another matter: its refusal is in `phase`, its other fields are the call's so far, and what the host has sent and
- * copied by then is done. The numbers, with L for the ring's length:
+ * Answers. A refused call changes nothing. It says so in `refusal`: its number, 0 for accepted, and the values of that
+ * number; every other field is then 0. What the caller passed is as it was and stays good: a record, lent memory, and a call
+ * in progress, which still waits. The numbers, with L for the ring's length:
  *
  *    1  L is 0
  *    2  L is above 2^63                                  a: L
@@ -51,8 +50,7 @@ typedef struct stripring_refusal {
 } stripring_refusal;
 
 /* Sound when buf_len is 1 to 2^63, both counters are below twice that, and written - read, modulo twice that, is at most it.
- * Every call tests this anew, but for a call in progress: that is tested when it begins, and when it received a byte. An offset
- * is its counter modulo buf_len. */
+ * Every call tests this anew. An offset is its counter modulo buf_len. */
 typedef struct stripring_scheduler {
   uint64_t buf_len;
   uint64_t items_written;
@@ -173,9 +171,10 @@ typedef struct stripring_ending {
   stripring_outcome outcome;
 } stripring_ending;
 
-/* `kind` 0: waits for a receive of one byte with at most `max_new_fds` descriptors. 1: for a send of `batch` acknowledgement
- * bytes. 2: for a shutdown of the socket. 3: finished with `outcome`. Any other (4 in answers): refused with `refusal`. What a
- * kind does not use is 0 in answers and not looked at otherwise. */
+/* `kind` 0: waits for a receive of one byte with at most `max_new_fds` descriptors, for a read into `dst_len` bytes. 1: for a
+ * send of `batch` acknowledgement bytes. 2: for a shutdown of the socket. Any other (3 in answers): finished with `outcome`.
+ * What a kind does not use is 0 in answers and not looked at otherwise. Nor is a batch that is handed in: it is the smaller
+ * of 128 and what is pending. */
 typedef struct stripring_phase {
   uint64_t kind;
   uint64_t max_new_fds;
@@ -183,10 +182,10 @@ typedef struct stripring_phase {
   uint64_t batch;
   stripring_ending ending;
   stripring_outcome outcome;
-  stripring_refusal refusal;
 } stripring_phase;
 
-/* A call in progress: the receiver so far, the scheduler that a read copies its bytes by, and where the call is. */
+/* A call in progress: the receiver so far, the scheduler that a read copies its bytes by, and where the call is. The receiver
+ * counts what was received, sent and shut down so far, and can be taken from the call at any time, finished or not. */
 typedef struct stripring_call {
   stripring_receiver receiver;
   stripring_scheduler source;
@@ -315,6 +314,12 @@ typedef struct stripring_ended_answer {
   uint64_t used;
 } stripring_ended_answer;
 
+/* The call in progress after a call of the machine. Where that is refused, the caller keeps the one that it passed. */
+typedef struct stripring_step_answer {
+  stripring_refusal refusal;
+  stripring_call call;
+} stripring_step_answer;
+
 /* ---- The two ends: refused with 1 to 5, and with what is named ----
  *
  * Both are made with one length and start empty. A host writes, sends the counter to the other process, and takes the one
@@ -378,50 +383,55 @@ stripring_copy_answer stripring_copies_read(stripring_scheduler s, const uint8_t
  *
  * Calls over a run of answers take what the socket answers all at once; the machine below takes one answer at a time. */
 
-/* A receiver over this scheduler, in the normal state, with nothing pending. 1 to 5. */
+/* A receiver over this scheduler, in the normal state, with nothing pending. Refused with 1 to 5. */
 stripring_receiver_answer stripring_receiver_new(stripring_scheduler s);
 
-/* Reads into dst, of which the first outcome.n bytes are written. The end of the stream is a read of 0 bytes. 1 to 5, 9, 11
- * to 13. */
+/* Reads into dst, of which the first outcome.n bytes are written. The end of the stream is a read of 0 bytes. Refused with
+ * 1 to 5, 9, 11 to 13. */
 stripring_ended_answer stripring_receiver_read_with_fds(stripring_receiver r, const uint8_t *ring, size_t ring_len,
                                                         uint8_t *dst, size_t dst_len, uint64_t max_new_fds,
                                                         const stripring_answer *answers, size_t answers_len);
 
-/* The same, but the end of the stream is failure 32. */
+/* The same, but the end of the stream is failure 32. Refused with 1 to 5, 9, 11 to 13. */
 stripring_ended_answer stripring_receiver_read_with_fds_impl(stripring_receiver r, const uint8_t *ring, size_t ring_len,
                                                              uint8_t *dst, size_t dst_len, uint64_t max_new_fds,
                                                              const stripring_answer *answers, size_t answers_len);
 
-/* Sends the pending acknowledgements, in batches of at most 128. 1 to 5, 11, 12. */
+/* Sends the pending acknowledgements, in batches of at most 128. Refused with 1 to 5, 11, 12. */
 stripring_ended_answer stripring_receiver_service_chunk_acknowledgements(stripring_receiver r,
                                                                          const stripring_answer *answers,
                                                                          size_t answers_len);
 
-/* Drains with failure 32, and shuts the socket down unless that was done. 1 to 5, 11, 12. */
+/* Drains with failure 32, and shuts the socket down unless that was done. Refused with 1 to 5, 11, 12. */
 stripring_ended_answer stripring_receiver_shutdown(stripring_receiver r, const stripring_answer *answers,
                                                    size_t answers_len);
 
-/* Begins a read into dst_len bytes. While phase.kind is 0 to 2, do what it waits for and hand in the answer. Then
- * call.receiver is the receiver; after a refusal keep the one that was passed. The end of the stream is failure 32. Refused
- * with 1 to 5, 9, 12, 13.
+/* ---- The machine: begin a call, and while call.phase.kind is 0 to 2 do what it waits for and hand in the answer ---- */
+
+/* Begins a read into dst_len bytes. The end of the stream is failure 32. Refused with 1 to 5, 9, 12 (a: 0), 13.
  *
  * The host copies the bytes, once, by stripring_copies_read(call.source, ring, ring_len, dst, n); what that answers is not
  * needed. It does so before the first send, phase.kind 1, where n is phase.ending.outcome.n: the acknowledgement allows the
  * other process to overwrite them. Where nothing is sent it does so when the call is finished, phase.kind 3, with a read,
  * phase.outcome.kind 0, of phase.outcome.n bytes. */
-stripring_call stripring_call_begin_read(stripring_receiver q, size_t ring_len, uint64_t max_new_fds, uint64_t dst_len);
+stripring_step_answer stripring_call_begin_read(stripring_receiver q, size_t ring_len, uint64_t max_new_fds,
+                                                uint64_t dst_len);
 
-/* Begins to send the pending acknowledgements. 1 to 5, 12. */
-stripring_call stripring_call_begin_service(stripring_receiver q);
+/* Begins to send the pending acknowledgements. Refused with 1 to 5, 12 (a: 0). */
+stripring_step_answer stripring_call_begin_service(stripring_receiver q);
 
-/* Begins to drain and shut down. 1 to 5, 12. */
-stripring_call stripring_call_begin_shutdown(stripring_receiver q);
+/* Begins to drain and shut down. Refused with 1 to 5, 12 (a: 0). */
+stripring_step_answer stripring_call_begin_shutdown(stripring_receiver q);
 
-/* The call after this answer, the place-th that it was given, from 1. A receive or a send that was interrupted (errno 4)
- * goes on waiting; a call that is over stays as it is. The ring is read only where a byte was received, for the header:
- * service and shutdown may lend none. */
-stripring_call stripring_call_answered(stripring_call c, const uint8_t *ring, size_t ring_len, stripring_answer answer,
-                                       uint64_t place);
+/* The call after this answer, the place-th that it takes, from 1. A receive or a send that was interrupted (errno 4) goes on
+ * waiting; a call that is finished stays as it is. The ring is looked at, its length too, where a byte was received and only
+ * there, for the header: else none need be lent. Refused with 1 to 5, 9 where a byte was received, 12 (a: 0), 12 (a: place)
+ * for an answer that the phase cannot have, 13 where a receive is waited for.
+ *
+ * A call is a value, and a host can make one up: what it waits for is asked anew by the rules of the receiver that it comes
+ * with. One that waits for a receive of a terminated stream is finished with the stream's failure, whatever byte came. */
+stripring_step_answer stripring_call_answered(stripring_call c, const uint8_t *ring, size_t ring_len,
+                                              stripring_answer answer, uint64_t place);
 
 /* ---- States and failures of the receiver: an errno that is not 1 to 4095 is refused with 12, a: 0 ---- */
 

@@ -172,21 +172,22 @@ static size_t bytes_read(const stripring_phase *phase) {
 
 /* Drives a call to its end. The bytes of a read are copied before an acknowledgement goes out, which allows the camera to
  * overwrite them. */
-static stripring_outcome drive(struct classifier *c, stripring_call call, stripring_receiver *r) {
+static stripring_outcome drive(struct classifier *c, stripring_step_answer step, stripring_receiver *r) {
   bool fetched = false;
-  for (uint64_t place = 1; call.phase.kind <= 2; place++) {
-    if (!fetched && call.phase.kind == 1) {
-      fetch(c, call.source, bytes_read(&call.phase));
+  demand(step.refusal);
+  for (uint64_t place = 1; step.call.phase.kind <= 2; place++) {
+    if (!fetched && step.call.phase.kind == 1) {
+      fetch(c, step.call.source, bytes_read(&step.call.phase));
       fetched = true;
     }
-    stripring_answer answer = do_what_it_waits_for(c->socket, &call.phase);
-    call = stripring_call_answered(call, c->ring, c->ring_len, answer, place);
+    stripring_answer answer = do_what_it_waits_for(c->socket, &step.call.phase);
+    step = stripring_call_answered(step.call, c->ring, c->ring_len, answer, place);
+    demand(step.refusal);
   }
-  demand(call.phase.refusal);
   if (!fetched)
-    fetch(c, call.source, bytes_read(&call.phase));
-  *r = call.receiver;
-  return call.phase.outcome;
+    fetch(c, step.call.source, bytes_read(&step.call.phase));
+  *r = step.call.receiver;
+  return step.call.phase.outcome;
 }
 
 static stripring_outcome read_some(struct classifier *c, stripring_receiver *r) {

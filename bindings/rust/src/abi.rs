@@ -156,7 +156,6 @@ pub struct Phase {
     pub batch: u64,
     pub ending: Ending,
     pub outcome: Outcome,
-    pub refusal: Refusal,
 }
 
 #[repr(C)]
@@ -320,6 +319,13 @@ pub struct EndedAnswer {
     pub used: u64,
 }
 
+#[repr(C)]
+#[derive(Clone, Copy, Debug, Default, PartialEq, Eq)]
+pub struct StepAnswer {
+    pub refusal: Refusal,
+    pub call: Call,
+}
+
 unsafe extern "C" {
     pub safe fn stripring_writing_end_new(buf_len: u64) -> WritingEndAnswer;
     pub safe fn stripring_writing_end_from_counters(
@@ -407,16 +413,16 @@ unsafe extern "C" {
         ring_len: usize,
         max_new_fds: u64,
         dst_len: u64,
-    ) -> Call;
-    pub safe fn stripring_call_begin_service(q: Receiver) -> Call;
-    pub safe fn stripring_call_begin_shutdown(q: Receiver) -> Call;
+    ) -> StepAnswer;
+    pub safe fn stripring_call_begin_service(q: Receiver) -> StepAnswer;
+    pub safe fn stripring_call_begin_shutdown(q: Receiver) -> StepAnswer;
     fn stripring_call_answered(
         c: Call,
         ring: *const u8,
         ring_len: usize,
         answer: Answer,
         place: u64,
-    ) -> Call;
+    ) -> StepAnswer;
     pub safe fn stripring_state_failure(s: State) -> PotentialFailureAnswer;
     pub safe fn stripring_state_with_failure(s: State, f: Failure) -> StateAnswer;
     pub safe fn stripring_state_with_potential_failure(
@@ -548,7 +554,7 @@ pub fn copies_read(s: Scheduler, ring: &[u8], dst: &mut [u8]) -> CopyAnswer {
     unsafe { stripring_copies_read(s, ring.as_ptr(), ring.len(), dst.as_mut_ptr(), dst.len()) }
 }
 
-pub fn call_answered(c: Call, ring: &[u8], answer: Answer, place: u64) -> Call {
+pub fn call_answered(c: Call, ring: &[u8], answer: Answer, place: u64) -> StepAnswer {
     unsafe { stripring_call_answered(c, ring.as_ptr(), ring.len(), answer, place) }
 }
 

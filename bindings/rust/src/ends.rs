@@ -29,44 +29,66 @@ pub struct ReadCounter(pub u64);
 /// # Ok(())
 /// # }
 /// ```
-#[derive(Clone, Copy, Debug, PartialEq, Eq)]
-pub struct WritingEnd(abi::WritingEnd);
+///
+/// It is the one owner of the written counter, and neither `Copy` nor `Clone`: two would write over each other's bytes.
+///
+/// ```compile_fail
+/// let end = stripring::WritingEnd::new(4).unwrap();
+/// let other = end.clone();
+/// ```
+///
+/// ```compile_fail
+/// let end = stripring::WritingEnd::new(4).unwrap();
+/// let other = end;
+/// end.send(); // `end` is moved
+/// ```
+#[derive(Debug, PartialEq, Eq)]
+pub struct WritingEnd(Scheduler);
 
 impl WritingEnd {
     /// An empty end of a ring of this length, 1 to 2^63.
     pub fn new(buf_len: u64) -> Result<Self, Refusal> {
         let a = abi::stripring_writing_end_new(buf_len);
-        accepted(a.refusal, Self(a.end))
+        accepted(a.refusal, Self::of(a.end))
     }
 
     /// Writes as much of `src` as this end knows to be free.
     pub fn write(&mut self, ring: &mut [u8], src: &[u8]) -> Result<usize, Refusal> {
-        let a = abi::writing_end_write(self.0, ring, src);
-        self.0 = accepted(a.refusal, a.end)?;
+        let a = abi::writing_end_write(self.flat(), ring, src);
+        *self = accepted(a.refusal, Self::of(a.end))?;
         Ok(a.n as usize)
     }
 
     /// The counter to send to the reading end.
     pub fn send(&self) -> WrittenCounter {
-        let a = abi::stripring_writing_end_send(self.0);
+        let a = abi::stripring_writing_end_send(self.flat());
         WrittenCounter(sound(a.refusal, a.counter.counter))
     }
 
     /// Takes a counter that the reading end sent.
     pub fn take(&mut self, ReadCounter(counter): ReadCounter) -> Result<(), Refusal> {
-        let a = abi::stripring_writing_end_take(self.0, abi::ReadCounter { counter });
-        self.0 = accepted(a.refusal, a.end)?;
+        let a = abi::stripring_writing_end_take(self.flat(), abi::ReadCounter { counter });
+        *self = accepted(a.refusal, Self::of(a.end))?;
         Ok(())
     }
 
     /// How many bytes this end knows to be free.
     pub fn space(&self) -> u64 {
-        self.scheduler().space_avail()
+        self.0.space_avail()
     }
 
     /// What this end knows of the ring.
-    pub fn scheduler(&self) -> Scheduler {
-        Scheduler(self.0.scheduler)
+    pub fn scheduler(&self) -> &Scheduler {
+        &self.0
+    }
+
+    fn of(end: abi::WritingEnd) -> Self {
+        Self(Scheduler(end.scheduler))
+    }
+
+    fn flat(&self) -> abi::WritingEnd {
+        let scheduler = self.0.0;
+        abi::WritingEnd { scheduler }
     }
 }
 
@@ -74,7 +96,7 @@ impl From<Scheduler> for WritingEnd {
     /// An end that goes on from this scheduler.
     fn from(s: Scheduler) -> Self {
         let a = abi::stripring_writing_end_from_scheduler(s.0);
-        sound(a.refusal, Self(a.end))
+        sound(a.refusal, Self::of(a.end))
     }
 }
 
@@ -94,44 +116,66 @@ impl From<Scheduler> for WritingEnd {
 /// # Ok(())
 /// # }
 /// ```
-#[derive(Clone, Copy, Debug, PartialEq, Eq)]
-pub struct ReadingEnd(abi::ReadingEnd);
+///
+/// It is the one owner of the read counter, and neither `Copy` nor `Clone`: of two, one would free bytes that the other reads.
+///
+/// ```compile_fail
+/// let end = stripring::ReadingEnd::new(4).unwrap();
+/// let other = end.clone();
+/// ```
+///
+/// ```compile_fail
+/// let end = stripring::ReadingEnd::new(4).unwrap();
+/// let other = end;
+/// end.send(); // `end` is moved
+/// ```
+#[derive(Debug, PartialEq, Eq)]
+pub struct ReadingEnd(Scheduler);
 
 impl ReadingEnd {
     /// An empty end of a ring of this length, 1 to 2^63.
     pub fn new(buf_len: u64) -> Result<Self, Refusal> {
         let a = abi::stripring_reading_end_new(buf_len);
-        accepted(a.refusal, Self(a.end))
+        accepted(a.refusal, Self::of(a.end))
     }
 
     /// Fills the first bytes of `dst` with as much as this end knows to be there; the rest of `dst` stays.
     pub fn read(&mut self, ring: &[u8], dst: &mut [u8]) -> Result<usize, Refusal> {
-        let a = abi::reading_end_read(self.0, ring, dst);
-        self.0 = accepted(a.refusal, a.end)?;
+        let a = abi::reading_end_read(self.flat(), ring, dst);
+        *self = accepted(a.refusal, Self::of(a.end))?;
         Ok(a.n as usize)
     }
 
     /// The counter to send to the writing end.
     pub fn send(&self) -> ReadCounter {
-        let a = abi::stripring_reading_end_send(self.0);
+        let a = abi::stripring_reading_end_send(self.flat());
         ReadCounter(sound(a.refusal, a.counter.counter))
     }
 
     /// Takes a counter that the writing end sent.
     pub fn take(&mut self, WrittenCounter(counter): WrittenCounter) -> Result<(), Refusal> {
-        let a = abi::stripring_reading_end_take(self.0, abi::WrittenCounter { counter });
-        self.0 = accepted(a.refusal, a.end)?;
+        let a = abi::stripring_reading_end_take(self.flat(), abi::WrittenCounter { counter });
+        *self = accepted(a.refusal, Self::of(a.end))?;
         Ok(())
     }
 
     /// How many bytes this end knows to be there.
     pub fn data(&self) -> u64 {
-        self.scheduler().data_avail()
+        self.0.data_avail()
     }
 
     /// What this end knows of the ring.
-    pub fn scheduler(&self) -> Scheduler {
-        Scheduler(self.0.scheduler)
+    pub fn scheduler(&self) -> &Scheduler {
+        &self.0
+    }
+
+    fn of(end: abi::ReadingEnd) -> Self {
+        Self(Scheduler(end.scheduler))
+    }
+
+    fn flat(&self) -> abi::ReadingEnd {
+        let scheduler = self.0.0;
+        abi::ReadingEnd { scheduler }
     }
 }
 
@@ -139,6 +183,6 @@ impl From<Scheduler> for ReadingEnd {
     /// An end that goes on from this scheduler.
     fn from(s: Scheduler) -> Self {
         let a = abi::stripring_reading_end_from_scheduler(s.0);
-        sound(a.refusal, Self(a.end))
+        sound(a.refusal, Self::of(a.end))
     }
 }

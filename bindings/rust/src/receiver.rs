@@ -174,14 +174,14 @@ pub struct Ended {
 /// let mut receiver = Receiver::new(Scheduler::new(16)?);
 /// let mut bytes = [0; 100];
 ///
-/// let mut call = receiver.begin_read(ring, &mut bytes, 0);
+/// let mut call = receiver.begin_read(ring, &mut bytes, 0)?;
 /// while let Some(wait) = call.waits_for() {
 ///     let answer = match wait {
 ///         Wait::Receive { .. } => Answer::received(0, 0),
 ///         Wait::Send { batch } => Answer::sent(batch as u64),
 ///         Wait::Shutdown => Answer::done(),
 ///     };
-///     call.answered(ring, answer);
+///     call.answered(ring, answer)?;
 /// }
 /// assert_eq!(call.end()?, Outcome::Read { n: 5, fds: 0 });
 /// assert_eq!(&bytes[..5], b"strip");
@@ -207,7 +207,21 @@ pub struct Ended {
 /// # Ok(())
 /// # }
 /// ```
-#[derive(Clone, Copy, Debug, PartialEq, Eq)]
+///
+/// It is the one owner of its counters and of the acknowledgements that are pending, and neither `Copy` nor `Clone`: two would
+/// acknowledge a chunk twice.
+///
+/// ```compile_fail
+/// let receiver = stripring::Receiver::new(stripring::Scheduler::new(16).unwrap());
+/// let other = receiver.clone();
+/// ```
+///
+/// ```compile_fail
+/// let receiver = stripring::Receiver::new(stripring::Scheduler::new(16).unwrap());
+/// let other = receiver;
+/// receiver.state(); // `receiver` is moved
+/// ```
+#[derive(Debug, PartialEq, Eq)]
 pub struct Receiver(abi::Receiver);
 
 impl Receiver {
@@ -217,9 +231,9 @@ impl Receiver {
         sound(a.refusal, Self(a.receiver))
     }
 
-    /// What is known of the ring. It holds data while a chunk is not read to its end.
-    pub fn scheduler(&self) -> Scheduler {
-        Scheduler(self.0.scheduler)
+    /// How many bytes of a chunk are not read yet.
+    pub fn data(&self) -> u64 {
+        Scheduler(self.0.scheduler).data_avail()
     }
 
     pub fn state(&self) -> State {
@@ -232,29 +246,30 @@ impl Receiver {
     }
 
     /// Begins a read into `dst` that takes at most so many descriptors. It comes to [`Failure::END_OF_STREAM`] at the end.
+    /// Of the ring the length is tested here; its bytes are copied here where a part of a chunk is still to be read.
     pub fn begin_read<'a>(
         &'a mut self,
         ring: &[u8],
         dst: &'a mut [u8],
         max_new_fds: u64,
-    ) -> Call<'a> {
+    ) -> Result<Call<'a>, Refusal> {
         let (ring_len, dst_len) = (ring.len(), dst.len() as u64);
-        let call = abi::stripring_call_begin_read(self.0, ring_len, max_new_fds, dst_len);
-        let mut begun = Call::begun(self, dst, call);
-        begun.copy_in_time(ring);
-        begun
+        let step = abi::stripring_call_begin_read(self.0, ring_len, max_new_fds, dst_len);
+        let mut call = Call::begun(self, dst, step)?;
+        call.copy_in_time(ring);
+        Ok(call)
     }
 
     /// Begins to send the pending acknowledgements.
-    pub fn begin_service(&mut self) -> Call<'_> {
-        let call = abi::stripring_call_begin_service(self.0);
-        Call::begun(self, &mut [], call)
+    pub fn begin_service(&mut self) -> Result<Call<'_>, Refusal> {
+        let step = abi::stripring_call_begin_service(self.0);
+        Call::begun(self, &mut [], step)
     }
 
     /// Begins to drain, and to shut the socket down.
-    pub fn begin_shutdown(&mut self) -> Call<'_> {
-        let call = abi::stripring_call_begin_shutdown(self.0);
-        Call::begun(self, &mut [], call)
+    pub fn begin_shutdown(&mut self) -> Result<Call<'_>, Refusal> {
+        let step = abi::stripring_call_begin_shutdown(self.0);
+        Call::begun(self, &mut [], step)
     }
 
     /// Reads into the first bytes of `dst`. The end of the stream is a read of 0 bytes.
@@ -315,29 +330,55 @@ impl Receiver {
     }
 }
 
-/// A call in progress. The receiver changes when it ends; one that is dropped before loses what its socket has answered.
+/// A call in progress. The receiver has the record so far after each step: a call may be dropped at any time, finished or
+/// not, and what it has received, sent and shut down by then stays counted.
+///
+/// ```
+/// use stripring::{Answer, Receiver, Refusal, Scheduler, Wait};
+///
+/// # fn main() -> Result<(), stripring::Refusal> {
+/// let ring = b"\0\0\0\0\0\0\0\x01s"; // whole chunks of one byte, each at the ring's start
+/// let mut receiver = Receiver::new(Scheduler::new(9)?);
+/// for _ in 0..3 {
+///     receiver.read_with_fds(ring, &mut [0], 0, &[Answer::received(0, 0), Answer::failed(11)])?; // no room to send
+/// }
+/// let mut call = receiver.begin_service()?;
+/// assert_eq!(call.answered(&[], Answer::sent(4)), Err(Refusal::Misfit { place: 1 })); // 3 are pending
+/// assert_eq!(call.waits_for(), Some(Wait::Send { batch: 3 })); // it has changed nothing
+/// call.answered(&[], Answer::sent(2))?;
+/// drop(call);
+/// assert_eq!(receiver.pending_acknowledgements(), 1);
+/// # Ok(())
+/// # }
+/// ```
 #[derive(Debug)]
-#[must_use = "the receiver changes when the call ends"]
+#[must_use = "a call goes on by the answers that it is handed"]
 pub struct Call<'a> {
     receiver: &'a mut Receiver,
     dst: &'a mut [u8],
     call: abi::Call,
-    copied: bool,
+    copied: usize,
     answers: u64,
 }
 
 impl<'a> Call<'a> {
-    fn begun(receiver: &'a mut Receiver, dst: &'a mut [u8], call: abi::Call) -> Self {
-        Self {
+    fn begun(
+        receiver: &'a mut Receiver,
+        dst: &'a mut [u8],
+        step: abi::StepAnswer,
+    ) -> Result<Self, Refusal> {
+        let call = accepted(step.refusal, step.call)?;
+        receiver.0 = call.receiver;
+        Ok(Self {
             receiver,
             dst,
             call,
-            copied: false,
+            copied: 0,
             answers: 0,
-        }
+        })
     }
 
-    /// What the host is to do next; nothing if the call is over.
+    /// What the host is to do next; nothing if the call is finished.
     pub fn waits_for(&self) -> Option<Wait> {
         let phase = &self.call.phase;
         match phase.kind {
@@ -352,40 +393,45 @@ impl<'a> Call<'a> {
         }
     }
 
-    /// Hands in what the socket answered. The ring is looked at only by a read, where a byte was received.
-    pub fn answered(&mut self, ring: &[u8], answer: Answer) {
-        self.answers += 1;
-        self.call = abi::call_answered(self.call, ring, answer, self.answers);
+    /// Hands in what the socket answered. The ring is looked at, its length too, where a byte was received and only there:
+    /// else an empty one does. Refused with [`Refusal::RingMemory`] there, and with [`Refusal::Misfit`] for an answer that
+    /// is none to what the call waits for. A refused answer changes nothing and is not counted: the call still waits.
+    pub fn answered(&mut self, ring: &[u8], answer: Answer) -> Result<(), Refusal> {
+        let place = self.answers + 1;
+        let step = abi::call_answered(self.call, ring, answer, place);
+        self.call = accepted(step.refusal, step.call)?;
+        self.receiver.0 = self.call.receiver;
+        self.answers = place;
         self.copy_in_time(ring);
+        Ok(())
     }
 
-    /// What the call came to. One that still waits is refused with [`Refusal::AnswerMissing`]. After a refusal the receiver
-    /// is as before; what was sent on the socket and copied into the destination by then stays.
+    /// How many bytes of a read are in the destination by now: all of them before the first send.
+    pub fn copied(&self) -> usize {
+        self.copied
+    }
+
+    /// What the call came to. One that still waits is refused with [`Refusal::AnswerMissing`], and dropped.
     pub fn end(self) -> Result<Outcome, Refusal> {
-        let phase = self.call.phase;
-        match phase.kind {
-            0..=2 => Err(Refusal::AnswerMissing),
-            3 => {
-                self.receiver.0 = self.call.receiver;
-                Ok(phase.outcome.into())
-            }
-            _ => Err(phase.refusal.into()),
+        match self.waits_for() {
+            Some(_) => Err(Refusal::AnswerMissing),
+            None => Ok(self.call.phase.outcome.into()),
         }
     }
 
     /// Copies the bytes of a read as soon as it has any: an acknowledgement allows the other process to overwrite them.
     fn copy_in_time(&mut self, ring: &[u8]) {
         let outcome = match self.call.phase.kind {
+            0 | 2 => return,
             1 => self.call.phase.ending.outcome,
-            3 => self.call.phase.outcome,
-            _ => return,
+            _ => self.call.phase.outcome,
         };
         if let Outcome::Read { n, .. } = outcome.into()
-            && !self.copied
+            && self.copied < n
         {
             let a = abi::copies_read(self.call.source, ring, &mut self.dst[..n]);
             sound(a.refusal, ());
-            self.copied = true;
+            self.copied = n;
         }
     }
 }

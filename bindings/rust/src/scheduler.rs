@@ -29,6 +29,20 @@ impl OperationType {
 
 /// The counters of a ring, which are sound: only calls that test them make one.
 ///
+/// Whoever moves bytes by a scheduler is the one owner of its counters, so it is neither `Copy` nor `Clone`, and an end or a
+/// receiver that goes on from one takes it. A plan for counters that another has is made of their numbers, by
+/// [`from_counters`](Self::from_counters).
+///
+/// ```compile_fail
+/// let s = stripring::Scheduler::new(5).unwrap();
+/// let (one, other) = (stripring::WritingEnd::from(s), stripring::WritingEnd::from(s)); // `s` is moved
+/// ```
+///
+/// ```compile_fail
+/// let s = stripring::Scheduler::new(5).unwrap();
+/// let other = s.clone();
+/// ```
+///
 /// ```
 /// use stripring::{OperationType, Scheduler};
 ///
@@ -49,7 +63,7 @@ impl OperationType {
 /// # Ok(())
 /// # }
 /// ```
-#[derive(Clone, Copy, Debug, PartialEq, Eq)]
+#[derive(Debug, PartialEq, Eq)]
 pub struct Scheduler(pub(crate) abi::Scheduler);
 
 impl Scheduler {

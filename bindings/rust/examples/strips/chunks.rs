@@ -122,7 +122,7 @@ fn do_what_it_waits_for(socket: &UnixStream, wait: Wait) -> io::Result<Answer> {
 fn drive(mut call: Call, ring: &Shared, socket: &UnixStream) -> Result<Outcome> {
     while let Some(wait) = call.waits_for() {
         let answer = do_what_it_waits_for(socket, wait).unwrap_or_else(Answer::from);
-        call.answered(ring.lend(), answer);
+        call.answered(ring.lend(), answer)?;
     }
     Ok(call.end()?)
 }
@@ -131,7 +131,7 @@ fn read(classifier: &mut Classifier, receiver: &mut Receiver) -> Result<Outcome>
     let Classifier {
         ring, socket, copy, ..
     } = classifier;
-    let call = receiver.begin_read(ring.lend(), copy.next(), 0);
+    let call = receiver.begin_read(ring.lend(), copy.next(), 0)?;
     drive(call, ring, socket)
 }
 
@@ -144,7 +144,7 @@ fn wait_for_socket(classifier: &Classifier, receiver: &mut Receiver) -> Result<(
         return Ok(());
     }
     sys::is_ready(socket, sys::POLLIN | sys::POLLOUT, true)?;
-    drive(receiver.begin_service(), ring, socket)?;
+    drive(receiver.begin_service()?, ring, socket)?;
     Ok(())
 }
 

@@ -21,6 +21,8 @@ mod copies;
 #[cfg(feature = "judge")]
 mod ends;
 #[cfg(feature = "judge")]
+mod machine;
+#[cfg(feature = "judge")]
 mod modular;
 #[cfg(feature = "judge")]
 mod receiver;
@@ -45,6 +47,8 @@ fn main() -> ExitCode {
         ["copies"] => copies::run() & ends::run(),
         #[cfg(feature = "judge")]
         ["receiver"] => receiver::run(),
+        #[cfg(feature = "judge")]
+        ["machine"] => machine::run(),
         ["sched-paper"] => sched_paper::run(),
         ["receiver-paper"] => receiver_paper::run(),
         ["record-modular"] => record_modular::run(),
@@ -60,13 +64,15 @@ fn main() -> ExitCode {
         ["pieces", length] => pieces::run(length),
         _ => {
             eprintln!(
-                "usage: oracle modular-u8|modular|sched|copies|receiver|sched-paper|receiver-paper\
+                "usage: oracle modular-u8|modular|sched|copies|receiver|machine|sched-paper|receiver-paper\
                 |record-modular|record-sched|record-receiver\
                 |ringplan|ringplan-paper|ringplan-lines|ringplan-user-lines"
             );
             eprintln!("usage: oracle ringplan-compare LINES RUST PROGRAM WHAT");
             eprintln!("usage: oracle pieces LENGTH");
-            eprintln!("modular, sched, copies and receiver need a build with the feature judge");
+            eprintln!(
+                "modular, sched, copies, receiver and machine need a build with the feature judge"
+            );
             return ExitCode::from(2);
         }
     };

@@ -49,17 +49,19 @@ const SMALL_ANSWERS: [Answer; 12] = [
 ];
 
 /// A call of the Rust, and the static library's.
-type Pair = (&'static oracle::receiver_answers::RunCall, RunCall);
+pub type Pair = (&'static oracle::receiver_answers::RunCall, RunCall);
 
 pub fn run() -> bool {
+    let pairs = pairs();
+    states() & small(&pairs) & random(&pairs)
+}
+
+/// The calls over a run of answers, in the order of `RUN_CALLS`.
+pub fn pairs() -> [Pair; 4] {
     let ours = run_calls();
     assert_eq!(ours.len(), RUN_CALLS.len());
     let find = |name| ours.iter().find(|our| our.0 == name).expect(name).1;
-    let pairs: Vec<Pair> = RUN_CALLS
-        .iter()
-        .map(|call| (call, find(call.name)))
-        .collect();
-    states() & small(&pairs) & random(&pairs)
+    RUN_CALLS.each_ref().map(|call| (call, find(call.name)))
 }
 
 /// Every pair of states and failures, and the schedulers around small rings and the greatest.
@@ -97,10 +99,19 @@ fn state_values(part: Part) -> Vec<Vec<u64>> {
     }
 }
 
-/// Everything that is built of the small parts. Only a read looks at memory, so to the other calls it
-/// is lent once.
 fn small(pairs: &[Pair]) -> bool {
     let mut tried = Tried::new();
+    each_small(pairs, |pair, input| tried.compare(pair, input));
+    tried.report(&small_calls())
+}
+
+pub fn small_calls() -> String {
+    format!("all small calls of a ring of {SMALL}")
+}
+
+/// Everything that is built of the small parts. Only a read looks at memory, so to the other calls it
+/// is lent once.
+pub fn each_small(pairs: &[Pair], mut visit: impl FnMut(&Pair, &Input)) {
     let runs = small_runs();
     for (data, header) in SMALL_HEADERS {
         for destination in 0..=2 {
@@ -117,13 +128,12 @@ fn small(pairs: &[Pair]) -> bool {
                         .iter()
                         .filter(|pair| once || pair.0.kind == Kind::Read)
                     {
-                        tried.compare(pair, &input);
+                        visit(pair, &input);
                     }
                 }
             }
         }
     }
-    tried.report(&format!("all small calls of a ring of {SMALL}"))
 }
 
 fn small_memory(header: u64, destination: u64) -> Memory {
@@ -155,9 +165,18 @@ fn small_runs() -> Vec<Vec<Answer>> {
     [vec![]].into_iter().chain(one()).chain(two).collect()
 }
 
-/// Half of them reads as they are called from outside, and half of the rest the reads within.
-fn random(pairs: &[Pair]) -> bool {
+fn random(pairs: &[Pair; 4]) -> bool {
     let mut tried = Tried::new();
+    each_random(pairs, |pair, input| tried.compare(pair, input));
+    tried.report(&random_calls())
+}
+
+pub fn random_calls() -> String {
+    format!("{RANDOM_CALLS} random scripted calls")
+}
+
+/// Half of them reads as they are called from outside, and half of the rest the reads within.
+pub fn each_random(pairs: &[Pair; 4], mut visit: impl FnMut(&Pair, &Input)) {
     let mut random = Random(SEED);
     for _ in 0..RANDOM_CALLS {
         let pair = match random.next() % 8 {
@@ -167,9 +186,8 @@ fn random(pairs: &[Pair]) -> bool {
             _ => &pairs[3],
         };
         let l = length(&mut random);
-        tried.compare(pair, &Input::random(&mut random, pair.0.kind, l));
+        visit(pair, &Input::random(&mut random, pair.0.kind, l));
     }
-    tried.report(&format!("{RANDOM_CALLS} random scripted calls"))
 }
 
 /// Of a ring: mostly such that small chunks fill it, now and then any number.

@@ -110,7 +110,7 @@ fn with_kinds(kinds: &[(u64, &[[u64; 2]])]) -> Vec<Vec<u64>> {
         .collect()
 }
 
-fn pick<T: Copy>(random: &mut Random, choices: &[T]) -> T {
+pub fn pick<T: Copy>(random: &mut Random, choices: &[T]) -> T {
     choices[random.next() as usize % choices.len()]
 }
 

@@ -1,6 +1,6 @@
 //! The static library's calls. Each is total, so each is safe to call.
 
-use oracle::receiver_answers::Lent;
+use oracle::receiver_answers::{Kind, Lent};
 use oracle::sched_answers::{Input, Row};
 
 /// `some` is 1 with the value, or 0 with the value 0.
@@ -308,6 +308,52 @@ macro_rules! run_calls {
             ]
         }
     };
+}
+
+/// A call in progress: the receiver, the scheduler that a read copies its bytes by, and the phase.
+pub type CallNumbers = [u64; 26];
+
+/// What a call of the machine answers: the refusal, and the call.
+pub type StepNumbers = [u64; 30];
+
+type CallInProgress = Flat<26>;
+type SocketAnswer = Flat<3>;
+type Step = Answer<30>;
+
+unsafe extern "C" {
+    safe fn stripring_call_begin_read(
+        _: Receiver,
+        ring_len: usize,
+        max_new_fds: u64,
+        dst_len: u64,
+    ) -> Step;
+    safe fn stripring_call_begin_service(_: Receiver) -> Step;
+    safe fn stripring_call_begin_shutdown(_: Receiver) -> Step;
+    fn stripring_call_answered(
+        _: CallInProgress,
+        _: *const u8,
+        _: usize,
+        _: SocketAnswer,
+        place: u64,
+    ) -> Step;
+}
+
+/// Begins what a call over a run does at once; of the answers nothing is looked at.
+pub fn begin(kind: Kind, lent: Lent) -> StepNumbers {
+    let receiver = Flat(lent.receiver);
+    match kind {
+        Kind::Read => {
+            let (ring_len, dst_len) = (lent.ring.len(), lent.destination.len() as u64);
+            stripring_call_begin_read(receiver, ring_len, lent.max_new_fds, dst_len).0
+        }
+        Kind::Service => stripring_call_begin_service(receiver).0,
+        Kind::Shutdown => stripring_call_begin_shutdown(receiver).0,
+    }
+}
+
+pub fn answered(call: CallNumbers, ring: &[u8], answer: [u64; 3], place: u64) -> StepNumbers {
+    // SAFETY: a slice with its length.
+    unsafe { stripring_call_answered(Flat(call), ring.as_ptr(), ring.len(), Flat(answer), place).0 }
 }
 
 run_calls! {

@@ -1,0 +1,321 @@
+//! The static library's machine, one answer at a time with misfits in between, against its calls over
+//! the same answers without them, and against receiver.rs.
+
+use crate::memory::Memory;
+use crate::numbers::Random;
+use crate::receiver::{Pair, each_random, each_small, pairs, random_calls, small_calls};
+use crate::receiver_inputs::{Input, pick};
+use crate::stripring::{CallNumbers, CopyCall, StepNumbers, answered, begin, copy_calls};
+use crate::tally::Tally;
+use oracle::receiver_answers::Kind;
+use oracle::sched_answers::{Row, row};
+use oracle::scripted_socket::Answer;
+
+const SEED: u64 = 1;
+const M: u64 = u64::MAX;
+
+const RECEIVE: u64 = 0;
+const SEND: u64 = 1;
+const SHUTDOWN: u64 = 2;
+const READ: u64 = 0;
+
+/// A read of the machine comes to what the Rust calls `read_with_fds_impl`; the inputs of the read as
+/// it is called from outside are tried by it too.
+pub fn run() -> bool {
+    let [_, read, service, shutdown] = pairs();
+    let mut small = Tried::new();
+    each_small(&[read, service, shutdown], |pair, input| {
+        small.compare(pair, input)
+    });
+    let mut random = Tried::new();
+    each_random(&[read, read, service, shutdown], |pair, input| {
+        random.compare(pair, input)
+    });
+    small.report(&small_calls()) & random.report(&random_calls())
+}
+
+/// What was compared, and what was handed in beside the answers of the runs.
+struct Tried {
+    tally: Tally,
+    random: Random,
+    misfits: u64,
+    rings: u64,
+    resumed: u64,
+}
+
+impl Tried {
+    fn new() -> Self {
+        Self {
+            tally: Tally::new(["without misfits", "the machine"]),
+            random: Random(SEED),
+            misfits: 0,
+            rings: 0,
+            resumed: 0,
+        }
+    }
+
+    /// First the library's run of the input, refused or not. Where it needs more answers, or one does
+    /// not fit, the call still waits: it is brought to its end, and the answers that it took are then
+    /// a run that the Rust has an answer to.
+    fn compare(&mut self, pair: &Pair, input: &Input) {
+        let (call, ours) = pair;
+        let ran = ours(input.lent(&mut input.memory.clone()));
+        let mut driven = match Driven::begin(call.kind, input) {
+            Ok(driven) => driven,
+            Err(refusal) => return self.same(pair, input, [ran, refused(refusal)]),
+        };
+        let came_to = self.drive(&mut driven);
+        self.same(pair, input, [ran, came_to]);
+        self.resumed += u64::from(driven.waits());
+        self.bring_to_its_end(&mut driven);
+        self.compare_whole(pair, driven);
+    }
+
+    /// Hands in the run, and says what a call over it comes to.
+    fn drive(&mut self, driven: &mut Driven) -> Row {
+        let answers = driven.input.answers.iter();
+        for &answer in answers {
+            if !driven.waits() {
+                break;
+            }
+            self.hand_in_misfits(driven);
+            if let Err(refusal) = driven.hand_in(answer) {
+                return refused(refusal);
+            }
+        }
+        match driven.waits() {
+            true => refused([11, 0, 0, 0]),
+            false => driven.row(),
+        }
+    }
+
+    fn bring_to_its_end(&mut self, driven: &mut Driven) {
+        while driven.waits() {
+            self.hand_in_misfits(driven);
+            let answer = fitting(&mut self.random, &driven.call);
+            if let Err(refusal) = driven.hand_in(answer) {
+                let accepted = [0; 4];
+                let input = || format!("{:?} {answer:?}", driven.call);
+                return self.tally.compare([accepted, refusal], input);
+            }
+        }
+    }
+
+    /// The answer, the record, and every byte lent and around it. A finished call stays as it is.
+    fn compare_whole(&mut self, pair: &Pair, driven: Driven) {
+        let input = Input {
+            answers: driven.taken.clone(),
+            ..driven.input.clone()
+        };
+        let ((call, ours), came_to) = (pair, driven.row());
+        let (mut theirs, mut our_memory) = (input.memory.clone(), input.memory.clone());
+        let rust = row(&(call.answer)(input.lent(&mut theirs)));
+        let our = ours(input.lent(&mut our_memory));
+        let memory = &driven.memory;
+        self.same(pair, &input, [(rust, &theirs), (came_to, memory)]);
+        self.same(pair, &input, [(our, &our_memory), (came_to, memory)]);
+        let answer = misfit(&mut self.random, &driven.call);
+        let step = answered(driven.call.0, &[], answer, 1);
+        self.same(pair, &input, [accepted(driven.call.0), step]);
+    }
+
+    fn same<A: PartialEq + std::fmt::Debug>(&mut self, pair: &Pair, input: &Input, rows: [A; 2]) {
+        let name = pair.0.name;
+        self.tally.compare(rows, || format!("{name} {input:?}"));
+    }
+
+    /// None, one or more. Each is refused, with nothing beside the refusal.
+    fn hand_in_misfits(&mut self, driven: &mut Driven) {
+        while self.random.next() % 2 == 0 {
+            let (mut refusal, mut answer) = ([12, driven.place()], [0, 0, 0]);
+            let wrong_ring = driven.call.phase() == RECEIVE && self.random.next() % 8 == 0;
+            if wrong_ring {
+                refusal = [9, 0];
+                self.rings += 1;
+            } else {
+                answer = misfit(&mut self.random, &driven.call);
+                self.misfits += 1;
+            }
+            let step = driven.answered(answer, wrong_ring);
+            let mut expected = [0; 30];
+            expected[..2].copy_from_slice(&refusal);
+            let call = driven.call.0;
+            self.tally
+                .compare([expected, step], || format!("{call:?} {answer:?}"));
+        }
+    }
+
+    fn report(self, calls: &str) -> bool {
+        let Self {
+            misfits,
+            rings,
+            resumed,
+            ..
+        } = self;
+        self.tally.report(&format!(
+            "machine: stripring answer by answer against its runs and receiver.rs, {calls} \
+            (misfits in between {misfits}, rings of a wrong length {rings}, \
+            brought to their end where the run is refused {resumed})"
+        ))
+    }
+}
+
+/// The numbers of a call in progress.
+struct Call(CallNumbers);
+
+impl Call {
+    fn receiver(&self) -> &[u64] {
+        &self.0[..8]
+    }
+
+    fn source(&self) -> [u64; 3] {
+        [self.0[8], self.0[9], self.0[10]]
+    }
+
+    fn phase(&self) -> u64 {
+        self.0[11]
+    }
+
+    fn max_new_fds(&self) -> u64 {
+        self.0[12]
+    }
+
+    fn batch(&self) -> u64 {
+        self.0[14]
+    }
+
+    /// What it still ends with where it waits, what it came to where it is finished.
+    fn outcome(&self) -> &[u64] {
+        match self.phase() {
+            RECEIVE..=SHUTDOWN => &self.0[16..21],
+            _ => &self.0[21..],
+        }
+    }
+}
+
+/// A call as a host drives it.
+struct Driven<'a> {
+    input: &'a Input,
+    memory: Memory,
+    call: Call,
+    copied: bool,
+    /// The answers that it accepted.
+    taken: Vec<Answer>,
+}
+
+impl<'a> Driven<'a> {
+    fn begin(kind: Kind, input: &'a Input) -> Result<Self, [u64; 4]> {
+        let mut memory = input.memory.clone();
+        let call = gone_on(begin(kind, input.lent(&mut memory)))?;
+        let mut driven = Self {
+            input,
+            memory,
+            call,
+            copied: false,
+            taken: vec![],
+        };
+        driven.copy_in_time();
+        Ok(driven)
+    }
+
+    fn waits(&self) -> bool {
+        self.call.phase() <= SHUTDOWN
+    }
+
+    /// Of the next answer, from 1.
+    fn place(&self) -> u64 {
+        self.taken.len() as u64 + 1
+    }
+
+    /// A ring is lent where a byte was received, and only there; a wrong one is a byte short.
+    fn answered(&mut self, answer: Answer, wrong_ring: bool) -> StepNumbers {
+        let place = self.place();
+        let ring = self.memory.parts().0;
+        let ring = match self.call.phase() == RECEIVE && answer[0] == 0 {
+            true => &ring[usize::from(wrong_ring)..],
+            false => &[],
+        };
+        answered(self.call.0, ring, answer, place)
+    }
+
+    fn hand_in(&mut self, answer: Answer) -> Result<(), [u64; 4]> {
+        self.call = gone_on(self.answered(answer, false))?;
+        self.taken.push(answer);
+        self.copy_in_time();
+        Ok(())
+    }
+
+    /// Before the first send, or at the end.
+    fn copy_in_time(&mut self) {
+        let due = self.call.phase() != RECEIVE && self.call.outcome()[0] == READ;
+        if due && !self.copied {
+            let n = self.call.outcome()[1] as usize;
+            let (ring, destination) = self.memory.parts();
+            copies_read()(self.call.source(), ring, &mut destination[..n]);
+            self.copied = true;
+        }
+    }
+
+    /// As a call over the answers that were taken answers.
+    fn row(&self) -> Row {
+        let mut row = Row::default();
+        row[4..12].copy_from_slice(self.call.receiver());
+        row[12..17].copy_from_slice(self.call.outcome());
+        row[17] = self.taken.len() as u64;
+        row
+    }
+}
+
+fn copies_read() -> CopyCall {
+    let calls = copy_calls();
+    calls.iter().find(|call| call.0 == "copies_read").unwrap().2
+}
+
+fn gone_on(step: StepNumbers) -> Result<Call, [u64; 4]> {
+    let (refusal, call) = step.split_at(4);
+    match refusal[0] {
+        0 => Ok(Call(call.try_into().unwrap())),
+        _ => Err(refusal.try_into().unwrap()),
+    }
+}
+
+fn accepted(call: CallNumbers) -> StepNumbers {
+    let mut step = [0; 30];
+    step[4..].copy_from_slice(&call);
+    step
+}
+
+fn refused(refusal: [u64; 4]) -> Row {
+    let mut row = Row::default();
+    row[..4].copy_from_slice(&refusal);
+    row
+}
+
+/// An answer that the phase cannot have; to a finished call any is handed in.
+fn misfit(random: &mut Random, call: &Call) -> Answer {
+    let errno = [2, pick(random, &[0, 4096, M]), 0];
+    let (byte, closed, sent, done) = ([0; 3], [1, 0, 0], [3, 1, 0], [4, 0, 0]);
+    let unknown = [pick(random, &[5, 6, M]), 0, 0];
+    match call.phase() {
+        RECEIVE => {
+            let large = [0, pick(random, &[256, M]), 0];
+            let many = call.max_new_fds().checked_add(1);
+            let many = many.map_or(large, |fds| [0, 0, fds]);
+            pick(random, &[errno, sent, done, unknown, large, many])
+        }
+        SEND => {
+            let more = [3, pick(random, &[call.batch() + 1, M]), 0];
+            pick(random, &[errno, byte, closed, done, unknown, more])
+        }
+        _ => pick(random, &[errno, byte, closed, sent, unknown]),
+    }
+}
+
+/// An answer that the phase can have, and that does not go on for ever.
+fn fitting(random: &mut Random, call: &Call) -> Answer {
+    match call.phase() {
+        SEND if random.next() % 2 == 0 => [3, call.batch(), 0],
+        RECEIVE | SEND => [2, 11, 0],
+        _ => [4, 0, 0],
+    }
+}

@@ -126,22 +126,23 @@ impl Tried {
 
     /// None, one or more. Each is refused, with nothing beside the refusal.
     fn hand_in_misfits(&mut self, driven: &mut Driven) {
-        while self.random.next() % 2 == 0 {
-            let (mut refusal, mut answer) = ([12, driven.place()], [0, 0, 0]);
-            let wrong_ring = driven.call.phase() == RECEIVE && self.random.next() % 8 == 0;
-            if wrong_ring {
-                refusal = [9, 0];
-                self.rings += 1;
-            } else {
-                answer = misfit(&mut self.random, &driven.call);
-                self.misfits += 1;
-            }
-            let step = driven.answered(answer, wrong_ring);
+        while let 0 = self.random.next() % 2 {
+            let (refusal, answer, wrong_ring) = match self.random.next() % 8 {
+                0 if driven.call.phase() == RECEIVE => {
+                    self.rings += 1;
+                    ([9, 0], [0, 0, 0], true)
+                }
+                _ => {
+                    self.misfits += 1;
+                    let answer = misfit(&mut self.random, &driven.call);
+                    ([12, driven.place()], answer, false)
+                }
+            };
             let mut expected = [0; 30];
             expected[..2].copy_from_slice(&refusal);
-            let call = driven.call.0;
-            self.tally
-                .compare([expected, step], || format!("{call:?} {answer:?}"));
+            let step = driven.answered(answer, wrong_ring);
+            let input = || format!("{:?} {answer:?}", driven.call);
+            self.tally.compare([expected, step], input);
         }
     }
 
@@ -161,6 +162,7 @@ impl Tried {
 }
 
 /// The numbers of a call in progress.
+#[derive(Debug)]
 struct Call(CallNumbers);
 
 impl Call {
@@ -313,9 +315,9 @@ fn misfit(random: &mut Random, call: &Call) -> Answer {
 
 /// An answer that the phase can have, and that does not go on for ever.
 fn fitting(random: &mut Random, call: &Call) -> Answer {
-    match call.phase() {
-        SEND if random.next() % 2 == 0 => [3, call.batch(), 0],
-        RECEIVE | SEND => [2, 11, 0],
+    match (call.phase(), random.next() % 2) {
+        (SEND, 0) => [3, call.batch(), 0],
+        (RECEIVE | SEND, _) => [2, 11, 0],
         _ => [4, 0, 0],
     }
 }

@@ -32,14 +32,14 @@ use denote.Triple.Statement.{Contract, Triple}
 use denote.Triple.Walked.{says, Stays, stay-dropped, walkOf, goes-dropped, ends-at, walked, walk-meets}
 use denote.Exit.{yes}
 use Rattle.receiver.specs.declared.answer.Answer.{Answer}
-use Rattle.receiver.specs.declared.call.Call.{Call}
+use Rattle.receiver.specs.declared.call.Step.{Step}
 use Rattle.receiver.specs.declared.receiver.Ended.{Ended}
 use Rattle.receiver.specs.declared.receiver.ReceiverState.{ReceiverState}
 use Rattle.driver.specs.Drive.{drivenOf, endedOf}
 use Rattle.copies.proofs.Calls.{lent, asks, calls}
 use Rattle.driver.proofs.Thin.{R, Re, qval}
-use Rattle.receiver.proofs.call.Call as C
-use Rattle.receiver.proofs.call.Call.Laws as C′
+use Rattle.receiver.proofs.call.Step as C
+use Rattle.receiver.proofs.call.Step.Laws as C′
 use Rattle.receiver.proofs.receiver.Ended as E
 use Rattle.receiver.proofs.receiver.Ended.Laws as E′
 use Rattle.receiver.proofs.receiver.ReceiverState as Q
@@ -60,14 +60,14 @@ function begin = record {
 }
 
 -- a call of the receiver q that is begun as `begins q`, and one over a run that answers `told q run`
-abbrev beginning : {M : Type 1} (𝓤 : URA M) → (ReceiverState → Call) → Clauses 𝓤 g₀.ended
+abbrev beginning : {M : Type 1} (𝓤 : URA M) → (ReceiverState → Step) → Clauses 𝓤 g₀.ended
 beginning 𝓤 begins κs a = record { ghost = Unit {0}; requires = λ _. emp 𝓤; ensures = λ _ r _. fact 𝓤 (r ≡ begins (a .0)) }
 
 abbrev pub answering : {M : Type 1} (𝓤 : URA M) → (ReceiverState → List Answer → Ended) → Clauses 𝓤 f.ended
 answering 𝓤 told κs a = record { ghost = Unit {0}; requires = λ _. emp 𝓤; ensures = λ _ r _. fact 𝓤 (r ≡ told (a .0) (a .1 .0 .now)) }
 
 module _ {M : Type 1} (𝓤 : URA M) (H : Heap 𝓤) (A : Atoms 𝓤) where
-  abbrev pub Begin : (ReceiverState → Call) → Contract 𝓤
+  abbrev pub Begin : (ReceiverState → Step) → Contract 𝓤
   Begin begins = tripleOf 𝓤 H A g₀.signature (closing 𝓤 H A g₀.ended (beginning 𝓤 begins))
 
   abbrev pub Drive : (mem : Memory → SProp 𝓤) (run : Routine → Fun 𝓤) → Contract 𝓤
@@ -76,7 +76,7 @@ module _ {M : Type 1} (𝓤 : URA M) (H : Heap 𝓤) (A : Atoms 𝓤) where
 abbrev stayed : Stays (f.ended .signature .params) (f.ended .kept)
 stayed = (stay-dropped (plain (λ _. Re)) yes, (stay-dropped (shrSliceOf (0 ∷ []) tt (plain (λ _. R))) yes, tt))
 
-module _ (begin : Name) (begins : ReceiverState → Call) (told : ReceiverState → List Answer → Ended) (tells : (q : ReceiverState) (ys : List Answer) → endedOf (drivenOf (begins q) [] ys) ≡ told q ys) where
+module _ (begin : Name) (begins : ReceiverState → Step) (told : ReceiverState → List Answer → Ended) (tells : (q : ReceiverState) (ys : List Answer) → endedOf (drivenOf (begins q) [] ys) ≡ told q ys) where
   module _ {M : Type 1} (𝓤 : URA M) (H : Heap 𝓤) (A : Atoms 𝓤) (W : Given 𝓤 H A) (mem : Memory → SProp 𝓤) (run : Routine → Fun 𝓤) (κ : Lft) (s : Share) (q : ReceiverState) (iq : Is Re q (qval q ∷ [])) (answers : RefT (List Answer)) (room : Room R (length (answers .now))) where
     abbrev x : ReceiverState × (RefT (List Answer) × Unit {0})
     x = (q, (answers, tt))
@@ -95,7 +95,7 @@ module _ (begin : Name) (begins : ReceiverState → Call) (told : ReceiverState 
     abbrev to-begin : Begin 𝓤 H A begins .Ghost
     to-begin = ((tt, tt, tt, (q, tt), (qval q ∷ [], tt)), tt)
 
-    abbrev to-drive : Call → Val → Drive 𝓤 H A mem run .Ghost
+    abbrev to-drive : Step → Val → Drive 𝓤 H A mem run .Ghost
     to-drive c v = (((κ, tt), (s, tt), tt, (c, (answers, tt)), (v ∷ [], (lent answers ∷ [], tt))), tt)
 
     module _ (𝓣 : Tables 𝓤 H) (known : Triple 𝓤 (𝓣 .C begin) (Begin 𝓤 H A begins)) (drive : Triple 𝓤 (𝓣 .C g₁-def.name) (Drive 𝓤 H A mem run)) where
@@ -109,7 +109,7 @@ module _ (begin : Name) (begins : ReceiverState → Call) (told : ReceiverState 
           -- [what the beginning asks; the run and true; _3; …; answers; …; self; …; _0; …; the token and true]
           calls ! (fmOf 𝓤 H (W .laws) 𝓣) g₀.ended (beginning 𝓤 begins) known to-begin (λ c ws. c ≡ begins q) (λ c ws. id⊢ 𝓤 _) (and-then ! (load ! (from ! (stop !)) (look ! 6 refl)) (no-more !)) (λ v c ws e ic.
           -- [the call; true; true; the run and true; _3; …; answers; …; self; …; _0; …; the token and true]: the call and the run go to the driver
-          land ! (from ! (stop !)) (init ! 4 refl (LL.lawful C.the-type C′.the-laws 𝓤 H A W .typed c _ ic .0)) $
+          land ! (from ! (stop !)) (init ! 4 refl (EL.lawful C.the-type C′.the-laws 𝓤 H A W tt .typed c _ ic .0)) $
           move ! (0 ∷ 3 ∷ []) $ fjoin ! $ move ! (11 ∷ 0 ∷ []) $ join ! $ use1 W (raw (Drive 𝓤 H A mem run .pre (to-drive c v))) (asks 𝓤 _) $
           -- [what the driver asks; true; true; _3; …; answers; …; self; …; _0; …]
           calls ! (fmOf 𝓤 H (W .laws) 𝓣) g₁.ended (g₁.clauses 𝓤 H A mem run) drive (to-drive c v) (λ r us. r ≡ endedOf (drivenOf c [] (answers .now))) (λ r us. id⊢ 𝓤 _)
@@ -118,7 +118,7 @@ module _ (begin : Name) (begins : ReceiverState → Call) (told : ReceiverState 
           land ! (from ! (stop !)) (init ! 11 refl (EL.lawful E.the-type E′.the-laws 𝓤 H A W tt .typed r _ ir .0)) $
           returns ! (look ! 11 refl) $ forget ! 5 refl $ forget ! 7 refl $ forget ! 9 refl $ forget ! 11 refl $
           move ! (11 ∷ 12 ∷ []) $ free1 ! $ move ! (9 ∷ 10 ∷ []) $ free1 ! $ move ! (7 ∷ 8 ∷ []) $ free1 ! $ move ! (5 ∷ 6 ∷ []) $ free1 ! $ free0 ! $
-          keep ! (0 ∷ 1 ∷ []) $ by ! (exits r w (k ∙ ap (λ (p : Call). endedOf (drivenOf p [] (answers .now))) e ∙ tells q (answers .now)))))))))
+          keep ! (0 ∷ 1 ∷ []) $ by ! (exits r w (k ∙ ap (λ (p : Step). endedOf (drivenOf p [] (answers .now))) e ∙ tells q (answers .now)))))))))
 
   module _ {M : Type 1} (𝓤 : URA M) (H : Heap 𝓤) (A : Atoms 𝓤) (W : Given 𝓤 H A) (mem : Memory → SProp 𝓤) (run : Routine → Fun 𝓤) (𝓣 : Tables 𝓤 H) where
     pub begun : Triple 𝓤 (𝓣 .C begin) (Begin 𝓤 H A begins) → Triple 𝓤 (𝓣 .C g₁-def.name) (Drive 𝓤 H A mem run) → Meets 𝓤 H A f.signature (WpFn 𝓤 H (𝓣 .C) (𝓣 .Λ) (function begin)) (closing 𝓤 H A f.ended (answering 𝓤 told))

@@ -1,11 +1,15 @@
 -- Laws of driving: how a case of the phase, of the outcome and of the answer picks its case.
 use Prim.Native.Nat.{ℕ}
 use mathlib.Core.Path.{_≡_, sym, ap, _∙_}
+use mathlib.Core.Bool.{Bool}
 use mathlib.Core.List.{List}
 use Rattle.sched.specs.declared.scheduler.RingBufferScheduler.{RingBufferScheduler}
-use Rattle.driver.specs.Drive.{endedBy, endedIn, deliveredFor, deliveredBy, endOfStreamIn}
-use Rattle.receiver.specs.Receiver.{delivery, endOfStreamFor}
+use Rattle.driver.specs.Drive.{retriesIn, answeredIn, endedBy, endedIn, endedFor, deliveredFor, deliveredBy, deliveryFor, endOfStreamIn}
+use Rattle.receiver.specs.Receiver.{Delivery, delivery, endOfStreamFor}
+use Rattle.receiver.specs.declared.answer.Answer.{Answer}
 use Rattle.receiver.specs.declared.call.Phase.{Phase}
+use Rattle.receiver.specs.declared.call.Step.{Step}
+use Rattle.receiver.specs.declared.call.Step.the-variants.{Of}
 use Rattle.receiver.specs.declared.call.Call.{Call}
 use Rattle.receiver.specs.declared.receiver.Ended.{Ended}
 use Rattle.receiver.specs.declared.receiver.Ended.the-variants.{Accepted, Refused}
@@ -15,6 +19,23 @@ use Rattle.receiver.specs.declared.refusal.Refusal.{Refusal}
 
 pub ended-by : (c : Call) (i : ℕ) (ph : Phase) → c .phase ≡ ph → (r : Ended) → r ≡ endedBy ph c i → r ≡ endedIn c i
 ended-by c i ph e r p = p ∙ ap (λ (x : Phase). endedBy x c i) (sym e)
+
+-- what a call has come to
+module _ (x y : Step) (e : x ≡ y) where
+  pub ended-for : (i : ℕ) (r : Ended) → r ≡ endedFor y i → r ≡ endedFor x i
+  ended-for i r p = p ∙ ap (λ (z : Step). endedFor z i) (sym e)
+
+  pub delivered-for : (i : ℕ) (ring dst : List ℕ) (r : Delivery) → r ≡ deliveryFor y i ring dst → r ≡ deliveryFor x i ring dst
+  delivered-for i ring dst r p = p ∙ ap (λ (z : Step). deliveryFor z i ring dst) (sym e)
+
+  pub retries-by : (a : Answer) (r : Bool) → r ≡ retriesIn y a → r ≡ retriesIn x a
+  retries-by a r p = p ∙ ap (λ (z : Step). retriesIn z a) (sym e)
+
+  pub answered-by : (ring : List ℕ) (a : Answer) (place : ℕ) (r : Step) → r ≡ answeredIn y ring a place → r ≡ answeredIn x ring a place
+  answered-by ring a place r p = p ∙ ap (λ (z : Step). answeredIn z ring a place) (sym e)
+
+pub delivered-in : (c : Call) (i : ℕ) (ring dst : List ℕ) (e : Ended) → e ≡ endedIn c i → (r : Delivery) → r ≡ deliveredBy e (c .source) ring dst → r ≡ deliveryFor (Of c) i ring dst
+delivered-in c i ring dst e p r q = q ∙ ap (λ (x : Ended). deliveredBy x (c .source) ring dst) p
 
 pub ends-by : (e f : Ended) → e ≡ f → (r : Ended) → r ≡ endOfStreamIn f → r ≡ endOfStreamIn e
 ends-by e f h r p = p ∙ ap endOfStreamIn (sym h)

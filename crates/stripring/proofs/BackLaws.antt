@@ -28,7 +28,7 @@ use Rattle.receiver.specs.declared.state.OperationalState.the-variants.{Normal,
 use Rattle.receiver.specs.declared.state.Violation.{Violation}
 use Rattle.receiver.specs.declared.state.Violation.the-variants.{InvalidChunkAnnouncement, ControlOverflow, UnknownHeader, InvalidChunkLength}
 use Rattle.receiver.specs.State.{violationNumber}
-use Rattle.stripring.specs.Call.{endingAt, flatEnding, phaseAt, flatPhase, callAt, flatCall}
+use Rattle.stripring.specs.Call.{endingAt, flatEnding, phaseAt, flatPhase, callAt, flatCall, flatStep}
 use Rattle.stripring.specs.Counter.{boolNumber}
 use Rattle.stripring.specs.Failure.{violationAt, failureAt, flatFailure}
 use Rattle.stripring.specs.Flat.{flatRefusal, flatReceiverRefusal}
@@ -109,7 +109,6 @@ phase-back (phase.Receive top asked) = refl
 phase-back (phase.Send batch e) = ap (phase.Send batch) (ending-back e)
 phase-back (phase.Shutdown e) = ap phase.Shutdown (ending-back e)
 phase-back (phase.Finished o) = ap phase.Finished (outcome-back o)
-phase-back (phase.Refused e) = ap phase.Refused (refusal-back e)
 
 issued-back : (b : Bool) → issuedAt (boolNumber b) ≡ b
 issued-back true = refl
@@ -122,5 +121,5 @@ pub call-back : (c : Call) → callAt (flatCall c) ≡ c
 call-back c = rw (receiver-back (c .receiver), phase-back (c .phase))
 
 pub answered-flat : (c : Call) (ring : List ℕ) (a : Answer) (place : ℕ) →
-    flatCall (answeredOf (callAt (flatCall c)) ring a place) ≡ flatCall (answeredOf c ring a place)
-answered-flat c ring a place = ap (λ (x : Call). flatCall (answeredOf x ring a place)) (call-back c)
+    flatStep (answeredOf (callAt (flatCall c)) ring a place) ≡ flatStep (answeredOf c ring a place)
+answered-flat c ring a place = ap (λ (x : Call). flatStep (answeredOf x ring a place)) (call-back c)

@@ -7,17 +7,18 @@ use Rattle.receiver.specs.declared.call.Call as receiver-call
 use Rattle.receiver.specs.declared.call.Ending as receiver-ending
 use Rattle.receiver.specs.declared.call.Ending.the-variants.{Dropped, Told}
 use Rattle.receiver.specs.declared.call.Phase as receiver-phase
-use Rattle.receiver.specs.declared.call.Phase.the-variants.{Receive, Send, Shutdown, Finished, Refused}
+use Rattle.receiver.specs.declared.call.Phase.the-variants.{Receive, Send, Shutdown, Finished}
+use Rattle.receiver.specs.declared.call.Step.{Step}
+use Rattle.receiver.specs.declared.call.Step.the-variants as step
 use Rattle.stripring.specs.declared.flat.Call.{Call}
 use Rattle.stripring.specs.declared.flat.Ending.{Ending}
 use Rattle.stripring.specs.declared.flat.Outcome.{Outcome}
 use Rattle.stripring.specs.declared.flat.Phase.{Phase}
-use Rattle.stripring.specs.declared.flat.Refusal as flat
+use Rattle.stripring.specs.declared.flat.StepAnswer.{StepAnswer}
 use Rattle.stripring.specs.Flat.{noRefusal, flatReceiverRefusal}
 use Rattle.stripring.specs.Outcome.{outcomeAt, noOutcome, flatOutcome}
-use Rattle.stripring.specs.Receiver.{receiverAt, flatReceiver}
-use Rattle.stripring.specs.Refusal.{receiverRefusalAt}
-use Rattle.stripring.specs.Scheduler.{schedulerAt, flatScheduler}
+use Rattle.stripring.specs.Receiver.{receiverAt, noReceiver, flatReceiver}
+use Rattle.stripring.specs.Scheduler.{schedulerAt, noScheduler, flatScheduler}
 
 -- where `told` is 0 a failure is dropped
 unfoldable pub endingAt : Ending → receiver-ending.Ending
@@ -30,28 +31,36 @@ abbrev pub flatEnding : receiver-ending.Ending → Ending
 flatEnding (Dropped o) = record { told = 0; outcome = flatOutcome o }
 flatEnding (Told o) = record { told = 1; outcome = flatOutcome o }
 
--- kinds 0 to 2 wait, 3 is finished, any other refused
+-- kinds 0 to 2 wait, any other is finished
 unfoldable pub phaseAt : Phase → receiver-phase.Phase
 phaseAt p =
     cond (eqb (p .kind) 0) (Receive (p .«max_new_fds») (p .«dst_len»))
     (cond (eqb (p .kind) 1) (Send (p .batch) (endingAt (p .ending)))
     (cond (eqb (p .kind) 2) (Shutdown (endingAt (p .ending)))
-    (cond (eqb (p .kind) 3) (Finished (outcomeAt (p .outcome)))
-    (Refused (receiverRefusalAt (p .refusal))))))
+    (Finished (outcomeAt (p .outcome)))))
 
-abbrev pub phaseOf : ℕ → ℕ → ℕ → ℕ → Ending → Outcome → flat.Refusal → Phase
-phaseOf k top asked n e o r =
-    record { kind = k; «max_new_fds» = top; «dst_len» = asked; batch = n; ending = e; outcome = o; refusal = r }
+abbrev pub phaseOf : ℕ → ℕ → ℕ → ℕ → Ending → Outcome → Phase
+phaseOf k top asked n e o = record { kind = k; «max_new_fds» = top; «dst_len» = asked; batch = n; ending = e; outcome = o }
+
+abbrev pub noPhase : Phase
+noPhase = phaseOf 0 0 0 0 noEnding noOutcome
 
 abbrev pub flatPhase : receiver-phase.Phase → Phase
-flatPhase (Receive top asked) = phaseOf 0 top asked 0 noEnding noOutcome noRefusal
-flatPhase (Send n e) = phaseOf 1 0 0 n (flatEnding e) noOutcome noRefusal
-flatPhase (Shutdown e) = phaseOf 2 0 0 0 (flatEnding e) noOutcome noRefusal
-flatPhase (Finished o) = phaseOf 3 0 0 0 noEnding (flatOutcome o) noRefusal
-flatPhase (Refused r) = phaseOf 4 0 0 0 noEnding noOutcome (flatReceiverRefusal r)
+flatPhase (Receive top asked) = phaseOf 0 top asked 0 noEnding noOutcome
+flatPhase (Send n e) = phaseOf 1 0 0 n (flatEnding e) noOutcome
+flatPhase (Shutdown e) = phaseOf 2 0 0 0 (flatEnding e) noOutcome
+flatPhase (Finished o) = phaseOf 3 0 0 0 noEnding (flatOutcome o)
 
 abbrev pub callAt : Call → receiver-call.Call
 callAt c = of-receiver.call (receiverAt (c .receiver)) (schedulerAt (c .source)) (phaseAt (c .phase))
 
 abbrev pub flatCall : receiver-call.Call → Call
 flatCall c = record { receiver = flatReceiver (c .receiver); source = flatScheduler (c .source); phase = flatPhase (c .phase) }
+
+abbrev pub noCall : Call
+noCall = record { receiver = noReceiver; source = noScheduler; phase = noPhase }
+
+-- where it is refused every field but the refusal is 0
+abbrev pub flatStep : Step → StepAnswer
+flatStep (step.Of c) = record { refusal = noRefusal; call = flatCall c }
+flatStep (step.Refused r) = record { refusal = flatReceiverRefusal r; call = noCall }

@@ -1,21 +1,24 @@
-// A call in progress: a host begins one, does what it waits for on a socket of its own, and hands in the answer, until it is over.
+// A call in progress: a host begins one, does what it waits for on a socket of its own, and hands in the answer, until it is
+// finished. An answer that is refused leaves the call as it was.
 ghost use mathlib.Core.Path.{_≡_};
 ghost use Rattle.receiver.specs.Call.{beginReadOf, beginServiceOf, beginShutdownOf, answeredOf};
-ghost use Rattle.stripring.specs.Call.{endingAt, noEnding, flatEnding, phaseAt, flatPhase, callAt, flatCall};
+ghost use Rattle.stripring.specs.Call.{endingAt, noEnding, flatEnding, phaseAt, noPhase, flatPhase, callAt, noCall, flatCall, flatStep};
 ghost use Rattle.stripring.specs.Receiver.{receiverAt};
 use crate::flat::Call;
 use crate::flat::Ending;
 use crate::flat::Phase;
 use crate::flat::Receiver;
+use crate::flat::StepAnswer;
 use crate::flat::flat_receiver_refusal;
 use crate::flat::no_refusal;
 use crate::outcome::flat_outcome;
 use crate::outcome::no_outcome;
 use crate::outcome::outcome;
 use crate::receiver_record::flat_receiver;
+use crate::receiver_record::no_receiver;
 use crate::receiver_record::receiver_state;
-use crate::refusal::receiver_refusal;
 use crate::scheduler::flat_scheduler;
+use crate::scheduler::no_scheduler;
 use crate::scheduler::scheduler;
 use receiver::Answer;
 
@@ -58,7 +61,6 @@ fn phase(p: Phase) -> receiver::Phase
 {
     let e = p.ending;
     let o = p.outcome;
-    let refusal = p.refusal;
     if p.kind == 0 {
         return receiver::Phase::Receive {
             max_new_fds: p.max_new_fds,
@@ -74,10 +76,20 @@ fn phase(p: Phase) -> receiver::Phase
     if p.kind == 2 {
         return receiver::Phase::Shutdown(ending(e));
     }
-    if p.kind == 3 {
-        return receiver::Phase::Finished(outcome(o));
+    receiver::Phase::Finished(outcome(o))
+}
+
+fn no_phase() -> Phase
+    ensures { λ r. ⌜ r ≡ noPhase ⌝ }
+{
+    Phase {
+        kind: 0,
+        max_new_fds: 0,
+        dst_len: 0,
+        batch: 0,
+        ending: no_ending(),
+        outcome: no_outcome(),
     }
-    receiver::Phase::Refused(receiver_refusal(refusal))
 }
 
 fn flat_phase(p: receiver::Phase) -> Phase
@@ -94,7 +106,6 @@ fn flat_phase(p: receiver::Phase) -> Phase
             batch: 0,
             ending: no_ending(),
             outcome: no_outcome(),
-            refusal: no_refusal(),
         },
         receiver::Phase::Send { batch, ending } => Phase {
             kind: 1,
@@ -103,7 +114,6 @@ fn flat_phase(p: receiver::Phase) -> Phase
             batch,
             ending: flat_ending(ending),
             outcome: no_outcome(),
-            refusal: no_refusal(),
         },
         receiver::Phase::Shutdown(ending) => Phase {
             kind: 2,
@@ -112,7 +122,6 @@ fn flat_phase(p: receiver::Phase) -> Phase
             batch: 0,
             ending: flat_ending(ending),
             outcome: no_outcome(),
-            refusal: no_refusal(),
         },
         receiver::Phase::Finished(o) => Phase {
             kind: 3,
@@ -121,16 +130,6 @@ fn flat_phase(p: receiver::Phase) -> Phase
             batch: 0,
             ending: no_ending(),
             outcome: flat_outcome(o),
-            refusal: no_refusal(),
-        },
-        receiver::Phase::Refused(e) => Phase {
-            kind: 4,
-            max_new_fds: 0,
-            dst_len: 0,
-            batch: 0,
-            ending: no_ending(),
-            outcome: no_outcome(),
-            refusal: flat_receiver_refusal(e),
         },
     }
 }
@@ -161,36 +160,66 @@ fn flat_call(c: receiver::Call) -> Call
     }
 }
 
+fn no_call() -> Call
+    ensures { λ r. ⌜ r ≡ noCall ⌝ }
+{
+    Call {
+        receiver: no_receiver(),
+        source: no_scheduler(),
+        phase: no_phase(),
+    }
+}
+
+fn flat_step(step: receiver::Step) -> StepAnswer
+    ensures { λ r. ⌜ r ≡ flatStep step ⌝ }
+{
+    match step {
+        receiver::Step::Of(c) => StepAnswer {
+            refusal: no_refusal(),
+            call: flat_call(c),
+        },
+        receiver::Step::Refused(e) => StepAnswer {
+            refusal: flat_receiver_refusal(e),
+            call: no_call(),
+        },
+    }
+}
+
 #[no_mangle]
 pub extern "C" fn stripring_call_begin_read(
     q: Receiver,
     ring_len: usize,
     max_new_fds: u64,
     dst_len: u64,
-) -> Call
-    ensures { λ r. ⌜ r ≡ flatCall (beginReadOf (receiverAt q) «ring_len» «max_new_fds» «dst_len») ⌝ }
+) -> StepAnswer
+    ensures { λ r. ⌜ r ≡ flatStep (beginReadOf (receiverAt q) «ring_len» «max_new_fds» «dst_len») ⌝ }
 {
-    flat_call(receiver::Call::begin_read(receiver_state(q), ring_len, max_new_fds, dst_len))
+    flat_step(receiver::Call::begin_read(receiver_state(q), ring_len, max_new_fds, dst_len))
 }
 
 #[no_mangle]
-pub extern "C" fn stripring_call_begin_service(q: Receiver) -> Call
-    ensures { λ r. ⌜ r ≡ flatCall (beginServiceOf (receiverAt q)) ⌝ }
+pub extern "C" fn stripring_call_begin_service(q: Receiver) -> StepAnswer
+    ensures { λ r. ⌜ r ≡ flatStep (beginServiceOf (receiverAt q)) ⌝ }
 {
-    flat_call(receiver::Call::begin_service(receiver_state(q)))
+    flat_step(receiver::Call::begin_service(receiver_state(q)))
 }
 
 #[no_mangle]
-pub extern "C" fn stripring_call_begin_shutdown(q: Receiver) -> Call
-    ensures { λ r. ⌜ r ≡ flatCall (beginShutdownOf (receiverAt q)) ⌝ }
+pub extern "C" fn stripring_call_begin_shutdown(q: Receiver) -> StepAnswer
+    ensures { λ r. ⌜ r ≡ flatStep (beginShutdownOf (receiverAt q)) ⌝ }
 {
-    flat_call(receiver::Call::begin_shutdown(receiver_state(q)))
+    flat_step(receiver::Call::begin_shutdown(receiver_state(q)))
 }
 
 // The call after the answer at this place, counted from 1.
 #[no_mangle]
-pub extern "C" fn stripring_call_answered(c: Call, ring: &[u8], answer: Answer, place: u64) -> Call
-    ensures { λ r. ⌜ r ≡ flatCall (answeredOf (callAt c) (now (ring .entry)) answer place) ⌝ }
+pub extern "C" fn stripring_call_answered(
+    c: Call,
+    ring: &[u8],
+    answer: Answer,
+    place: u64,
+) -> StepAnswer
+    ensures { λ r. ⌜ r ≡ flatStep (answeredOf (callAt c) (now (ring .entry)) answer place) ⌝ }
 {
-    flat_call(call(c).answered(ring, answer, place))
+    flat_step(call(c).answered(ring, answer, place))
 }

@@ -132,7 +132,7 @@ pub struct Ending {
 }
 
 // Kind 0 waits for a receive of a byte with at most `max_new_fds` descriptors, 1 for a send of `batch` bytes and 2 for a shutdown;
-// 3 is finished and any other refused (4 in answers). What a kind does not use is 0 in answers and not looked at in a host's.
+// any other (3 in answers) is finished. What a kind does not use is 0 in answers and not looked at in a host's.
 #[repr(C)]
 pub struct Phase {
     pub kind: u64,
@@ -141,7 +141,6 @@ pub struct Phase {
     pub batch: u64,
     pub ending: Ending,
     pub outcome: Outcome,
-    pub refusal: Refusal,
 }
 
 // A call in progress. The bytes of a read are copied by `source`, before the first send: an acknowledgement allows the other process
@@ -282,6 +281,13 @@ pub struct StateAnswer {
 pub struct ReceiverAnswer {
     pub refusal: Refusal,
     pub receiver: Receiver,
+}
+
+// A call in progress after a call of the machine; where that is refused the host goes on with the one that it passed.
+#[repr(C)]
+pub struct StepAnswer {
+    pub refusal: Refusal,
+    pub call: Call,
 }
 
 // The receiver after a call, what the call came to, and how many of the socket's answers it used.

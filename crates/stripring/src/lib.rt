@@ -13,7 +13,6 @@ mod outcome;
 mod reading_end;
 mod receiver_record;
 mod receiver_run;
-mod refusal;
 mod scheduler;
 mod state;
 mod writing_end;

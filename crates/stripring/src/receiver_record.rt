@@ -40,7 +40,7 @@ pub(crate) fn receiver_state(q: Receiver) -> ReceiverState
     }
 }
 
-fn no_receiver() -> Receiver
+pub(crate) fn no_receiver() -> Receiver
     ensures { λ r. ⌜ r ≡ noReceiver ⌝ }
 {
     Receiver {

@@ -49,32 +49,31 @@ use denote.Triple.Table.{entered, cited}
 use denote.Triple.Walked.{says, Stays, stay-none-slice, stay-none, walkOf, goes-none-slice, goes-none, Walks, ends-at, walked, walk-meets}
 use denote.Exit.{yes}
 use Rattle.receiver.specs.declared.answer.Answer.{Answer}
-use Rattle.receiver.specs.declared.call.Call.{Call}
+use Rattle.receiver.specs.declared.call.Step.{Step}
 use Rattle.driver.specs.declared.drive.Driven.{Driven}
 use Rattle.driver.specs.declared.drive.Fetched.{Fetched}
 use Rattle.driver.specs.declared.drive.Fetched.the-variants.{Got, Missing}
-use Rattle.receiver.specs.Call.{answeredOf, overOf, retriesOf}
-use Rattle.driver.specs.Drive.{fetchedOf, driven, waitedOf, drivenFrom, drivenOf}
+use Rattle.driver.specs.Drive.{fetchedOf, overIn, retriesIn, answeredIn, driven, waitedOf, drivenFrom, drivenOf}
 use Rattle.receiver.proofs.answer.Answer as T
 use Rattle.receiver.proofs.answer.Answer.Laws as T′
 use Rattle.driver.proofs.drive.Fetched as F
 use Rattle.driver.proofs.drive.Fetched.Laws as F′
-use Rattle.receiver.proofs.call.Call as K
-use Rattle.receiver.proofs.call.Call.Laws as K′
+use Rattle.receiver.proofs.call.Step as K
+use Rattle.receiver.proofs.call.Step.Laws as K′
 use Rattle.driver.proofs.drive.Driven as D
 use Rattle.driver.proofs.drive.Driven.Laws as D′
-use Rattle.receiver.proofs.call.Call.is_over as g₀
-use Rattle.receiver.proofs.call.Call.is_over.Symbol as g₀-def
-use Rattle.receiver.proofs.call.Call.is_over.Met as g₀-thm
+use Rattle.driver.proofs.drive.is_over as g₀
+use Rattle.driver.proofs.drive.is_over.Symbol as g₀-def
+use Rattle.driver.proofs.drive.is_over.Met as g₀-thm
 use Rattle.driver.proofs.drive.fetch as g₁
 use Rattle.driver.proofs.drive.fetch.Symbol as g₁-def
 use Rattle.driver.proofs.drive.fetch.Met as g₁-thm
-use Rattle.receiver.proofs.call.Call.retries as g₂
-use Rattle.receiver.proofs.call.Call.retries.Symbol as g₂-def
-use Rattle.receiver.proofs.call.Call.retries.Met as g₂-thm
-use Rattle.receiver.proofs.call.Call.answered as g₃
-use Rattle.receiver.proofs.call.Call.answered.Symbol as g₃-def
-use Rattle.receiver.proofs.call.Call.answered.Met as g₃-thm
+use Rattle.driver.proofs.drive.retries as g₂
+use Rattle.driver.proofs.drive.retries.Symbol as g₂-def
+use Rattle.driver.proofs.drive.retries.Met as g₂-thm
+use Rattle.driver.proofs.drive.answered as g₃
+use Rattle.driver.proofs.drive.answered.Symbol as g₃-def
+use Rattle.driver.proofs.drive.answered.Met as g₃-thm
 use Rattle.driver.proofs.drive.drive.Key.{name as #drive}
 use Rattle.driver.proofs.drive.drive as f
 use Rattle.driver.proofs.drive.drive.Statement as stated
@@ -99,11 +98,11 @@ fval = EL.val F.the-type F′.the-laws
 abbrev Ca : RattleType
 Ca = K.the-row
 
-abbrev cvals : Call → List Val
-cvals = LL.vals K.the-type K′.the-laws
+abbrev cvals : Step → List Val
+cvals = EL.vals K.the-type K′.the-laws
 
-abbrev cval : Call → Val
-cval = LL.val K.the-type K′.the-laws
+abbrev cval : Step → Val
+cval = EL.val K.the-type K′.the-laws
 
 abbrev Dr : RattleType
 Dr = D.the-row
@@ -189,20 +188,20 @@ module _ {M : Type 1} (𝓤 : URA M) (H : Heap 𝓤) (A : Atoms 𝓤) (mem : Mem
   abbrev Ans : Contract 𝓤
   Ans = tripleOf 𝓤 H A g₃.signature (g₃.spec 𝓤 H A mem run)
 
-  over-of : (c : Call) (r : Bool) → ent 𝓤 (ensured 𝓤 H A g₀.ended (g₀.clauses 𝓤 H A mem run) tt (c, tt) tt r) (fact 𝓤 (r ≡ overOf c))
-  over-of c r = exE 𝓤 _ (λ ws. snd∗ 𝓤 (sem 𝓤 H A (lasts g₀.ended tt (c, tt) ws)) (fact 𝓤 (r ≡ overOf c)))
+  over-of : (c : Step) (r : Bool) → ent 𝓤 (ensured 𝓤 H A g₀.ended (g₀.clauses 𝓤 H A mem run) tt (c, tt) tt r) (fact 𝓤 (r ≡ overIn c))
+  over-of c r = exE 𝓤 _ (λ ws. snd∗ 𝓤 (sem 𝓤 H A (lasts g₀.ended tt (c, tt) ws)) (fact 𝓤 (r ≡ overIn c)))
 
   get-of : (κ : Lft) (x : RefT (List Answer)) (i : ℕ) (r : Fetched) → ent 𝓤 (ensured 𝓤 H A g₁.ended (g₁.clauses 𝓤 H A mem run) (κ, tt) (x, (i, tt)) tt r) (fact 𝓤 (r ≡ fetchedOf (x .now) i))
   get-of κ x i r = exE 𝓤 _ (λ ws. snd∗ 𝓤 (sem 𝓤 H A (lasts g₁.ended (κ, tt) (x, (i, tt)) ws)) (fact 𝓤 (r ≡ fetchedOf (x .now) i)))
 
-  try-of : (c : Call) (a : Answer) (r : Bool) → ent 𝓤 (ensured 𝓤 H A g₂.ended (g₂.clauses 𝓤 H A mem run) tt (c, (a, tt)) tt r) (fact 𝓤 (r ≡ retriesOf c a))
-  try-of c a r = exE 𝓤 _ (λ ws. snd∗ 𝓤 (sem 𝓤 H A (lasts g₂.ended tt (c, (a, tt)) ws)) (fact 𝓤 (r ≡ retriesOf c a)))
+  try-of : (c : Step) (a : Answer) (r : Bool) → ent 𝓤 (ensured 𝓤 H A g₂.ended (g₂.clauses 𝓤 H A mem run) tt (c, (a, tt)) tt r) (fact 𝓤 (r ≡ retriesIn c a))
+  try-of c a r = exE 𝓤 _ (λ ws. snd∗ 𝓤 (sem 𝓤 H A (lasts g₂.ended tt (c, (a, tt)) ws)) (fact 𝓤 (r ≡ retriesIn c a)))
 
-  ans-of : (κ : Lft) (c : Call) (x : RefT (List ℕ)) (a : Answer) (place : ℕ) (r : Call) → ent 𝓤 (ensured 𝓤 H A g₃.ended (g₃.clauses 𝓤 H A mem run) (κ, tt) (c, (x, (a, (place, tt)))) tt r) (fact 𝓤 (r ≡ answeredOf c (x .now) a place))
-  ans-of κ c x a place r = exE 𝓤 _ (λ ws. snd∗ 𝓤 (sem 𝓤 H A (lasts g₃.ended (κ, tt) (c, (x, (a, (place, tt)))) ws)) (fact 𝓤 (r ≡ answeredOf c (x .now) a place)))
+  ans-of : (κ : Lft) (c : Step) (x : RefT (List ℕ)) (a : Answer) (place : ℕ) (r : Step) → ent 𝓤 (ensured 𝓤 H A g₃.ended (g₃.clauses 𝓤 H A mem run) (κ, tt) (c, (x, (a, (place, tt)))) tt r) (fact 𝓤 (r ≡ answeredIn c (x .now) a place))
+  ans-of κ c x a place r = exE 𝓤 _ (λ ws. snd∗ 𝓤 (sem 𝓤 H A (lasts g₃.ended (κ, tt) (c, (x, (a, (place, tt)))) ws)) (fact 𝓤 (r ≡ answeredIn c (x .now) a place)))
 
 module _ {M : Type 1} (𝓤 : URA M) (H : Heap 𝓤) (A : Atoms 𝓤) (W : Given 𝓤 H A) (mem : Memory → SProp 𝓤) (run : Routine → Fun 𝓤) (κ κ₁ : Lft) (q q₁ : Share) (b o : ℕ) (γ : GName) (rs : List ℕ) (b₁ o₁ : ℕ) (γ₁ : GName) (ys : List Answer)
-    (c₀ : Call) (is₀ : Is Ca c₀ (cvals c₀)) (gm : Room u8 (length rs)) (gn : Room R (length ys)) where
+    (c₀ : Step) (is₀ : Is Ca c₀ (cvals c₀)) (gm : Room u8 (length rs)) (gn : Room R (length ys)) where
   abbrev m : ℕ
   m = length rs
 
@@ -215,7 +214,7 @@ module _ {M : Type 1} (𝓤 : URA M) (H : Heap 𝓤) (A : Atoms 𝓤) (W : Given
   abbrev ref : RefT (List Answer)
   ref = record { ptr = (b₁, o₁); name = γ₁; now = ys }
 
-  abbrev x : Call × (RefT (List ℕ) × (RefT (List Answer) × Unit {0}))
+  abbrev x : Step × (RefT (List ℕ) × (RefT (List Answer) × Unit {0}))
   x = (c₀, (ring, (ref, tt)))
 
   abbrev at : Vals f.signature (κ, (κ₁, tt))
@@ -233,7 +232,7 @@ module _ {M : Type 1} (𝓤 : URA M) (H : Heap 𝓤) (A : Atoms 𝓤) (W : Given
   abbrev all : Driven
   all = drivenOf c₀ rs ys
 
-  is-driven : (c : Call) (i : ℕ) → Is Ca c (cvals c) → i < 2 ^ 64 → Is Dr (driven c i) (dval (driven c i) ∷ [])
+  is-driven : (c : Step) (i : ℕ) → Is Ca c (cvals c) → i < 2 ^ 64 → Is Dr (driven c i) (dval (driven c i) ∷ [])
   is-driven c i is fits = LL.owes D.the-type D′.the-laws (driven c i) (is, ((refl, fits), tt))
 
   exits : (d : Driven) → d ≡ all → Is Dr d (dval d ∷ []) → ent 𝓤 (⋆ 𝓤 H A (‵ (flft κ q) ∷ ‵ (flft κ₁ q₁) ∷ ‵ Ring ∷ ‵ Run ∷ [])) (Post (dval d))
@@ -241,11 +240,11 @@ module _ {M : Type 1} (𝓤 : URA M) (H : Heap 𝓤) (A : Atoms 𝓤) (W : Given
       qed W (‵ (flft κ q) ∷ ‵ (flft κ₁ q₁) ∷ ‵ Ring ∷ ‵ Run ∷ []) ∵
       suffices ! _ (ends-at 𝓤 H A f.ended stayed (f.clauses 𝓤 H A mem run) W (((κ, (κ₁, tt)), (q, (q₁, tt)), tt, x, at), tt) (dval d) d (tt, (tt, (tt, tt))) (tt, (tt, (tt, tt)))) $ says ! e $
       nothing ! $ move ! (2 ∷ 0 ∷ []) $ join ! $ move ! (1 ∷ 0 ∷ []) $ join ! $ frame ! $ nothing ! $ move ! (2 ∷ 0 ∷ []) $ fjoin ! $ move ! (1 ∷ 0 ∷ []) $ fjoin ! $
-      owned ! Ca (Is Ca) (LL.makes K.the-type K′.the-plain 𝓤 H A) c₀ _ is₀ $ fjoin ! $ frame ! $ owned ! Dr (Is Dr) (LL.makes D.the-type D′.the-plain 𝓤 H A) d _ is $ done !
+      owned ! Ca (Is Ca) (EL.makes K.the-type K′.the-plain 𝓤 H A) c₀ _ is₀ $ fjoin ! $ frame ! $ owned ! Dr (Is Dr) (LL.makes D.the-type D′.the-plain 𝓤 H A) d _ is $ done !
 
   -- ---- where a turn of the outer loop stands: the answers used, and the call
   abbrev Turn : Type 0
-  Turn = (i : ℕ) × ((c : Call) × ((i ≤ n) × ((drivenFrom i c rs (dropped i ys) ≡ all) × Is Ca c (cvals c))))
+  Turn = (i : ℕ) × ((c : Step) × ((i ≤ n) × ((drivenFrom i c rs (dropped i ys) ≡ all) × Is Ca c (cvals c))))
 
   abbrev Nearer : Turn → Turn → Type 0
   Nearer u t = n - u .0 < n - t .0
@@ -266,11 +265,11 @@ module _ {M : Type 1} (𝓤 : URA M) (H : Heap 𝓤) (A : Atoms 𝓤) (W : Given
   abbrev begun : Turn
   begun = (0, (c₀, (zero-le, (refl, is₀))))
 
-  over : (t : Turn) → overOf (t .1 .0) ≡ true → driven (t .1 .0) (t .0) ≡ all
-  over t e = at-true (overOf (t .1 .0)) _ _ all e (t .1 .1 .1 .0)
+  over : (t : Turn) → overIn (t .1 .0) ≡ true → driven (t .1 .0) (t .0) ≡ all
+  over t e = at-true (overIn (t .1 .0)) _ _ all e (t .1 .1 .1 .0)
 
-  abbrev waiting : (t : Turn) → overOf (t .1 .0) ≡ false → Wait t
-  waiting t e = (t .0, (omega arith, (t .1 .1 .0, at-false (overOf (t .1 .0)) _ _ all e (t .1 .1 .1 .0))))
+  abbrev waiting : (t : Turn) → overIn (t .1 .0) ≡ false → Wait t
+  waiting t e = (t .0, (omega arith, (t .1 .1 .0, at-false (overIn (t .1 .0)) _ _ all e (t .1 .1 .1 .0))))
 
   is-got : (i : ℕ) (a : Answer) → Got a ≡ fetchedOf ys i → IsGot (fetchedOf ys i)
   is-got i a g = subst IsGot g tt
@@ -279,17 +278,17 @@ module _ {M : Type 1} (𝓤 : URA M) (H : Heap 𝓤) (A : Atoms 𝓤) (W : Given
   less i a g = got-less ys i (is-got i a g)
 
   at-wait : (t : Turn) (u : Wait t) (a : Answer) → Got a ≡ fetchedOf ys (u .0)
-      → cond (retriesOf (t .1 .0) a) (waitedOf (suc (u .0)) (t .1 .0) rs (dropped (suc (u .0)) ys)) (drivenFrom (suc (u .0)) (answeredOf (t .1 .0) rs a (suc (u .0))) rs (dropped (suc (u .0)) ys)) ≡ all
+      → cond (retriesIn (t .1 .0) a) (waitedOf (suc (u .0)) (t .1 .0) rs (dropped (suc (u .0)) ys)) (drivenFrom (suc (u .0)) (answeredIn (t .1 .0) rs a (suc (u .0))) rs (dropped (suc (u .0)) ys)) ≡ all
   at-wait t u a g = ap (λ (p : Fetched). waitedOf (u .0) (t .1 .0) rs (orElse a p ∷ dropped (suc (u .0)) ys)) g ∙ sym (ap (waitedOf (u .0) (t .1 .0) rs) (got-cons ys (u .0) a (is-got (u .0) a g))) ∙ u .1 .1 .1
 
-  abbrev passed : (t : Turn) (u : Wait t) (a : Answer) → Got a ≡ fetchedOf ys (u .0) → retriesOf (t .1 .0) a ≡ true → Wait t
-  passed t u a g e = (u .0 + 1, (omega (arith, u .1 .0), (add-one-le (less (u .0) a g), ap (λ (k : ℕ). waitedOf k (t .1 .0) rs (dropped k ys)) (add-one (u .0)) ∙ at-true (retriesOf (t .1 .0) a) _ _ all e (at-wait t u a g))))
+  abbrev passed : (t : Turn) (u : Wait t) (a : Answer) → Got a ≡ fetchedOf ys (u .0) → retriesIn (t .1 .0) a ≡ true → Wait t
+  passed t u a g e = (u .0 + 1, (omega (arith, u .1 .0), (add-one-le (less (u .0) a g), ap (λ (k : ℕ). waitedOf k (t .1 .0) rs (dropped k ys)) (add-one (u .0)) ∙ at-true (retriesIn (t .1 .0) a) _ _ all e (at-wait t u a g))))
 
   -- the answer is no interruption, and `answered` makes r of it
-  given-answer : (t : Turn) (u : Wait t) (a : Answer) (r : Call) → Got a ≡ fetchedOf ys (u .0) → retriesOf (t .1 .0) a ≡ false → r ≡ answeredOf (t .1 .0) rs a (u .0 + 1) → drivenFrom (u .0 + 1) r rs (dropped (u .0 + 1) ys) ≡ all
-  given-answer t u a r g non e = ap (λ (p : Call). drivenFrom (u .0 + 1) p rs (dropped (u .0 + 1) ys)) e ∙ ap (λ (k : ℕ). drivenFrom k (answeredOf (t .1 .0) rs a k) rs (dropped k ys)) (add-one (u .0)) ∙ at-false (retriesOf (t .1 .0) a) _ _ all non (at-wait t u a g)
+  given-answer : (t : Turn) (u : Wait t) (a : Answer) (r : Step) → Got a ≡ fetchedOf ys (u .0) → retriesIn (t .1 .0) a ≡ false → r ≡ answeredIn (t .1 .0) rs a (u .0 + 1) → drivenFrom (u .0 + 1) r rs (dropped (u .0 + 1) ys) ≡ all
+  given-answer t u a r g non e = ap (λ (p : Step). drivenFrom (u .0 + 1) p rs (dropped (u .0 + 1) ys)) e ∙ ap (λ (k : ℕ). drivenFrom k (answeredIn (t .1 .0) rs a k) rs (dropped k ys)) (add-one (u .0)) ∙ at-false (retriesIn (t .1 .0) a) _ _ all non (at-wait t u a g)
 
-  abbrev goes-on : (t : Turn) (u : Wait t) (a : Answer) (r : Call) → Got a ≡ fetchedOf ys (u .0) → retriesOf (t .1 .0) a ≡ false → r ≡ answeredOf (t .1 .0) rs a (u .0 + 1) → Is Ca r (cvals r) → Turn
+  abbrev goes-on : (t : Turn) (u : Wait t) (a : Answer) (r : Step) → Got a ≡ fetchedOf ys (u .0) → retriesIn (t .1 .0) a ≡ false → r ≡ answeredIn (t .1 .0) rs a (u .0 + 1) → Is Ca r (cvals r) → Turn
   goes-on t u a r g non e is = (u .0 + 1, (r, (add-one-le (less (u .0) a g), (given-answer t u a r g non e, is))))
 
   runs-out : (t : Turn) (u : Wait t) → Missing ≡ fetchedOf ys (u .0) → driven (t .1 .0) (u .0) ≡ all
@@ -305,11 +304,11 @@ module _ {M : Type 1} (𝓤 : URA M) (H : Heap 𝓤) (A : Atoms 𝓤) (W : Given
   nearer t u l = omega (arith, u .1 .0, l)
 
   -- ---- the calls
-  abbrev to-over : Call → Over 𝓤 H A mem run .Ghost
+  abbrev to-over : Step → Over 𝓤 H A mem run .Ghost
   to-over c = ((tt, tt, tt, (c, tt), (cvals c, tt)), tt)
 
-  goes-over : (c : Call) → Is Ca c (cvals c) → ent 𝓤 (sem 𝓤 H A ftrue) (Over 𝓤 H A mem run .pre (to-over c))
-  goes-over c is = qed W (‵ ftrue ∷ []) ∵ owned ! Ca (Is Ca) (LL.makes K.the-type K′.the-plain 𝓤 H A) c _ is $ join ! $ nothing ! $ join ! $ frame ! $ done !
+  goes-over : (c : Step) → Is Ca c (cvals c) → ent 𝓤 (sem 𝓤 H A ftrue) (Over 𝓤 H A mem run .pre (to-over c))
+  goes-over c is = qed W (‵ ftrue ∷ []) ∵ owned ! Ca (Is Ca) (EL.makes K.the-type K′.the-plain 𝓤 H A) c _ is $ join ! $ nothing ! $ join ! $ frame ! $ done !
 
   abbrev to-get : ℕ → Get 𝓤 H A mem run .Ghost
   to-get i = (((κ₁, tt), (q₁, tt), tt, (ref, (i, tt)), (sliceVal (b₁, o₁) n ∷ [], (vint w64 i ∷ [], tt))), tt)
@@ -318,23 +317,23 @@ module _ {M : Type 1} (𝓤 : URA M) (H : Heap 𝓤) (A : Atoms 𝓤) (W : Given
   goes-get i fits =
       qed W (‵ (flft κ₁ q₁) ∷ ‵ Run ∷ []) ∵ nothing ! $ move ! (1 ∷ 0 ∷ []) $ join ! $ nothing ! $ owned ! u64 (Is u64) (uint-makes 𝓤 H A W w64) i _ (refl, fits) $ join ! $ move ! (2 ∷ 0 ∷ []) $ join ! $ move ! (1 ∷ 0 ∷ []) $ join ! $ frame ! $ done !
 
-  abbrev to-try : Call → Answer → Try 𝓤 H A mem run .Ghost
+  abbrev to-try : Step → Answer → Try 𝓤 H A mem run .Ghost
   to-try c a = ((tt, tt, tt, (c, (a, tt)), (cvals c, (vals a, tt))), tt)
 
-  goes-try : (c : Call) (a : Answer) → Is Ca c (cvals c) → Is R a (vals a) → ent 𝓤 (sem 𝓤 H A ftrue) (Try 𝓤 H A mem run .pre (to-try c a))
+  goes-try : (c : Step) (a : Answer) → Is Ca c (cvals c) → Is R a (vals a) → ent 𝓤 (sem 𝓤 H A ftrue) (Try 𝓤 H A mem run .pre (to-try c a))
   goes-try c a is ia =
-      qed W (‵ ftrue ∷ []) ∵ owned ! R (Is R) (LL.makes T.the-type T′.the-plain 𝓤 H A) a _ ia $ join ! $ owned ! Ca (Is Ca) (LL.makes K.the-type K′.the-plain 𝓤 H A) c _ is $ join ! $ nothing ! $ join ! $ frame ! $ done !
+      qed W (‵ ftrue ∷ []) ∵ owned ! R (Is R) (LL.makes T.the-type T′.the-plain 𝓤 H A) a _ ia $ join ! $ owned ! Ca (Is Ca) (EL.makes K.the-type K′.the-plain 𝓤 H A) c _ is $ join ! $ nothing ! $ join ! $ frame ! $ done !
 
-  abbrev to-ans : Call → Answer → ℕ → Ans 𝓤 H A mem run .Ghost
+  abbrev to-ans : Step → Answer → ℕ → Ans 𝓤 H A mem run .Ghost
   to-ans c a i = (((κ, tt), (q, tt), tt, (c, (ring, (a, (i, tt)))), (cvals c, (sliceVal (b, o) m ∷ [], (vals a, (vint w64 i ∷ [], tt))))), tt)
 
-  goes-ans : (c : Call) (a : Answer) (i : ℕ) → Is Ca c (cvals c) → Is R a (vals a) → i < 2 ^ 64 → ent 𝓤 (⋆ 𝓤 H A (‵ (flft κ q) ∷ ‵ Ring ∷ [])) (Ans 𝓤 H A mem run .pre (to-ans c a i))
+  goes-ans : (c : Step) (a : Answer) (i : ℕ) → Is Ca c (cvals c) → Is R a (vals a) → i < 2 ^ 64 → ent 𝓤 (⋆ 𝓤 H A (‵ (flft κ q) ∷ ‵ Ring ∷ [])) (Ans 𝓤 H A mem run .pre (to-ans c a i))
   goes-ans c a i is ia fits =
       qed W (‵ (flft κ q) ∷ ‵ Ring ∷ []) ∵ nothing ! $ move ! (1 ∷ 0 ∷ []) $ join ! $ nothing ! $ owned ! u64 (Is u64) (uint-makes 𝓤 H A W w64) i _ (refl, fits) $ join ! $ owned ! R (Is R) (LL.makes T.the-type T′.the-plain 𝓤 H A) a _ ia $ join ! $ move ! (2 ∷ 0 ∷ []) $ join ! $
-      owned ! Ca (Is Ca) (LL.makes K.the-type K′.the-plain 𝓤 H A) c _ is $ join ! $ move ! (1 ∷ 0 ∷ []) $ join ! $ frame ! $ done !
+      owned ! Ca (Is Ca) (EL.makes K.the-type K′.the-plain 𝓤 H A) c _ is $ join ! $ move ! (1 ∷ 0 ∷ []) $ join ! $ frame ! $ done !
 
-  is-of : (r : Call) (v : Val) → Is Ca r (v ∷ []) → Is Ca r (cvals r)
-  is-of r v ir = LL.owes K.the-type K′.the-laws r (LL.owed K.the-type K′.the-laws r (v ∷ []) ir)
+  is-of : (r : Step) (v : Val) → Is Ca r (v ∷ []) → Is Ca r (cvals r)
+  is-of r v ir = EL.owes K.the-type K′.the-laws r (EL.owed K.the-type K′.the-laws r (v ∷ []) ir)
 
   module _ (𝓣 : Tables 𝓤 H) (ask : Triple 𝓤 (𝓣 .C g₀-def.name) (Over 𝓤 H A mem run)) (get : Triple 𝓤 (𝓣 .C g₁-def.name) (Get 𝓤 H A mem run)) (try : Triple 𝓤 (𝓣 .C g₂-def.name) (Try 𝓤 H A mem run)) (ans : Triple 𝓤 (𝓣 .C g₃-def.name) (Ans 𝓤 H A mem run))
       (l₀ l₁ l₂ l₃ l₄ l₅ l₆ l₇ l₈ l₉ l₁₀ l₁₁ : ℕ) where
@@ -357,14 +356,14 @@ module _ {M : Type 1} (𝓤 : URA M) (H : Heap 𝓤) (A : Atoms 𝓤) (W : Given
     En = (D′.mir, l₀) ∷ (K′.mir, l₁) ∷ (bytes, l₂) ∷ (slice, l₃) ∷ (K′.mir, l₄) ∷ (word, l₅) ∷ (T′.mir, l₆) ∷ (T′.mir, l₇) ∷ (tyBool, l₈) ∷ (T′.mir, l₉) ∷ (F′.mir, l₁₀) ∷ (tyBool, l₁₁) ∷ []
 
     -- [_11; …; _10; …; …; _0; …; the run's token (24); the run; the ring's token; the ring]: local k stands at 2 (11 - k), with what was fetched (_10), what the inner loop yields (_9), the answer (_7), i and c as said
-    abbrev At : Item 𝓤 → Item 𝓤 → Item 𝓤 → ℕ → Call → List (Item 𝓤)
+    abbrev At : Item 𝓤 → Item 𝓤 → Item 𝓤 → ℕ → Step → List (Item 𝓤)
     At p y z i c = ‵ (froom tyBool l₁₁ 0) ∷ ‵ (fdies tyBool l₁₁) ∷ p ∷ ‵ (fdies F′.mir l₁₀) ∷ y ∷ ‵ (fdies T′.mir l₉) ∷ ‵ (froom tyBool l₈ 0) ∷ ‵ (fdies tyBool l₈) ∷ z ∷ ‵ (fdies T′.mir l₇) ∷ ‵ (froom T′.mir l₆ 0) ∷ ‵ (fdies T′.mir l₆)
         ∷ ‵ (fat fullShare word l₅ 0 (vint w64 i)) ∷ ‵ (fdies word l₅) ∷ ‵ (fat fullShare K′.mir l₄ 0 (cval c)) ∷ ‵ (fdies K′.mir l₄) ∷ ‵ (fat fullShare slice l₃ 0 (sliceVal (b₁, o₁) n)) ∷ ‵ (fdies slice l₃)
         ∷ ‵ (fat fullShare bytes l₂ 0 (sliceVal (b, o) m)) ∷ ‵ (fdies bytes l₂) ∷ ‵ (fat fullShare K′.mir l₁ 0 (cval c₀)) ∷ ‵ (fdies K′.mir l₁) ∷ ‵ (froom D′.mir l₀ 0) ∷ ‵ (fdies D′.mir l₀)
         ∷ ‵ (flft κ₁ q₁) ∷ ‵ Run ∷ ‵ (flft κ q) ∷ ‵ Ring ∷ []
 
     -- between the statements that use them, the three hold nothing
-    abbrev Idle : ℕ → Call → List (Item 𝓤)
+    abbrev Idle : ℕ → Step → List (Item 𝓤)
     Idle i c = At (‵ (froom F′.mir l₁₀ 0)) (‵ (froom T′.mir l₉ 0)) (‵ (froom T′.mir l₇ 0)) i c
 
     abbrev AtTurn : Turn → List (Item 𝓤)
@@ -394,7 +393,7 @@ module _ {M : Type 1} (𝓤 : URA M) (H : Heap 𝓤) (A : Atoms 𝓤) (W : Given
     Yielded t u = afterTurn 𝓤 H (Below 𝓤 H A (Closer t) (AtWait t) u) (afterBlock 𝓤 H (afterSeq 𝓤 H (Wp 𝓤 H C Λ En after-loop (Turned t)) (Turned t)))
 
     -- what follows the loops
-    leaves : (i : ℕ) (c : Call) → driven c i ≡ all → i < 2 ^ 64 → Is Ca c (cvals c) → Sq W (Idle i c) (runs C Λ En mir.t-4 (atRet En Post))
+    leaves : (i : ℕ) (c : Step) → driven c i ≡ all → i < 2 ^ 64 → Is Ca c (cvals c) → Sq W (Idle i c) (runs C Λ En mir.t-4 (atRet En Post))
     leaves i c e fits is =
         assigns ! (agg ! (and-then ! (load ! (from ! (stop !)) (look ! 14 refl)) (and-then ! (load ! (from ! (stop !)) (look ! 12 refl)) (no-more !)))) (from ! (stop !)) (init ! 22 refl (LL.lawful D.the-type D′.the-laws 𝓤 H A W .typed (driven c i) _ (is-driven c i is fits) .0)) $
         returns ! (look ! 22 refl) $ forget ! 12 refl $ forget ! 14 refl $ forget ! 16 refl $ forget ! 18 refl $ forget ! 20 refl $ forget ! 22 refl $
@@ -403,7 +402,7 @@ module _ {M : Type 1} (𝓤 : URA M) (H : Heap 𝓤) (A : Atoms 𝓤) (W : Given
         keep ! (2 ∷ 0 ∷ 3 ∷ 1 ∷ []) $ by ! (exits (driven c i) e (is-driven c i is fits))
 
     -- what follows the inner loop, which has yielded the answer a of the turn u
-    tail : (t : Turn) (u : Wait t) (a : Answer) → Got a ≡ fetchedOf ys (u .0) → retriesOf (t .1 .0) a ≡ false → Is R a (vals a)
+    tail : (t : Turn) (u : Wait t) (a : Answer) → Got a ≡ fetchedOf ys (u .0) → retriesIn (t .1 .0) a ≡ false → Is R a (vals a)
         → Sq W (At (‵ (froom F′.mir l₁₀ 0)) (‵ (fat fullShare T′.mir l₉ 0 (val a))) (‵ (froom T′.mir l₇ 0)) (u .0 + 1) (t .1 .0)) (runs C Λ En after-loop (anyQ (Turned t)))
     unfolding afterTurn
     tail t u a g non ia =
@@ -413,17 +412,17 @@ module _ {M : Type 1} (𝓤 : URA M) (H : Heap 𝓤) (A : Atoms 𝓤) (W : Given
         use2 W (raw (Ans 𝓤 H A mem run .pre (to-ans c a i))) (goes-ans c a i (t .1 .1 .1 .1) ia (fits-next (u .0) (less (u .0) a g))) $
         -- [what `answered` asks; the ring; _11; …]
         calls-at-last ! (fmOf 𝓤 H (W .laws) 𝓣) (Ans 𝓤 H A mem run) ans (to-ans c a i) (and-then ! (load ! (from ! (stop !)) (look ! 16 refl)) (and-then ! (load ! (from ! (stop !)) (look ! 20 refl)) (and-then ! (load ! (from ! (stop !)) (look ! 12 refl)) (and-then ! (load ! (from ! (stop !)) (look ! 14 refl)) (no-more !))))) (λ v.
-        use1 W (later (some (λ (r : Call). ((‵ (flft κ q) ⊛ ‵ ftrue) ⊛ ‵ (Ca .own r (v ∷ []))) ⊛ raw (ensured 𝓤 H A g₃.ended (g₃.clauses 𝓤 H A mem run) (κ, tt) (c, (ring, (a, (i, tt)))) tt r)))) (id⊢ 𝓤 _) $ await ! tt $ pick ! (λ r.
-        split ! $ move ! (1 ∷ []) $ use1 W (raw (fact 𝓤 (r ≡ answeredOf c rs a i))) (ans-of 𝓤 H A mem run κ c ring a i r) $ heard ! (r ≡ answeredOf c rs a i) (λ e. split ! $ move ! (1 ∷ []) $
+        use1 W (later (some (λ (r : Step). ((‵ (flft κ q) ⊛ ‵ ftrue) ⊛ ‵ (Ca .own r (v ∷ []))) ⊛ raw (ensured 𝓤 H A g₃.ended (g₃.clauses 𝓤 H A mem run) (κ, tt) (c, (ring, (a, (i, tt)))) tt r)))) (id⊢ 𝓤 _) $ await ! tt $ pick ! (λ r.
+        split ! $ move ! (1 ∷ []) $ use1 W (raw (fact 𝓤 (r ≡ answeredIn c rs a i))) (ans-of 𝓤 H A mem run κ c ring a i r) $ heard ! (r ≡ answeredIn c rs a i) (λ e. split ! $ move ! (1 ∷ []) $
         peeks ! Ca (Is Ca) (shows 𝓤 H A Ca) r (v ∷ []) (λ ir.
-        land-last ! (from ! (stop !)) (store ! 17 refl (LL.lawful K.the-type K′.the-laws 𝓤 H A W .typed r _ ir .0)) $ drop ! $
-        rewrite ! 16 (λ (w : Val). ‵ (fat fullShare K′.mir l₄ 0 w)) (ap only (LL.tells K.the-type K′.the-laws r (v ∷ []) ir)) refl $
+        land-last ! (from ! (stop !)) (store ! 17 refl (EL.lawful K.the-type K′.the-laws 𝓤 H A W tt .typed r _ ir .0)) $ drop ! $
+        rewrite ! 16 (λ (w : Val). ‵ (fat fullShare K′.mir l₄ 0 w)) (ap only (EL.tells K.the-type K′.the-laws r (v ∷ []) ir)) refl $
         -- [the ring's token and true; the ring; _11; …]
         forget ! 6 refl $ forget ! 12 refl $ split ! $
         keep ! (3 ∷ 4 ∷ 5 ∷ 6 ∷ 7 ∷ 8 ∷ 9 ∷ 10 ∷ 11 ∷ 12 ∷ 13 ∷ 14 ∷ 15 ∷ 16 ∷ 17 ∷ 18 ∷ 19 ∷ 20 ∷ 21 ∷ 22 ∷ 23 ∷ 24 ∷ 25 ∷ 26 ∷ 27 ∷ 28 ∷ 0 ∷ 2 ∷ []) $
         again ! Nearer AtTurn t (goes-on t u a r g non e (is-of r v ir)) (nearer t u (less (u .0) a g))))))
       where
-        c : Call
+        c : Step
         c = t .1 .0
 
         i : ℕ
@@ -438,17 +437,17 @@ module _ {M : Type 1} (𝓤 : URA M) (H : Heap 𝓤) (A : Atoms 𝓤) (W : Given
         nothing ! $ use1 W (raw (Try 𝓤 H A mem run .pre (to-try c a))) (goes-try c a (t .1 .1 .1 .1) ia) $
         calls-at ! (fmOf 𝓤 H (W .laws) 𝓣) (Try 𝓤 H A mem run) try (to-try c a) (and-then ! (load ! (from ! (stop !)) (look ! 15 refl)) (and-then ! (load ! (from ! (stop !)) (look ! 9 refl)) (no-more !))) (λ w.
         use1 W (later (some (λ (z : Bool). (‵ ftrue ⊛ ‵ (bool .own z (w ∷ []))) ⊛ raw (ensured 𝓤 H A g₂.ended (g₂.clauses 𝓤 H A mem run) tt (c, (a, tt)) tt z)))) (id⊢ 𝓤 _) $ await ! tt $ pick ! (λ z.
-        split ! $ move ! (1 ∷ []) $ use1 W (raw (fact 𝓤 (z ≡ retriesOf c a))) (try-of 𝓤 H A mem run c a z) $ heard ! (z ≡ retriesOf c a) (λ k. split ! $ drop ! $
+        split ! $ move ! (1 ∷ []) $ use1 W (raw (fact 𝓤 (z ≡ retriesIn c a))) (try-of 𝓤 H A mem run c a z) $ heard ! (z ≡ retriesIn c a) (λ k. split ! $ drop ! $
         peeks ! bool (Is bool) (shows 𝓤 H A bool) z (w ∷ []) (λ iz.
         land ! (from ! (stop !)) (init ! 1 refl (LL.bool-laws .lawful 𝓤 H A W .typed z _ iz .0)) $ drop ! $
         rewrite ! 0 (λ (p : Val). ‵ (fat fullShare tyBool l₁₁ 0 p)) (ap only (LL.bool-laws .tells z (w ∷ []) iz)) refl $
         rewrite ! 0 (λ (p : Bool). ‵ (fat fullShare tyBool l₁₁ 0 (vbool p))) k refl $
         tests ! (load ! (from ! (stop !)) (look ! 0 refl))
-        (λ hit. jumps ! $ forget ! 0 refl $ forget ! 8 refl $ again ! (Closer t) (AtWait t) u (passed t u a g (holds (retriesOf c a) hit)) (add-one-dec n (u .0) (less (u .0) a g)))
+        (λ hit. jumps ! $ forget ! 0 refl $ forget ! 8 refl $ again ! (Closer t) (AtWait t) u (passed t u a g (holds (retriesIn c a) hit)) (add-one-dec n (u .0) (less (u .0) a g)))
         (λ miss. assigns ! (of-opd ! (load ! (from ! (stop !)) (look ! 8 refl))) (from ! (stop !)) (init ! 4 refl (LL.lawful T.the-type T′.the-laws 𝓤 H A W .typed a _ ia .0)) $
-        jumps ! $ exec ! C Λ En after-loop (anyQ (Turned t)) $ forget ! 0 refl $ forget ! 8 refl $ tail t u a g (fails (retriesOf c a) miss) ia)))))
+        jumps ! $ exec ! C Λ En after-loop (anyQ (Turned t)) $ forget ! 0 refl $ forget ! 8 refl $ tail t u a g (fails (retriesIn c a) miss) ia)))))
       where
-        c : Call
+        c : Step
         c = t .1 .0
 
     -- the match on what was fetched
@@ -492,7 +491,7 @@ module _ {M : Type 1} (𝓤 : URA M) (H : Heap 𝓤) (A : Atoms 𝓤) (W : Given
         i = u .0
 
     -- a turn of the outer loop, of a call that waits
-    waits : (t : Turn) → overOf (t .1 .0) ≡ false → Sq W (AtTurn t) (runs C Λ En after-test (anyQ (Turned t)))
+    waits : (t : Turn) → overIn (t .1 .0) ≡ false → Sq W (AtTurn t) (runs C Λ En after-test (anyQ (Turned t)))
     waits t e = first ! $ blocks ! $ loops ! 𝓣 (Closer t) (Closer-wf t) (AtWait t) (yields t) (waiting t e)
 
     -- a turn of the outer loop
@@ -502,16 +501,16 @@ module _ {M : Type 1} (𝓤 : URA M) (H : Heap 𝓤) (A : Atoms 𝓤) (W : Given
         nothing ! $ use1 W (raw (Over 𝓤 H A mem run .pre (to-over c))) (goes-over c (t .1 .1 .1 .1)) $
         calls-at ! (fmOf 𝓤 H (W .laws) 𝓣) (Over 𝓤 H A mem run) ask (to-over c) (and-then ! (load ! (from ! (stop !)) (look ! 15 refl)) (no-more !)) (λ w.
         use1 W (later (some (λ (z : Bool). (‵ ftrue ⊛ ‵ (bool .own z (w ∷ []))) ⊛ raw (ensured 𝓤 H A g₀.ended (g₀.clauses 𝓤 H A mem run) tt (c, tt) tt z)))) (id⊢ 𝓤 _) $ await ! tt $ pick ! (λ z.
-        split ! $ move ! (1 ∷ []) $ use1 W (raw (fact 𝓤 (z ≡ overOf c))) (over-of 𝓤 H A mem run c z) $ heard ! (z ≡ overOf c) (λ k. split ! $ drop ! $
+        split ! $ move ! (1 ∷ []) $ use1 W (raw (fact 𝓤 (z ≡ overIn c))) (over-of 𝓤 H A mem run c z) $ heard ! (z ≡ overIn c) (λ k. split ! $ drop ! $
         peeks ! bool (Is bool) (shows 𝓤 H A bool) z (w ∷ []) (λ iz.
         land ! (from ! (stop !)) (init ! 7 refl (LL.bool-laws .lawful 𝓤 H A W .typed z _ iz .0)) $ drop ! $
         rewrite ! 6 (λ (p : Val). ‵ (fat fullShare tyBool l₈ 0 p)) (ap only (LL.bool-laws .tells z (w ∷ []) iz)) refl $
         rewrite ! 6 (λ (p : Bool). ‵ (fat fullShare tyBool l₈ 0 (vbool p))) k refl $
         tests ! (load ! (from ! (stop !)) (look ! 6 refl))
-        (λ hit. jumps ! $ exec ! C Λ En mir.t-4 (atRet En Post) $ forget ! 6 refl $ leaves (t .0) c (over t (holds (overOf c) hit)) (fits-now (t .0) (t .1 .1 .0)) (t .1 .1 .1 .1))
-        (λ miss. forget ! 6 refl $ waits t (fails (overOf c) miss))))))
+        (λ hit. jumps ! $ exec ! C Λ En mir.t-4 (atRet En Post) $ forget ! 6 refl $ leaves (t .0) c (over t (holds (overIn c) hit)) (fits-now (t .0) (t .1 .1 .0)) (t .1 .1 .1 .1))
+        (λ miss. forget ! 6 refl $ waits t (fails (overIn c) miss))))))
       where
-        c : Call
+        c : Step
         c = t .1 .0
 
     looped : Sq W (AtTurn begun) (runs C Λ En mir.t-3 (atRet En Post))
@@ -522,8 +521,8 @@ module _ {M : Type 1} (𝓤 : URA M) (H : Heap 𝓤) (A : Atoms 𝓤) (W : Given
   walk 𝓣 ask get try ans =
       qed W ((‵ (flft κ q) ⊛ ‵ (flft κ₁ q₁) ⊛ ‵ ftrue) ∷ ‵ (owns (Ca ∷ ShrSlice (named 0) κ u8 ∷ ShrSlice (named 1) κ₁ R ∷ []) x at) ∷ []) ∵ enter ! (𝓣 .C) (𝓣 .Λ) code.function (cval c₀ ∷ sliceVal (b, o) m ∷ sliceVal (b₁, o₁) n ∷ []) _ $
       alloc1 ! (λ l₀. alloc1 ! (λ l₁. alloc1 ! (λ l₂. alloc1 ! (λ l₃. alloc1 ! (λ l₄. alloc1 ! (λ l₅. alloc1 ! (λ l₆. alloc1 ! (λ l₇. alloc1 ! (λ l₈. alloc1 ! (λ l₉. alloc1 ! (λ l₁₀. alloc1 ! (λ l₁₁. alloc0 ! $ params1 ! $
-      pass1 ! (init ! 20 refl (LL.lawful K.the-type K′.the-laws 𝓤 H A W .typed c₀ _ is₀ .0)) $ pass1 ! (init ! 18 refl (tt, (tt, (record { fits = gm .0 }, tt)))) $ pass1 ! (init ! 16 refl (tt, (tt, (record { fits = gn .0 }, tt)))) $ pass0 ! $
-      assigns ! (of-opd ! (load ! (from ! (stop !)) (look ! 20 refl))) (from ! (stop !)) (init ! 14 refl (LL.lawful K.the-type K′.the-laws 𝓤 H A W .typed c₀ _ is₀ .0)) $
+      pass1 ! (init ! 20 refl (EL.lawful K.the-type K′.the-laws 𝓤 H A W tt .typed c₀ _ is₀ .0)) $ pass1 ! (init ! 18 refl (tt, (tt, (record { fits = gm .0 }, tt)))) $ pass1 ! (init ! 16 refl (tt, (tt, (record { fits = gn .0 }, tt)))) $ pass0 ! $
+      assigns ! (of-opd ! (load ! (from ! (stop !)) (look ! 20 refl))) (from ! (stop !)) (init ! 14 refl (EL.lawful K.the-type K′.the-laws 𝓤 H A W tt .typed c₀ _ is₀ .0)) $
       assigns ! (of-opd ! (lit ! tt)) (from ! (stop !)) (init ! 12 refl (tt, record { fits = lit< tt })) $
       move ! (25 ∷ []) $ fsplit ! $ drop ! $ fsplit ! $ move ! (1 ∷ []) $ fsplit ! $ move ! (27 ∷ []) $ split ! $ move ! (1 ∷ []) $ split ! $
       -- [the run's token; true; the ring's token; the run; true; the ring; the locals, from _11]
@@ -534,7 +533,7 @@ module _ {M : Type 1} (𝓤 : URA M) (H : Heap 𝓤) (A : Atoms 𝓤) (W : Given
     (get : Triple 𝓤 (𝓣 .C g₁-def.name) (Get 𝓤 H A mem run)) (try : Triple 𝓤 (𝓣 .C g₂-def.name) (Try 𝓤 H A mem run)) (ans : Triple 𝓤 (𝓣 .C g₃-def.name) (Ans 𝓤 H A mem run)) where
   f-walks : Walks 𝓤 H A f.ended stayed (WpFn 𝓤 H (𝓣 .C) (𝓣 .Λ) code.function) (f.clauses 𝓤 H A mem run)
   f-walks = walked 𝓤 H A f.ended stayed (f.clauses 𝓤 H A mem run) (WpFn 𝓤 H (𝓣 .C) (𝓣 .Λ) code.function) (λ κs. (cvals, (slice-vals, (slice-vals, tt))))
-      (λ κs. (LL.tells K.the-type K′.the-laws, (shr-slice-tells (named 0) (κs .0) u8, (shr-slice-tells (named 1) (κs .1 .0) R, tt))))
+      (λ κs. (EL.tells K.the-type K′.the-laws, (shr-slice-tells (named 0) (κs .0) u8, (shr-slice-tells (named 1) (κs .1 .0) R, tt))))
       (λ κs qs bounds a _ are. via 𝓤 _ (fst∗ 𝓤 _ (emp 𝓤))
       (walk 𝓤 H A W mem run (κs .0) (κs .1 .0) (qs .0) (qs .1 .0) (a .1 .0 .ptr .0) (a .1 .0 .ptr .1) (a .1 .0 .name) (a .1 .0 .now) (a .1 .1 .0 .ptr .0) (a .1 .1 .0 .ptr .1) (a .1 .1 .0 .name) (a .1 .1 .0 .now)
       (a .0) (are .0) (are .1 .0 .0 .1) (are .1 .1 .0 .0 .1) 𝓣 ask get try ans))
@@ -549,7 +548,7 @@ drive-spec 𝓤 H 𝓜 𝓖 𝓡 =
     entered 𝓤 H (tripleOf 𝓤 H (𝓖 .A) f.signature (f.spec 𝓤 H (𝓖 .A) (𝓜 .mem) (𝓡 .run)))
     (tables 𝓤 H 𝓜 𝓡 code.env .C) (tables 𝓤 H 𝓜 𝓡 code.env .Λ) #drive code.function (code.unfolded 𝓤 H 𝓜 𝓡)
     (f-meets 𝓤 H (𝓖 .A) (givenOf 𝓤 H 𝓜 𝓖) (𝓜 .mem) (𝓡 .run) (tablesOf 𝓤 H 𝓜 (tables 𝓤 H 𝓜 𝓡 code.env))
-    (cited 𝓤 H (Over 𝓤 H (𝓖 .A) (𝓜 .mem) (𝓡 .run)) 𝓜 𝓡 code.env g₀-def.name g₀-def.routine code.calls-receiver·call·Call·is-over (g₀-thm.met 𝓤 H 𝓜 𝓖 𝓡))
+    (cited 𝓤 H (Over 𝓤 H (𝓖 .A) (𝓜 .mem) (𝓡 .run)) 𝓜 𝓡 code.env g₀-def.name g₀-def.routine code.calls-driver·drive·is-over (g₀-thm.met 𝓤 H 𝓜 𝓖 𝓡))
     (cited 𝓤 H (Get 𝓤 H (𝓖 .A) (𝓜 .mem) (𝓡 .run)) 𝓜 𝓡 code.env g₁-def.name g₁-def.routine code.calls-driver·drive·fetch (g₁-thm.met 𝓤 H 𝓜 𝓖 𝓡))
-    (cited 𝓤 H (Try 𝓤 H (𝓖 .A) (𝓜 .mem) (𝓡 .run)) 𝓜 𝓡 code.env g₂-def.name g₂-def.routine code.calls-receiver·call·Call·retries (g₂-thm.met 𝓤 H 𝓜 𝓖 𝓡))
-    (cited 𝓤 H (Ans 𝓤 H (𝓖 .A) (𝓜 .mem) (𝓡 .run)) 𝓜 𝓡 code.env g₃-def.name g₃-def.routine code.calls-receiver·call·Call·answered (g₃-thm.met 𝓤 H 𝓜 𝓖 𝓡)))
+    (cited 𝓤 H (Try 𝓤 H (𝓖 .A) (𝓜 .mem) (𝓡 .run)) 𝓜 𝓡 code.env g₂-def.name g₂-def.routine code.calls-driver·drive·retries (g₂-thm.met 𝓤 H 𝓜 𝓖 𝓡))
+    (cited 𝓤 H (Ans 𝓤 H (𝓖 .A) (𝓜 .mem) (𝓡 .run)) 𝓜 𝓡 code.env g₃-def.name g₃-def.routine code.calls-driver·drive·answered (g₃-thm.met 𝓤 H 𝓜 𝓖 𝓡)))

@@ -41,14 +41,14 @@ use denote.Triple.Table.{entered, cited}
 use denote.Triple.Walked.{says, Stays, stay-dropped, walkOf, goes-dropped, Walks, ends-at, walked, walk-meets}
 use denote.Exit.{yes}
 use Rattle.receiver.specs.declared.answer.Answer.{Answer}
-use Rattle.receiver.specs.declared.call.Call.{Call}
+use Rattle.receiver.specs.declared.call.Step.{Step}
 use Rattle.driver.specs.declared.drive.Driven.{Driven}
 use Rattle.receiver.specs.declared.receiver.Ended.{Ended}
 use Rattle.driver.specs.Drive.{drivenOf, endedOf}
 use Rattle.copies.proofs.Calls.{lent, asks, calls}
 use Rattle.driver.proofs.Thin.{R}
-use Rattle.receiver.proofs.call.Call as C
-use Rattle.receiver.proofs.call.Call.Laws as C′
+use Rattle.receiver.proofs.call.Step as C
+use Rattle.receiver.proofs.call.Step.Laws as C′
 use Rattle.driver.proofs.drive.Driven as D
 use Rattle.driver.proofs.drive.Driven.Laws as D′
 use Rattle.receiver.proofs.receiver.Ended as E
@@ -67,8 +67,8 @@ use Rattle.driver.proofs.run.drive_without_ring.Code as code
 abbrev Ca : RattleType
 Ca = C.the-row
 
-abbrev cval : Call → Val
-cval = LL.val C.the-type C′.the-laws
+abbrev cval : Step → Val
+cval = EL.val C.the-type C′.the-laws
 
 abbrev stayed : Stays (f.ended .signature .params) (f.ended .kept)
 stayed = (stay-dropped (plain (λ _. Ca)) yes, (stay-dropped (shrSliceOf (0 ∷ []) tt (plain (λ _. R))) yes, tt))
@@ -84,8 +84,8 @@ module _ {M : Type 1} (𝓤 : URA M) (H : Heap 𝓤) (A : Atoms 𝓤) (mem : Mem
 no-bytes : {M : Type 1} (𝓤 : URA M) (H : Heap 𝓤) (A : Atoms 𝓤) → Given 𝓤 H A → (b : ℕ) → ent 𝓤 (emp 𝓤) (sem 𝓤 H A (arr-parts (shares u8) 0 .part fullShare [] b 0))
 no-bytes 𝓤 H A W b = qed W [] ∵ nothing ! $ feqI ! ℕ 0 0 refl $ fjoin ! $ done !
 
-module _ {M : Type 1} (𝓤 : URA M) (H : Heap 𝓤) (A : Atoms 𝓤) (W : Given 𝓤 H A) (mem : Memory → SProp 𝓤) (run : Routine → Fun 𝓤) (κ : Lft) (q : Share) (c : Call) (ic : Is Ca c (cval c ∷ [])) (answers : RefT (List Answer)) (room : Room R (length (answers .now))) where
-  abbrev x : Call × (RefT (List Answer) × Unit {0})
+module _ {M : Type 1} (𝓤 : URA M) (H : Heap 𝓤) (A : Atoms 𝓤) (W : Given 𝓤 H A) (mem : Memory → SProp 𝓤) (run : Routine → Fun 𝓤) (κ : Lft) (q : Share) (c : Step) (ic : Is Ca c (cval c ∷ [])) (answers : RefT (List Answer)) (room : Room R (length (answers .now))) where
+  abbrev x : Step × (RefT (List Answer) × Unit {0})
   x = (c, (answers, tt))
 
   abbrev at : Vals f.signature (κ, tt)
@@ -117,7 +117,7 @@ module _ {M : Type 1} (𝓤 : URA M) (H : Heap 𝓤) (A : Atoms 𝓤) (W : Given
     walk =
         qed W ((‵ (flft κ q) ⊛ ‵ ftrue) ∷ ‵ (owns (Ca ∷ ShrSlice (named 0) κ R ∷ []) x at) ∷ []) ∵ enter ! (𝓣 .C) (𝓣 .Λ) code.function (cval c ∷ lent answers ∷ []) _ $
         alloc1 ! (λ l₀. alloc1 ! (λ l₁. alloc1 ! (λ l₂. alloc1 ! (λ l₃. alloc1 ! (λ l₄. alloc1 ! (λ l₅. alloc1 ! (λ l₆. alloc0 ! $ params1 ! $
-        pass1 ! (init ! 10 refl (LL.lawful C.the-type C′.the-laws 𝓤 H A W .typed c _ ic .0)) $ pass1 ! (init ! 8 refl (tt, (tt, (record { fits = room .0 }, tt)))) $ pass0 ! $
+        pass1 ! (init ! 10 refl (EL.lawful C.the-type C′.the-laws 𝓤 H A W tt .typed c _ ic .0)) $ pass1 ! (init ! 8 refl (tt, (tt, (record { fits = room .0 }, tt)))) $ pass0 ! $
         assigns ! (agg ! (no-more !)) (from ! (stop !)) (init ! 6 refl (tt, tt)) $
         assigns ! (addr ! (from ! (stop !))) (from ! (stop !)) (init ! 2 refl (tt, tt)) $
         assigns ! (agg ! (and-then ! (load ! (from ! (stop !)) (look ! 2 refl)) (and-then ! (lit ! tt) (no-more !)))) (from ! (stop !)) (init ! 0 refl (tt, (tt, (record { fits = lit< tt }, tt)))) $
@@ -141,7 +141,7 @@ module _ {M : Type 1} (𝓤 : URA M) (H : Heap 𝓤) (A : Atoms 𝓤) (W : Given
 
 module _ {M : Type 1} (𝓤 : URA M) (H : Heap 𝓤) (A : Atoms 𝓤) (W : Given 𝓤 H A) (mem : Memory → SProp 𝓤) (run : Routine → Fun 𝓤) (𝓣 : Tables 𝓤 H) (drive : Triple 𝓤 (𝓣 .C g₀-def.name) (Drive 𝓤 H A mem run)) (end : Triple 𝓤 (𝓣 .C g₁-def.name) (End 𝓤 H A mem run)) where
   f-walks : Walks 𝓤 H A f.ended stayed (WpFn 𝓤 H (𝓣 .C) (𝓣 .Λ) code.function) (f.clauses 𝓤 H A mem run)
-  f-walks = walked 𝓤 H A f.ended stayed (f.clauses 𝓤 H A mem run) (WpFn 𝓤 H (𝓣 .C) (𝓣 .Λ) code.function) (λ κs. (LL.vals C.the-type C′.the-laws, (slice-vals, tt))) (λ κs. (LL.tells C.the-type C′.the-laws, (shr-slice-tells (named 0) (κs .0) R, tt)))
+  f-walks = walked 𝓤 H A f.ended stayed (f.clauses 𝓤 H A mem run) (WpFn 𝓤 H (𝓣 .C) (𝓣 .Λ) code.function) (λ κs. (EL.vals C.the-type C′.the-laws, (slice-vals, tt))) (λ κs. (EL.tells C.the-type C′.the-laws, (shr-slice-tells (named 0) (κs .0) R, tt)))
       (λ κs qs bounds a _ are. via 𝓤 _ (fst∗ 𝓤 _ (emp 𝓤)) (walk 𝓤 H A W mem run (κs .0) (qs .0) (a .0) (are .0) (a .1 .0) (are .1 .0 .0 .1) 𝓣 drive end))
 
   f-meets : Meets 𝓤 H A f.signature (WpFn 𝓤 H (𝓣 .C) (𝓣 .Λ) code.function) (f.spec 𝓤 H A mem run)

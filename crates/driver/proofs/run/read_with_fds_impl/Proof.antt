@@ -31,7 +31,7 @@ use denote.Triple.Spec.{tripleOf}
 use denote.Triple.Statement.{Contract, Triple}
 use denote.Triple.Table.{entered, cited}
 use Rattle.receiver.specs.declared.answer.Answer.{Answer}
-use Rattle.receiver.specs.declared.call.Call.{Call}
+use Rattle.receiver.specs.declared.call.Step.{Step}
 use Rattle.driver.specs.declared.drive.Driven.{Driven}
 use Rattle.receiver.specs.declared.receiver.ReceiverState.{ReceiverState}
 use Rattle.receiver.specs.Call.{beginReadOf}
@@ -41,8 +41,8 @@ use Rattle.driver.proofs.Driven.{read-impl-delivered}
 use Rattle.copies.proofs.Calls.{lent, asks, calls}
 use Rattle.driver.proofs.Thin.{Re, qval}
 use Rattle.driver.proofs.Reading.{Owned, exits, Walk, meets}
-use Rattle.receiver.proofs.call.Call as C
-use Rattle.receiver.proofs.call.Call.Laws as C′
+use Rattle.receiver.proofs.call.Step as C
+use Rattle.receiver.proofs.call.Step.Laws as C′
 use Rattle.driver.proofs.drive.Driven as D
 use Rattle.driver.proofs.drive.Driven.Laws as D′
 use Rattle.receiver.proofs.receiver.Ended as E
@@ -86,7 +86,7 @@ module _ {M : Type 1} (𝓤 : URA M) (H : Heap 𝓤) (A : Atoms 𝓤) (W : Given
       qed W (‵ (Re .own q (qval q ∷ [])) ∷ []) ∵ nothing ! $ owned ! u64 (Is u64) (uint-makes 𝓤 H A W w64) (length (dst .now)) _ (refl, gd) $ fjoin ! $ owned ! u64 (Is u64) (uint-makes 𝓤 H A W w64) m _ (refl, gm) $ fjoin ! $
       owned ! usize (Is usize) (uint-makes 𝓤 H A W w64) (length (ring .now)) _ (refl, gr) $ fjoin ! $ move ! (1 ∷ 0 ∷ []) $ fjoin ! $ nothing ! $ join ! $ by ! (asks 𝓤 _)
 
-  abbrev to-drive : Call → Val → Drive 𝓤 H A mem run .Ghost
+  abbrev to-drive : Step → Val → Drive 𝓤 H A mem run .Ghost
   to-drive c v = (((κ₀, (κ₂, tt)), (s₀, (s₂, tt)), tt, (c, (ring, (answers, tt))), (v ∷ [], (lent ring ∷ [], (lent answers ∷ [], tt)))), tt)
 
   abbrev to-deliver : Driven → Val → Deliver 𝓤 H A mem run .Ghost
@@ -109,7 +109,7 @@ module _ {M : Type 1} (𝓤 : URA M) (H : Heap 𝓤) (A : Atoms 𝓤) (W : Given
       -- [what `begin_read` asks; what the other parameters own; _12; …; the tokens]
       calls ! (fmOf 𝓤 H (W .laws) 𝓣) g₀.ended (g₀.clauses 𝓤 H A mem run) begin to-begin (λ c ws. c ≡ beginReadOf q (length (ring .now)) m (length (dst .now))) (λ c ws. id⊢ 𝓤 _)
       (and-then ! (load ! (from ! (stop !)) (look ! 24 refl)) (and-then ! (load ! (from ! (stop !)) (look ! 10 refl)) (and-then ! (load ! (from ! (stop !)) (look ! 18 refl)) (and-then ! (load ! (from ! (stop !)) (look ! 6 refl)) (no-more !))))) (λ v c ws e ic.
-      land ! (from ! (stop !)) (init ! 16 refl (LL.lawful C.the-type C′.the-laws 𝓤 H A W .typed c _ ic .0)) $
+      land ! (from ! (stop !)) (init ! 16 refl (EL.lawful C.the-type C′.the-laws 𝓤 H A W tt .typed c _ ic .0)) $
       -- [the call; true; true; what the other parameters own; _12; …; the tokens]: of the ring one copy goes to `drive`, and one is kept
       move ! (1 ∷ 2 ∷ []) $ drop ! $ drop ! $ move ! (1 ∷ []) $ fsplit ! $ use1 W (‵ Ring ⊛ ‵ Ring) (shr-slice-copy 𝓤 H A W (named 0) κ₀ u8 .twice ring (lent ring ∷ [])) $ split ! $
       move ! (2 ∷ []) $ fsplit ! $ move ! (1 ∷ []) $ fsplit ! $ drop ! $
@@ -137,7 +137,7 @@ module _ {M : Type 1} (𝓤 : URA M) (H : Heap 𝓤) (A : Atoms 𝓤) (W : Given
       -- [the last bytes; true; the result; the tokens of ring and dst; the run's token and true]
       move ! (3 ∷ []) $ use1 W (‵ (flft κ₀ s₀) ⊛ ‵ (flft κ₁ s₁) ⊛ ‵ ftrue) (id⊢ 𝓤 _) $ split ! $ move ! (1 ∷ []) $ split ! $ move ! (0 ∷ 6 ∷ []) $ join ! $ move ! (2 ∷ 0 ∷ []) $ join ! $
       keep ! (0 ∷ 2 ∷ 4 ∷ []) $
-      by ! (exits readImplDelivery 𝓤 H A κ₀ κ₁ κ₂ s₀ s₁ s₂ q ring dst m answers W r w (us .1 .1 .0) (h ∙ ap (λ (z : Driven). deliveryOf z (ring .now) (dst .now)) (k ∙ ap (λ (z : Call). drivenOf z (ring .now) (answers .now)) e) ∙ read-impl-delivered (ring .now) (dst .now) q m (answers .now)) l))))))))))))))))))
+      by ! (exits readImplDelivery 𝓤 H A κ₀ κ₁ κ₂ s₀ s₁ s₂ q ring dst m answers W r w (us .1 .1 .0) (h ∙ ap (λ (z : Driven). deliveryOf z (ring .now) (dst .now)) (k ∙ ap (λ (z : Step). drivenOf z (ring .now) (answers .now)) e) ∙ read-impl-delivered (ring .now) (dst .now) q m (answers .now)) l))))))))))))))))))
 
 pub read-with-fds-impl-spec : {M : Type 1} → stated.statement M
 unfolding code.routine tablesOf

@@ -1,4 +1,4 @@
--- The five cases of the definition.
+-- By the phase.
 use borrow.Author.Needs.{needs}
 use Rattle.stripring.proofs.call.flat_phase.Statement.{statement}
 use Rattle.stripring.proofs.call.flat_phase.Tie as tie
@@ -12,9 +12,6 @@ no-ending-requires c κs = search needs
 no-outcome-requires : tie.Need-no-outcome-requires
 no-outcome-requires c κs = search needs
 
-no-refusal-requires : tie.Need-no-refusal-requires
-no-refusal-requires c κs = search needs
-
 enum-known-p-2 : tie.Need-enum-known-p-2
 enum-known-p-2 c = search needs
 
@@ -23,9 +20,6 @@ flat-ending-requires c κs = search needs
 
 no-outcome-requires-2 : tie.Need-no-outcome-requires-2
 no-outcome-requires-2 c κs = search needs
-
-no-refusal-requires-2 : tie.Need-no-refusal-requires-2
-no-refusal-requires-2 c κs = search needs
 
 enum-known-p-3 : tie.Need-enum-known-p-3
 enum-known-p-3 c = search needs
@@ -36,9 +30,6 @@ flat-ending-requires-2 c κs = search needs
 no-outcome-requires-3 : tie.Need-no-outcome-requires-3
 no-outcome-requires-3 c κs = search needs
 
-no-refusal-requires-3 : tie.Need-no-refusal-requires-3
-no-refusal-requires-3 c κs = search needs
-
 enum-known-p-4 : tie.Need-enum-known-p-4
 enum-known-p-4 c = search needs
 
@@ -48,35 +39,17 @@ no-ending-requires-2 c κs = search needs
 flat-outcome-requires : tie.Need-flat-outcome-requires
 flat-outcome-requires c κs = search needs
 
-no-refusal-requires-4 : tie.Need-no-refusal-requires-4
-no-refusal-requires-4 c κs = search needs
-
-enum-known-p-5 : tie.Need-enum-known-p-5
-enum-known-p-5 c = search needs
-
-no-ending-requires-3 : tie.Need-no-ending-requires-3
-no-ending-requires-3 c κs = search needs
-
-no-outcome-requires-4 : tie.Need-no-outcome-requires-4
-no-outcome-requires-4 c κs = search needs
-
-flat-receiver-refusal-requires : tie.Need-flat-receiver-refusal-requires
-flat-receiver-refusal-requires c κs = search needs
-
 returns : tie.Need-returns
-returns c = rw (c .before .before .before .before .p .given .1, c .no-refusal .ensures, c .before .no-outcome .ensures, c .before .before .no-ending .ensures)
+returns c = rw (c .before .before .before .p .given .1, c .no-outcome .ensures, c .before .no-ending .ensures)
 
 returns-2 : tie.Need-returns-2
-returns-2 c = rw (c .before .before .before .before .p2 .given .1, c .no-refusal2 .ensures, c .before .no-outcome2 .ensures, c .before .before .flat-ending .ensures)
+returns-2 c = rw (c .before .before .before .p2 .given .1, c .no-outcome2 .ensures, c .before .flat-ending .ensures)
 
 returns-3 : tie.Need-returns-3
-returns-3 c = rw (c .before .before .before .before .p3 .given .1, c .no-refusal3 .ensures, c .before .no-outcome3 .ensures, c .before .before .flat-ending2 .ensures)
+returns-3 c = rw (c .before .before .before .p3 .given .1, c .no-outcome3 .ensures, c .before .flat-ending2 .ensures)
 
 returns-4 : tie.Need-returns-4
-returns-4 c = rw (c .before .before .before .before .p4 .given .1, c .no-refusal4 .ensures, c .before .flat-outcome .ensures, c .before .before .no-ending2 .ensures)
-
-returns-5 : tie.Need-returns-5
-returns-5 c = rw (c .before .before .before .before .p5 .given .1, c .flat-receiver-refusal .ensures, c .before .no-outcome4 .ensures, c .before .before .no-ending3 .ensures)
+returns-4 c = rw (c .before .before .before .p4 .given .1, c .flat-outcome .ensures, c .before .no-ending2 .ensures)
 
 pub flat-phase-spec : {M : Type 1} → statement M
 flat-phase-spec =
@@ -85,25 +58,16 @@ flat-phase-spec =
     enum-known-p
     no-ending-requires
     no-outcome-requires
-    no-refusal-requires
     enum-known-p-2
     flat-ending-requires
     no-outcome-requires-2
-    no-refusal-requires-2
     enum-known-p-3
     flat-ending-requires-2
     no-outcome-requires-3
-    no-refusal-requires-3
     enum-known-p-4
     no-ending-requires-2
     flat-outcome-requires
-    no-refusal-requires-4
-    enum-known-p-5
-    no-ending-requires-3
-    no-outcome-requires-4
-    flat-receiver-refusal-requires
     returns
     returns-2
     returns-3
-    returns-4
-    returns-5)
+    returns-4)

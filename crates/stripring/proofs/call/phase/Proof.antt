@@ -1,4 +1,4 @@
--- The five cases of the definition.
+-- By the kind.
 use borrow.Author.Tests.{eq-eqb, ne-eqb}
 use Rattle.stripring.specs.Call.{phaseAt}
 use borrow.Author.Needs.{needs}
@@ -28,14 +28,7 @@ outcome-requires c κs = search needs
 
 returns-4 : tie.Need-returns-4
 unfolding phaseAt
-returns-4 c = rw (ne-eqb _ _ (c .before .before .before .before .before .before .before .if1 .left), ne-eqb _ _ (c .before .before .before .before .before .if2 .left), ne-eqb _ _ (c .before .before .before .if3 .left), eq-eqb _ _ (c .before .if4 .taken), c .outcome .ensures)
-
-receiver-refusal-requires : tie.Need-receiver-refusal-requires
-receiver-refusal-requires c κs = search needs
-
-returns-5 : tie.Need-returns-5
-unfolding phaseAt
-returns-5 c = rw (ne-eqb _ _ (c .before .before .before .before .before .before .before .if1 .left), ne-eqb _ _ (c .before .before .before .before .before .if2 .left), ne-eqb _ _ (c .before .before .before .if3 .left), ne-eqb _ _ (c .before .if4 .left), c .receiver-refusal .ensures)
+returns-4 c = rw (ne-eqb _ _ (c .before .before .before .before .before .if1 .left), ne-eqb _ _ (c .before .before .before .if2 .left), ne-eqb _ _ (c .before .if3 .left), c .outcome .ensures)
 
 pub phase-spec : {M : Type 1} → statement M
 phase-spec =
@@ -47,6 +40,4 @@ phase-spec =
     ending-requires-2
     returns-3
     outcome-requires
-    returns-4
-    receiver-refusal-requires
-    returns-5)
+    returns-4)

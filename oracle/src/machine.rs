@@ -10,6 +10,7 @@ use crate::tally::Tally;
 use oracle::receiver_answers::Kind;
 use oracle::sched_answers::{Row, row};
 use oracle::scripted_socket::Answer;
+use std::fmt::Debug;
 
 const SEED: u64 = 1;
 const M: u64 = u64::MAX;
@@ -62,7 +63,7 @@ impl Tried {
         let ran = ours(input.lent(&mut input.memory.clone()));
         let mut driven = match Driven::begin(call.kind, input) {
             Ok(driven) => driven,
-            Err(refusal) => return self.same(pair, input, [ran, refused(refusal)]),
+            Err(refused) => return self.same(pair, input, [ran, refused_row(refused)]),
         };
         let came_to = self.drive(&mut driven);
         self.same(pair, input, [ran, came_to]);
@@ -73,18 +74,18 @@ impl Tried {
 
     /// Hands in the run, and says what a call over it comes to.
     fn drive(&mut self, driven: &mut Driven) -> Row {
-        let answers = driven.input.answers.iter();
-        for &answer in answers {
+        let input = driven.input;
+        for &answer in &input.answers {
             if !driven.waits() {
                 break;
             }
             self.hand_in_misfits(driven);
-            if let Err(refusal) = driven.hand_in(answer) {
-                return refused(refusal);
+            if let Err(refused) = driven.hand_in(answer) {
+                return refused_row(refused);
             }
         }
         match driven.waits() {
-            true => refused([11, 0, 0, 0]),
+            true => refused_row([11, 0, 0, 0, 0]),
             false => driven.row(),
         }
     }
@@ -93,10 +94,9 @@ impl Tried {
         while driven.waits() {
             self.hand_in_misfits(driven);
             let answer = fitting(&mut self.random, &driven.call);
-            if let Err(refusal) = driven.hand_in(answer) {
-                let accepted = [0; 4];
+            if let Err(refused) = driven.hand_in(answer) {
                 let input = || format!("{:?} {answer:?}", driven.call);
-                return self.tally.compare([accepted, refusal], input);
+                return self.tally.compare([[0; 5], refused], input);
             }
         }
     }
@@ -119,7 +119,7 @@ impl Tried {
         self.same(pair, &input, [accepted(driven.call.0), step]);
     }
 
-    fn same<A: PartialEq + std::fmt::Debug>(&mut self, pair: &Pair, input: &Input, rows: [A; 2]) {
+    fn same<A: PartialEq + Debug>(&mut self, pair: &Pair, input: &Input, rows: [A; 2]) {
         let name = pair.0.name;
         self.tally.compare(rows, || format!("{name} {input:?}"));
     }
@@ -127,19 +127,17 @@ impl Tried {
     /// None, one or more. Each is refused, with nothing beside the refusal.
     fn hand_in_misfits(&mut self, driven: &mut Driven) {
         while let 0 = self.random.next() % 2 {
-            let (refusal, answer, wrong_ring) = match self.random.next() % 8 {
+            let (expected, answer, wrong_ring) = match self.random.next() % 8 {
                 0 if driven.call.phase() == RECEIVE => {
                     self.rings += 1;
-                    ([9, 0], [0, 0, 0], true)
+                    (refusal(9, 0), [0, 0, 0], true)
                 }
                 _ => {
                     self.misfits += 1;
                     let answer = misfit(&mut self.random, &driven.call);
-                    ([12, driven.place()], answer, false)
+                    (refusal(12, driven.place()), answer, false)
                 }
             };
-            let mut expected = [0; 30];
-            expected[..2].copy_from_slice(&refusal);
             let step = driven.answered(answer, wrong_ring);
             let input = || format!("{:?} {answer:?}", driven.call);
             self.tally.compare([expected, step], input);
@@ -206,7 +204,7 @@ struct Driven<'a> {
 }
 
 impl<'a> Driven<'a> {
-    fn begin(kind: Kind, input: &'a Input) -> Result<Self, [u64; 4]> {
+    fn begin(kind: Kind, input: &'a Input) -> Result<Self, Refused> {
         let mut memory = input.memory.clone();
         let call = gone_on(begin(kind, input.lent(&mut memory)))?;
         let mut driven = Self {
@@ -240,7 +238,7 @@ impl<'a> Driven<'a> {
         answered(self.call.0, ring, answer, place)
     }
 
-    fn hand_in(&mut self, answer: Answer) -> Result<(), [u64; 4]> {
+    fn hand_in(&mut self, answer: Answer) -> Result<(), Refused> {
         self.call = gone_on(self.answered(answer, false))?;
         self.taken.push(answer);
         self.copy_in_time();
@@ -273,11 +271,15 @@ fn copies_read() -> CopyCall {
     calls.iter().find(|call| call.0 == "copies_read").unwrap().2
 }
 
-fn gone_on(step: StepNumbers) -> Result<Call, [u64; 4]> {
-    let (refusal, call) = step.split_at(4);
-    match refusal[0] {
-        0 => Ok(Call(call.try_into().unwrap())),
-        _ => Err(refusal.try_into().unwrap()),
+/// The refusal, and how many of the numbers beside it are not 0: where there are any, it is a difference.
+type Refused = [u64; 5];
+
+fn gone_on(step: StepNumbers) -> Result<Call, Refused> {
+    let [number, a, b, c, call @ ..] = step;
+    let beside = call.iter().filter(|&&number| number != 0).count() as u64;
+    match number {
+        0 => Ok(Call(call)),
+        _ => Err([number, a, b, c, beside]),
     }
 }
 
@@ -287,9 +289,17 @@ fn accepted(call: CallNumbers) -> StepNumbers {
     step
 }
 
-fn refused(refusal: [u64; 4]) -> Row {
+/// With nothing beside it.
+fn refusal(number: u64, a: u64) -> StepNumbers {
+    let mut step = [0; 30];
+    step[..2].copy_from_slice(&[number, a]);
+    step
+}
+
+/// As a call over a run is refused.
+fn refused_row(refused: Refused) -> Row {
     let mut row = Row::default();
-    row[..4].copy_from_slice(&refusal);
+    row[..5].copy_from_slice(&refused);
     row
 }
 

@@ -11,7 +11,7 @@ use receiver::Outcome;
 use receiver::Phase;
 use receiver::ReceiverState;
 use receiver::Refusal;
-use sched::RingBufferScheduler;
+use receiver::Step;
 
 // The most bytes of a ring and of a destination. A line that says more is bad.
 const ROOM: usize = 64;
@@ -20,9 +20,9 @@ const ROOM: usize = 64;
 const BEFORE: u8 = 170;
 
 // A service or a shutdown, which looks at no ring.
-pub fn without_ring(line: Line, call: Call) -> Line {
+pub fn without_ring(line: Line, begun: Step) -> Line {
     let none: [u8; 0] = [];
-    let driven = drive(line, 9, call, &none);
+    let driven = drive(line, 9, begun, &none);
     let asked = asked(line, 9);
     match ended(driven) {
         Ended::Accepted {
@@ -92,15 +92,14 @@ fn read_over(
 }
 
 fn read_to(asked: Line, driven: Driven, end_as_read: bool, ring: &[u8], dst: &mut [u8]) -> Line {
-    let call = driven.call;
-    let source = call.source;
+    let step = driven.step;
     match ended(driven) {
         Ended::Accepted {
             receiver,
             outcome,
             used,
         } => {
-            deliver(outcome, source, ring, dst);
+            deliver(outcome, step, ring, dst);
             let answer = receiver_answers::accepted(
                 asked,
                 receiver,
@@ -114,9 +113,12 @@ fn read_to(asked: Line, driven: Driven, end_as_read: bool, ring: &[u8], dst: &mu
 }
 
 // The destination is written last, by a read that is accepted.
-fn deliver(outcome: Outcome, source: RingBufferScheduler, ring: &[u8], dst: &mut [u8]) {
+fn deliver(outcome: Outcome, step: Step, ring: &[u8], dst: &mut [u8]) {
     if let Outcome::Read { .. } = outcome {
-        copies::read(source, ring, dst);
+        if let Step::Of(call) = step {
+            let source = call.source;
+            copies::read(source, ring, dst);
+        }
     }
 }
 
@@ -137,31 +139,51 @@ fn is_end(failure: Failure) -> bool {
 }
 
 // `at` is the place of the answers' count.
-fn drive(line: Line, at: u64, call: Call, ring: &[u8]) -> Driven {
+fn drive(line: Line, at: u64, begun: Step, ring: &[u8]) -> Driven {
     let count = line.number(at);
-    let mut driven = call;
+    let mut step = begun;
     let mut used: u64 = 0;
     let mut place = after(at, 1);
-    while used < count && !driven.is_over() {
+    while used < count && !is_over(step) {
         used += 1;
-        driven = driven.answered(ring, answer(line, place), used);
+        step = answered(step, ring, answer(line, place), used);
         place = after(place, 3);
     }
-    Driven { call: driven, used }
+    Driven { step, used }
+}
+
+fn is_over(step: Step) -> bool {
+    match step {
+        Step::Of(call) => call.is_over(),
+        Step::Refused(_) => true,
+    }
+}
+
+fn answered(step: Step, ring: &[u8], answer: Answer, place: u64) -> Step {
+    match step {
+        Step::Of(call) => call.answered(ring, answer, place),
+        Step::Refused(e) => Step::Refused(e),
+    }
 }
 
 // A call that still waits where the answers are used up is refused with 11.
 fn ended(driven: Driven) -> Ended {
-    let call = driven.call;
+    let step = driven.step;
+    match step {
+        Step::Of(call) => ended_in(call, driven.used),
+        Step::Refused(e) => Ended::Refused(e),
+    }
+}
+
+fn ended_in(call: Call, used: u64) -> Ended {
     let receiver = call.receiver;
     let phase = call.phase;
     match phase {
         Phase::Finished(outcome) => Ended::Accepted {
             receiver,
             outcome,
-            used: driven.used,
+            used,
         },
-        Phase::Refused(e) => Ended::Refused(e),
         _ => Ended::Refused(Refusal::AnswerMissing),
     }
 }

@@ -2,6 +2,8 @@
 //!
 //! Every call answers for any bits, so each is safe; those that lend memory take slices, which go with their lengths and do
 //! not overlap where one is written. `tools/bindings` holds the declarations to the library's source.
+//!
+//! A record is a copy of numbers, as in C: that each counter has one owner is up to the host here, and the types above see to it.
 
 #[repr(C)]
 #[derive(Clone, Copy, Debug, Default, PartialEq, Eq)]

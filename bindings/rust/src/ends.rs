@@ -32,12 +32,12 @@ pub struct ReadCounter(pub u64);
 ///
 /// It is the one owner of the written counter, and neither `Copy` nor `Clone`: two would write over each other's bytes.
 ///
-/// ```compile_fail
+/// ```compile_fail,E0599
 /// let end = stripring::WritingEnd::new(4).unwrap();
 /// let other = end.clone();
 /// ```
 ///
-/// ```compile_fail
+/// ```compile_fail,E0382
 /// let end = stripring::WritingEnd::new(4).unwrap();
 /// let other = end;
 /// end.send(); // `end` is moved
@@ -119,12 +119,12 @@ impl From<Scheduler> for WritingEnd {
 ///
 /// It is the one owner of the read counter, and neither `Copy` nor `Clone`: of two, one would free bytes that the other reads.
 ///
-/// ```compile_fail
+/// ```compile_fail,E0599
 /// let end = stripring::ReadingEnd::new(4).unwrap();
 /// let other = end.clone();
 /// ```
 ///
-/// ```compile_fail
+/// ```compile_fail,E0382
 /// let end = stripring::ReadingEnd::new(4).unwrap();
 /// let other = end;
 /// end.send(); // `end` is moved

@@ -211,12 +211,12 @@ pub struct Ended {
 /// It is the one owner of its counters and of the acknowledgements that are pending, and neither `Copy` nor `Clone`: two would
 /// acknowledge a chunk twice.
 ///
-/// ```compile_fail
+/// ```compile_fail,E0599
 /// let receiver = stripring::Receiver::new(stripring::Scheduler::new(16).unwrap());
 /// let other = receiver.clone();
 /// ```
 ///
-/// ```compile_fail
+/// ```compile_fail,E0382
 /// let receiver = stripring::Receiver::new(stripring::Scheduler::new(16).unwrap());
 /// let other = receiver;
 /// receiver.state(); // `receiver` is moved

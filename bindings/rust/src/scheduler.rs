@@ -33,12 +33,12 @@ impl OperationType {
 /// receiver that goes on from one takes it. A plan for counters that another has is made of their numbers, by
 /// [`from_counters`](Self::from_counters).
 ///
-/// ```compile_fail
+/// ```compile_fail,E0382
 /// let s = stripring::Scheduler::new(5).unwrap();
 /// let (one, other) = (stripring::WritingEnd::from(s), stripring::WritingEnd::from(s)); // `s` is moved
 /// ```
 ///
-/// ```compile_fail
+/// ```compile_fail,E0599
 /// let s = stripring::Scheduler::new(5).unwrap();
 /// let other = s.clone();
 /// ```

@@ -93,6 +93,19 @@ fn the_ring_is_looked_at_where_a_byte_was_received() -> Result {
 }
 
 #[test]
+fn the_rest_of_a_chunk_is_copied_before_the_first_send() -> Result {
+    let mut receiver = Receiver::new(Scheduler::from_counters(10, 3, 0)?);
+    let mut bytes = [0; 5];
+    let mut call = receiver.begin_read(b"abc_______", &mut bytes, 0)?;
+    assert_eq!(call.waits_for(), Some(Wait::Send { batch: 1 }));
+    assert_eq!(call.copied(), 3);
+    call.answered(&[], Answer::sent(1))?;
+    assert_eq!(call.end(), Ok(Outcome::Read { n: 3, fds: 0 }));
+    assert_eq!(&bytes, b"abc\0\0");
+    Ok(())
+}
+
+#[test]
 fn a_stream_ends_without_a_ring() -> Result {
     let mut receiver = with_pending(0);
     let mut bytes = [0];

@@ -246,7 +246,8 @@ impl Receiver {
     }
 
     /// Begins a read into `dst` that takes at most so many descriptors. It comes to [`Failure::END_OF_STREAM`] at the end.
-    /// Of the ring the length is tested here; its bytes are copied here where a part of a chunk is still to be read.
+    /// Of the ring the length is tested here; its bytes are copied here where a part of a chunk is still to be read. Refused
+    /// with [`Refusal::RingMemory`] and [`Refusal::PendingFull`].
     pub fn begin_read<'a>(
         &'a mut self,
         ring: &[u8],
@@ -260,13 +261,13 @@ impl Receiver {
         Ok(call)
     }
 
-    /// Begins to send the pending acknowledgements.
+    /// Begins to send the pending acknowledgements. The record is tested anew, as by every call; a receiver's own passes.
     pub fn begin_service(&mut self) -> Result<Call<'_>, Refusal> {
         let step = abi::stripring_call_begin_service(self.0);
         Call::begun(self, &mut [], step)
     }
 
-    /// Begins to drain, and to shut the socket down.
+    /// Begins to drain, and to shut the socket down. The record is tested anew, as by every call; a receiver's own passes.
     pub fn begin_shutdown(&mut self) -> Result<Call<'_>, Refusal> {
         let step = abi::stripring_call_begin_shutdown(self.0);
         Call::begun(self, &mut [], step)

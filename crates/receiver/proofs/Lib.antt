@@ -12,5 +12,7 @@ pub mod Fits
 pub mod Made
 pub mod Spent
 pub mod PendingSum
+pub mod Keeps
+pub mod HandedSum
 pub mod Rows
 pub mod Decided

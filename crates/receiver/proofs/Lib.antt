@@ -15,4 +15,5 @@ pub mod PendingSum
 pub mod Keeps
 pub mod HandedSum
 pub mod Rows
+pub mod MachineRows
 pub mod Decided

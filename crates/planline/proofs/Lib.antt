@@ -1,7 +1,7 @@
 pub mod Case
 pub mod CutLaws
 pub mod DecimalLaws
-pub mod Decided
+pub mod Says
 pub mod DecimalForm
 pub mod Grammar
 pub mod LineLaws

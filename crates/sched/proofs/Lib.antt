@@ -1,3 +1,3 @@
 pub mod Laws
 pub mod Promises
-pub mod Decided
+pub mod Says

@@ -1,3 +1,6 @@
 pub mod Laws
 pub mod Promises
 pub mod Says
+pub mod Given
+pub mod GivenLists
+pub mod Refuses

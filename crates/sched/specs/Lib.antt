@@ -5,3 +5,5 @@ pub mod Block
 pub mod List
 pub mod Diff
 pub mod Scheduler
+pub mod Given
+pub mod Promise

@@ -4,3 +4,5 @@ pub mod Says
 pub mod Given
 pub mod GivenLists
 pub mod Refuses
+pub mod Counting
+pub mod Promised

@@ -1,5 +1,5 @@
 -- What document 01 promises of scheduling, as it is told there.
-use Prim.Native.Nat.{ℕ, zero, suc, _+_, _-_, _%_, _<_, _≤_, min}
+use Prim.Native.Nat.{ℕ, zero, suc, _+_, _-_, _*_, _%_, _<_, _≤_, min}
 use mathlib.Core.Path.{_≡_}
 use mathlib.Core.List.{List, [], _∷_, _++_}
 use mathlib.Core.Logic.{_⊎_}
@@ -8,11 +8,12 @@ use Rattle.sched.specs.declared.list.ScheduledOperations.the-variants as
 use Rattle.sched.specs.declared.operation.NextOperation.{NextOperation}
 use Rattle.sched.specs.declared.operation.NextOperation.the-variants as next
 use Rattle.sched.specs.declared.operation.OperationType.{OperationType}
+use Rattle.sched.specs.declared.operation.OperationType.the-variants.{Read, Write}
 use Rattle.sched.specs.declared.operation.ScheduledOperation.{ScheduledOperation}
 use Rattle.sched.specs.declared.scheduler.Registered.the-variants as registered
 use Rattle.sched.specs.declared.scheduler.RingBufferScheduler.{RingBufferScheduler}
 use Rattle.sched.specs.List.{totalIn}
-use Rattle.sched.specs.Scheduler.{offsetIn, greatestIn, nextBlockIn, nextIn, advancedIn, registerListOf}
+use Rattle.sched.specs.Scheduler.{Sized, IsSound, dataIn, offsetIn, greatestIn, nextBlockIn, nextIn, advancedIn, registerListOf}
 
 -- what holds of each operation of a list
 abbrev pub Each : (ScheduledOperation → Type 0) → ScheduledOperations → Type 0
@@ -58,6 +59,18 @@ pub record Promise (s : RingBufferScheduler) (t : OperationType) (m : ℕ) (ops 
   pub first : firstLen ops ≡ min m (nextBlockIn s t .len)
   pub registers : registerListOf s ops ≡ registered.Advanced (advancedIn s t (min m (greatestIn s t)))
 
+-- the next operation alone: none where nothing is to be moved; else it starts at the offset and runs to m, to the end of what
+-- there is, or to the buffer's
+pub record NextPromise (s : RingBufferScheduler) (t : OperationType) (m : ℕ) (f : ScheduledOperation) : Type 0 where
+  pub typed : f .typ ≡ t
+  pub nonempty : 0 < f .len
+  pub starts : f .off ≡ offsetIn s t
+  pub runs : f .len ≡ min m (min (greatestIn s t) (s .«buf_len» - f .off .0))
+
+abbrev pub Next : RingBufferScheduler → OperationType → ℕ → NextOperation → Type 0
+Next s t m next.None = min m (greatestIn s t) ≡ 0
+Next s t m (next.Some f) = NextPromise s t m f
+
 -- asking block after block, as the Rust does: the second of the scheduler after the first, with what the first left over
 abbrev pub joined : ScheduledOperation → NextOperation → ScheduledOperations
 joined f next.None = list.One f
@@ -66,3 +79,35 @@ joined f (next.Some g) = list.Two f g
 abbrev pub byBlocks : RingBufferScheduler → OperationType → ℕ → NextOperation → ScheduledOperations
 byBlocks s t m next.None = list.None
 byBlocks s t m (next.Some f) = joined f (nextIn (advancedIn s t (f .len)) t (m - f .len))
+
+-- ---- the record, in words that do not subtract
+-- d items lie between the counters, round 2L
+pub record Between (s : RingBufferScheduler) (d : ℕ) : Type 0 where
+  pub at-most : d ≤ s .«buf_len»
+  pub ahead : (s .«items_read» .0 + d) % (2 * s .«buf_len») ≡ s .«items_written» .0
+
+-- what is taken: a length, and counters with some data between them
+pub record Taken (s : RingBufferScheduler) : Type 0 where
+  pub sized : Sized (s .«buf_len»)
+  pub read : s .«items_read» .0 < 2 * s .«buf_len»
+  pub held : (d : ℕ) × Between s d
+
+-- n items registered: the counter of the type runs on by n round 2L, the other counter and the length stay, and the data is n
+-- less after a read, n more after a write
+pub record ReadBy (s : RingBufferScheduler) (n : ℕ) (u : RingBufferScheduler) : Type 0 where
+  pub sound : IsSound u
+  pub length : u .«buf_len» ≡ s .«buf_len»
+  pub written : u .«items_written» ≡ s .«items_written»
+  pub read : u .«items_read» .0 ≡ (s .«items_read» .0 + n) % (2 * s .«buf_len»)
+  pub fill : dataIn u + n ≡ dataIn s
+
+pub record WrittenBy (s : RingBufferScheduler) (n : ℕ) (u : RingBufferScheduler) : Type 0 where
+  pub sound : IsSound u
+  pub length : u .«buf_len» ≡ s .«buf_len»
+  pub read : u .«items_read» ≡ s .«items_read»
+  pub written : u .«items_written» .0 ≡ (s .«items_written» .0 + n) % (2 * s .«buf_len»)
+  pub fill : dataIn u ≡ dataIn s + n
+
+abbrev pub MovedBy : RingBufferScheduler → OperationType → ℕ → RingBufferScheduler → Type 0
+MovedBy s Read n u = ReadBy s n u
+MovedBy s Write n u = WrittenBy s n u

@@ -9,7 +9,6 @@ use Rattle.sched.specs.declared.operation.NextOperation.{NextOperation}
 use Rattle.sched.specs.declared.operation.NextOperation.the-variants as next
 use Rattle.sched.specs.declared.operation.OperationType.{OperationType}
 use Rattle.sched.specs.declared.operation.OperationType.the-variants.{Read, Write}
-use Rattle.sched.specs.declared.operation.ScheduledOperation.{ScheduledOperation}
 use Rattle.sched.specs.declared.refusal.Refusal.{Refusal}
 use Rattle.sched.specs.declared.refusal.Refusal.the-variants.{OperationTooLarge}
 use Rattle.sched.specs.declared.scheduler.Checked.{Checked}
@@ -17,9 +16,9 @@ use Rattle.sched.specs.declared.scheduler.Checked.the-variants as checke
 use Rattle.sched.specs.declared.scheduler.Registered.the-variants as registered
 use Rattle.sched.specs.declared.scheduler.RingBufferScheduler.{RingBufferScheduler}
 use Rattle.sched.specs.Operation.{operationOf}
-use Rattle.sched.specs.Promise.{NextPromise, Next, Between, Taken, ReadBy, WrittenBy, MovedBy}
+use Rattle.sched.specs.Promise.{Next, Between, Taken, MovedBy}
 use Rattle.sched.specs.Scheduler.{Sized, IsSound, soundOf, dataIn, greatestIn, offsetIn, nextIn, advancedIn, registerFrom, registerOf}
-use Rattle.sched.proofs.Laws.{sound-both, next-is, some-none, some-some, offset-lt, greatest-most, advanced-sound}
+use Rattle.sched.proofs.Laws.{sound-both, next-is, some-none, some-some, offset-lt, advanced-sound}
 use Rattle.sched.proofs.Promises.{too-large, registers}
 
 -- ---- the data between the counters

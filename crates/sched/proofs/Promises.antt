@@ -1,35 +1,29 @@
 -- What document 01 promises of the scheduler, over the definitions; `Promised` states it of the calls.
-use Prim.Native.Nat.{ℕ, zero, suc, _+_, _-_, _*_, _%_, _^_, _<_, _≤_, min}
+use Prim.Native.Nat.{ℕ, zero, suc, _+_, _-_, _^_, _<_, _≤_, min}
 use mathlib.Core.Path.{_≡_, refl, sym, ap, _∙_}
-use mathlib.Core.Bool.{Bool, cond, true, false}
-use mathlib.Core.List.{List, [], _∷_, _++_}
+use mathlib.Core.Bool.{true, false}
+use mathlib.Core.List.{List, _∷_, _++_}
 use mathlib.Core.Logic.{_⊎_, inl, inr, ⊎-elim}
-use lib.Dec.{ltb, leb, eqb}
-use borrow.Author.Tests.{eqb-true, eqb-false, ltb-true, ltb-false, leb-true, leb-false, eq-eqb, ne-eqb, lt-ltb, le-ltb, lt-leb, le-leb}
+use borrow.Author.Tests.{eq-eqb, ne-eqb, lt-ltb, le-ltb}
 use native.Mathlib.Nat.{mod-eq-of-lt, add-mod-right, add-comm, add-zero, zero-add, eq-zero-or-pos}
 use native.Mathlib.Omega.{arith}
 use Rattle.modular.proofs.Laws.{lt-or-le}
 use Rattle.sched.specs.declared.block.BufferFillState.the-variants.{Empty, Partial, Full}
-use Rattle.sched.specs.declared.list.OperationsAnswer.{OperationsAnswer}
 use Rattle.sched.specs.declared.list.OperationsAnswer.the-variants as operations
-use Rattle.sched.specs.declared.list.ScheduledOperations.{ScheduledOperations}
 use Rattle.sched.specs.declared.list.ScheduledOperations.the-variants as list
 use Rattle.sched.specs.declared.operation.NextOperation.{NextOperation}
 use Rattle.sched.specs.declared.operation.NextOperation.the-variants as next
 use Rattle.sched.specs.declared.operation.OperationType.{OperationType}
 use Rattle.sched.specs.declared.operation.OperationType.the-variants.{Read, Write}
 use Rattle.sched.specs.declared.operation.ScheduledOperation.{ScheduledOperation}
-use Rattle.sched.specs.declared.refusal.Refusal.the-variants.{ZeroBufferLength, BufferTooLarge, ItemsWrittenOutOfBounds, ItemsReadOutofBounds, DataAvailOutOfBounds, OperationTooLarge, OperationTooLong, InconsistentOperationType}
-use Rattle.sched.specs.declared.scheduler.Checked.{Checked}
-use Rattle.sched.specs.declared.scheduler.Checked.the-variants as checked
-use Rattle.sched.specs.declared.scheduler.Registered.{Registered}
+use Rattle.sched.specs.declared.refusal.Refusal.the-variants.{OperationTooLarge, OperationTooLong, InconsistentOperationType}
 use Rattle.sched.specs.declared.scheduler.Registered.the-variants as registered
 use Rattle.sched.specs.declared.scheduler.RingBufferScheduler.{RingBufferScheduler}
 use Rattle.sched.specs.Operation.{operationOf}
 use Rattle.sched.specs.Promise.{Promise, upFrom, roundFrom, joined, byBlocks}
 use Rattle.sched.specs.List.{sameTypeOf, soundTwoOf, soundListOf, totalIn}
-use Rattle.sched.specs.Scheduler.{Sized, IsSound, soundOf, dataIn, spaceIn, offsetIn, greatestIn, fillStateIn, nextBlockIn, nextIn, scheduleIn, advancedIn, registerIn, registerOf, registerListOf}
-use Rattle.sched.proofs.Laws.{sound-is, offset-lt, arranged, next-len, greatest-most, advanced-sound, advanced-greatest, advanced-twice, advanced-nothing, min-min, cut-none, cut-one, cut-two, schedule-none, schedule-one, schedule-two}
+use Rattle.sched.specs.Scheduler.{IsSound, dataIn, spaceIn, offsetIn, greatestIn, fillStateIn, nextBlockIn, nextIn, scheduleIn, advancedIn, registerIn, registerOf, registerListOf}
+use Rattle.sched.proofs.Laws.{sound-is, offset-lt, arranged, next-len, greatest-most, advanced-greatest, advanced-twice, advanced-nothing, min-min, cut-none, cut-one, cut-two, schedule-none, schedule-one, schedule-two}
 
 abbrev L : RingBufferScheduler → ℕ
 L s = s .«buf_len»

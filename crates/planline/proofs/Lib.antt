@@ -5,7 +5,10 @@ pub mod Says
 pub mod DecimalForm
 pub mod Grammar
 pub mod LineLaws
+pub mod NumeralLaws
+pub mod Printing
 pub mod TextLaws
 pub mod Pieces
 pub mod Steps
 pub mod Runs
+pub mod Promised

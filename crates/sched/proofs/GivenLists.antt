@@ -75,7 +75,7 @@ list-passed : (a b : ScheduledOperation) → GivenList (list.Two a b) 0 [] → s
 list-passed a b (list-two l e) = list-taken a b l (same-types (a .typ) (b .typ) e)
 
 -- a list that is taken is handed back
-list-kept : (a b : ScheduledOperation) (ops : ScheduledOperations) → soundListOf (list.Two a b) ≡ operations.Of ops → ops ≡ list.Two a b
+pub list-kept : (a b : ScheduledOperation) (ops : ScheduledOperations) → soundListOf (list.Two a b) ≡ operations.Of ops → ops ≡ list.Two a b
 list-kept a b ops p = go (list-only (list.Two a b)) (ap (λ (x : OperationsAnswer). numberIn (ofOperations x)) p)
   where
     go : {k : ℕ} {vs : List ℕ} → GivenList (list.Two a b) k vs → k ≡ 0 → ops ≡ list.Two a b

@@ -6,3 +6,6 @@ pub mod GivenLists
 pub mod Refuses
 pub mod Counting
 pub mod Promised
+pub mod Parts
+pub mod PromisedParts
+pub mod PromisedLists

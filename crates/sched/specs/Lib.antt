@@ -7,3 +7,4 @@ pub mod Diff
 pub mod Scheduler
 pub mod Given
 pub mod Promise
+pub mod Parts

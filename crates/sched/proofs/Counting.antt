@@ -5,20 +5,28 @@ use mathlib.Core.Logic.{⊎-elim}
 use native.Mathlib.Nat.{mod-eq-of-lt, mod-lt, mod-mod}
 use native.Mathlib.Omega.{arith}
 use Rattle.modular.proofs.Laws.{sub-back, sub-unique, sub-of-sum, sub-to-sum, add-is, lt-or-le}
+use Rattle.sched.specs.declared.list.OperationsAnswer.{OperationsAnswer}
+use Rattle.sched.specs.declared.list.OperationsAnswer.the-variants as operations
+use Rattle.sched.specs.declared.list.ScheduledOperations.{ScheduledOperations}
+use Rattle.sched.specs.declared.list.ScheduledOperations.the-variants as list
 use Rattle.sched.specs.declared.operation.NextOperation.{NextOperation}
 use Rattle.sched.specs.declared.operation.NextOperation.the-variants as next
 use Rattle.sched.specs.declared.operation.OperationType.{OperationType}
 use Rattle.sched.specs.declared.operation.OperationType.the-variants.{Read, Write}
+use Rattle.sched.specs.declared.operation.ScheduledOperation.{ScheduledOperation}
 use Rattle.sched.specs.declared.refusal.Refusal.{Refusal}
 use Rattle.sched.specs.declared.refusal.Refusal.the-variants.{OperationTooLarge}
 use Rattle.sched.specs.declared.scheduler.Checked.{Checked}
 use Rattle.sched.specs.declared.scheduler.Checked.the-variants as checked
+use Rattle.sched.specs.declared.scheduler.Registered.{Registered}
 use Rattle.sched.specs.declared.scheduler.Registered.the-variants as registered
 use Rattle.sched.specs.declared.scheduler.RingBufferScheduler.{RingBufferScheduler}
+use Rattle.sched.specs.List.{soundListOf}
 use Rattle.sched.specs.Operation.{operationOf}
-use Rattle.sched.specs.Promise.{Next, Between, Taken, MovedBy}
-use Rattle.sched.specs.Scheduler.{Sized, IsSound, soundOf, dataIn, greatestIn, offsetIn, nextIn, advancedIn, registerFrom, registerOf}
-use Rattle.sched.proofs.Laws.{sound-both, next-is, some-none, some-some, offset-lt, advanced-sound}
+use Rattle.sched.specs.Promise.{MovedByList, by-none, by-one, by-two, Next, Between, Taken, MovedBy}
+use Rattle.sched.specs.Scheduler.{Sized, IsSound, soundOf, dataIn, greatestIn, offsetIn, nextIn, advancedIn, registerFrom, registerOf, registerSoundList, registerListFrom, registerListOf, thenRegister}
+use Rattle.sched.proofs.Laws.{sound-is, sound-both, registered-sound, next-is, some-none, some-some, offset-lt, advanced-sound}
+use Rattle.sched.proofs.GivenLists.{list-kept, tests-list, registers-one, registers-two}
 use Rattle.sched.proofs.Promises.{too-large, registers}
 
 -- ---- the data between the counters
@@ -92,6 +100,31 @@ registered-moved s t n u p = go (soundOf s) refl
     go : (c : Checked) → soundOf s ≡ c → IsSound s × MovedBy s t n u
     go (checked.Sound v) q = let h : IsSound s = sound-both v s (sym q) .0 in (h, sound-part h)
     go (checked.Refused e) q = never u e (sym (ap (registerFrom t n) q) ∙ p)
+
+-- ---- registering a list
+module _ (s : RingBufferScheduler) (h : IsSound s) (u : RingBufferScheduler) where
+  -- the second after the first
+  then-moved : (a b : ScheduledOperation) (x : Registered) → registerOf s (a .typ) (a .len) ≡ x → thenRegister x b ≡ registered.Advanced u → MovedByList s (list.Two a b) u
+  then-moved a b (registered.Advanced v) p q =
+      let k : IsSound v = registered-sound s h (a .typ) (a .len) v (sym p ∙ sym (ap (registerFrom (a .typ) (a .len)) (sound-is s h))) in
+      by-two v (registered-moved s (a .typ) (a .len) v p .1) (registered-moved v (b .typ) (b .len) u (sym (ap (registerFrom (b .typ) (b .len)) (sound-is v k)) ∙ q) .1)
+  then-moved a b (registered.Refused e) p q = never u e q
+
+  sound-moved : (ops : ScheduledOperations) → registerListOf s ops ≡ registered.Advanced u → MovedByList s ops u
+  sound-moved list.None p = rw (same-advanced u s (sym p ∙ tests-list s h list.None)) by-none
+  sound-moved (list.One a) p = by-one (registered-moved s (a .typ) (a .len) u (sym (registers-one s h a) ∙ p) .1)
+  sound-moved (list.Two a b) p = go (soundListOf (list.Two a b)) refl
+    where
+      go : (x : OperationsAnswer) → soundListOf (list.Two a b) ≡ x → MovedByList s (list.Two a b) u
+      go (operations.Of ops) q = then-moved a b (registerOf s (a .typ) (a .len)) refl (sym (registers-two s h a b (q ∙ ap operations.Of (list-kept a b ops q))) ∙ p)
+      go (operations.Refused e) q = never u e (sym (tests-list s h (list.Two a b) ∙ ap (registerSoundList s) q) ∙ p)
+
+pub list-moved : (s : RingBufferScheduler) (ops : ScheduledOperations) (u : RingBufferScheduler) → registerListOf s ops ≡ registered.Advanced u → IsSound s × MovedByList s ops u
+list-moved s ops u p = go (soundOf s) refl
+  where
+    go : (c : Checked) → soundOf s ≡ c → IsSound s × MovedByList s ops u
+    go (checked.Sound v) q = let h : IsSound s = sound-both v s (sym q) .0 in (h, sound-moved s h u ops p)
+    go (checked.Refused e) q = never u e (sym (ap (registerListFrom ops) q) ∙ p)
 
 -- ---- the next operation
 pub next-promised : (s : RingBufferScheduler) → IsSound s → (t : OperationType) (m : ℕ) (o : NextOperation) → nextIn s t m ≡ o → Next s t m o

@@ -103,17 +103,17 @@ module _ (s : RingBufferScheduler) where
   record-refused ops e p = ap (λ (c : Checked). ofRegistered (registerListFrom ops c)) p
 
   module _ (h : IsSound s) where
-    tests-list : (ops : ScheduledOperations) → registerListOf s ops ≡ registerSoundList s (soundListOf ops)
+    pub tests-list : (ops : ScheduledOperations) → registerListOf s ops ≡ registerSoundList s (soundListOf ops)
     tests-list ops = ap (registerListFrom ops) (sym (sound-is s h))
 
     list-refused : (ops : ScheduledOperations) (e : Refusal) → soundListOf ops ≡ operations.Refused e → ofOps ops ≡ refused e
     list-refused ops e p = ap ofRegistered (tests-list ops ∙ ap (registerSoundList s) p)
 
-    registers-one : (a : ScheduledOperation) → registerListOf s (list.One a) ≡ registerOf s (a .typ) (a .len)
+    pub registers-one : (a : ScheduledOperation) → registerListOf s (list.One a) ≡ registerOf s (a .typ) (a .len)
     registers-one a = tests-list (list.One a) ∙ ap (registerFrom (a .typ) (a .len)) (sound-is s h)
 
     module _ (a b : ScheduledOperation) (l : soundListOf (list.Two a b) ≡ operations.Of (list.Two a b)) where
-      registers-two : registerListOf s (list.Two a b) ≡ thenRegister (registerOf s (a .typ) (a .len)) b
+      pub registers-two : registerListOf s (list.Two a b) ≡ thenRegister (registerOf s (a .typ) (a .len)) b
       registers-two = tests-list (list.Two a b) ∙ ap (registerSoundList s) l ∙ ap (λ (c : Checked). thenRegister (registerFrom (a .typ) (a .len) c) b) (sound-is s h)
 
       first-refused : (e : Refusal) → registerOf s (a .typ) (a .len) ≡ registered.Refused e → ofOps (list.Two a b) ≡ refused e

@@ -1,5 +1,5 @@
 -- What document 01 promises of the scheduler, of the calls: every outcome that an attached contract allows keeps it.
-use Prim.Native.Nat.{ℕ, _+_, _-_, _≤_}
+use Prim.Native.Nat.{ℕ, _+_, _-_, _≤_, min}
 use mathlib.Core.Path.{_≡_, refl, sym, ap, _∙_}
 use native.Mathlib.Omega.{arith}
 use Rattle.modular.proofs.Saying.{Allows, Keeps}
@@ -20,12 +20,12 @@ use Rattle.sched.specs.declared.scheduler.Checked.the-variants as checke
 use Rattle.sched.specs.declared.scheduler.Registered.{Registered}
 use Rattle.sched.specs.declared.scheduler.Registered.the-variants as registered
 use Rattle.sched.specs.declared.scheduler.RingBufferScheduler.{RingBufferScheduler}
-use Rattle.sched.specs.Promise.{Promise, NextPromise, Next, joined, byBlocks, Between, Taken, WrittenBy, MovedBy}
-use Rattle.sched.specs.Scheduler.{IsSound, soundOf, dataIn, spaceIn, greatestIn, nextIn, scheduleIn, advancedIn, greatestFrom, nextFrom, nextOf, scheduleFrom, scheduleOf, registerOf}
-use Rattle.sched.proofs.Counting.{between, taken-sound, sound-taken, registered-moved, next-promised}
+use Rattle.sched.specs.Promise.{Promise, NextPromise, Next, joined, byBlocks, Between, Taken, WrittenBy, MovedBy, MovedByList}
+use Rattle.sched.specs.Scheduler.{IsSound, soundOf, dataIn, spaceIn, greatestIn, nextIn, scheduleIn, advancedIn, greatestFrom, nextFrom, nextOf, scheduleFrom, scheduleOf, registerOf, registerListOf}
+use Rattle.sched.proofs.Counting.{between, taken-sound, sound-taken, moved, registered-moved, list-moved, next-promised}
 use Rattle.sched.proofs.Laws.{sound-is, sound-both, advanced-sound}
 use Rattle.sched.proofs.Promises.{scheduling, by-blocks, registers}
-use Rattle.sched.proofs.Says.{demand-soundness-says, data-avail-says, space-avail-says, max-operation-len-says, schedule-contiguous-operations-says, schedule-reads-says, schedule-writes-says, schedule-next-contiguous-operation-says, schedule-next-read-says, schedule-next-write-says, try-register-read-says, try-register-write-says, try-register-operation-manually-says, try-register-operation-says}
+use Rattle.sched.proofs.Says.{demand-soundness-says, data-avail-says, space-avail-says, max-operation-len-says, schedule-contiguous-operations-says, schedule-reads-says, schedule-writes-says, schedule-next-contiguous-operation-says, schedule-next-read-says, schedule-next-write-says, try-register-read-says, try-register-write-says, try-register-operation-manually-says, try-register-operation-says, try-register-operations-says}
 use Rattle.sched.proofs.scheduler.RingBufferScheduler.demand_soundness.Kinds as demand-soundness-kinds
 use Rattle.sched.proofs.scheduler.RingBufferScheduler.demand_soundness.Reads as demand-soundness
 use Rattle.sched.proofs.scheduler.RingBufferScheduler.data_avail.Kinds as data-avail-kinds
@@ -54,9 +54,14 @@ use Rattle.sched.proofs.scheduler.RingBufferScheduler.try_register_oper
 use Rattle.sched.proofs.scheduler.RingBufferScheduler.try_register_operation_manually.Reads as try-register-operation-manually
 use Rattle.sched.proofs.scheduler.RingBufferScheduler.try_register_operation.Kinds as try-register-operation-kinds
 use Rattle.sched.proofs.scheduler.RingBufferScheduler.try_register_operation.Reads as try-register-operation
+use Rattle.sched.proofs.scheduler.RingBufferScheduler.try_register_operations.Kinds as try-register-operations-kinds
+use Rattle.sched.proofs.scheduler.RingBufferScheduler.try_register_operations.Reads as try-register-operations
 
 same-amount : (d e : ℕ) → amount.Of d ≡ amount.Of e → d ≡ e
 same-amount d e p = cc
+
+same-operations : (o p : ScheduledOperations) → operations.Of o ≡ operations.Of p → o ≡ p
+same-operations o p q = cc
 
 same-next : (o p : NextOperation) → nexts.Of o ≡ nexts.Of p → o ≡ p
 same-next o p q = cc
@@ -121,6 +126,11 @@ manually-registered κs a z q u e = registered-moved (a .0) (a .1 .0) (a .1 .1 .
 
 pub operation-registered : Keeps 0 try-register-operation-kinds.ps try-register-operation-kinds.r try-register-operation.Learnt (λ κs a z. Moves (a .0) (a .1 .0 .typ) (a .1 .0 .len) z)
 operation-registered κs a z q u e = registered-moved (a .0) (a .1 .0 .typ) (a .1 .0 .len) u (sym (try-register-operation-says κs a z (q .0) (q .1)) ∙ e)
+
+pub operations-registered :
+    Keeps 0 try-register-operations-kinds.ps try-register-operations-kinds.r try-register-operations.Learnt
+    (λ κs a z. (u : RingBufferScheduler) → z ≡ registered.Advanced u → IsSound (a .0) × MovedByList (a .0) (a .1 .0) u)
+operations-registered κs a z q u e = list-moved (a .0) (a .1 .0) u (sym (try-register-operations-says κs a z (q .0) (q .1)) ∙ e)
 
 -- so what `data_avail` answers is n more after a write of n
 abbrev pub TryRegisterWrite : RingBufferScheduler → ℕ → Registered → Type 0
@@ -199,3 +209,15 @@ module _ (s : RingBufferScheduler) (h : IsSound s) (t : OperationType) (m : ℕ)
       let a : u ≡ advancedIn s t (f .len) = advanced-by s h t f u (n .typed) l k in
       let w : o ≡ nextIn (advancedIn s t (f .len)) t (m - f .len) = next-of u (rw a (advanced-sound s h (f .len) t l)) t (m - f .len) o v ∙ ap (λ (x : RingBufferScheduler). nextIn x t (m - f .len)) a in
       by-blocks-is ∙ ap (λ (x : NextOperation). operations.Of (byBlocks s t m x)) (sym e) ∙ ap (λ (x : NextOperation). operations.Of (joined f x)) (sym w)
+
+-- ---- what is scheduled is taken by registering, and moves all of it
+pub schedule-registers :
+    (s : RingBufferScheduler) → IsSound s → (t : OperationType) (m : ℕ) (ops : ScheduledOperations) → Schedule s t m (operations.Of ops) →
+    (z : Registered) → Allows 0 try-register-operations-kinds.ps try-register-operations-kinds.r try-register-operations.Learnt tt (s, (ops, tt)) z →
+    (u : RingBufferScheduler) × (z ≡ registered.Advanced u) × MovedBy s t (min m (greatestIn s t)) u
+schedule-registers s h t m ops q z p =
+    let e : ops ≡ scheduleIn s t m = same-operations ops (scheduleIn s t m) (schedule-contiguous-operations-says tt (s, (t, (m, tt))) (operations.Of ops) (q .0) (q .1) ∙ ap (scheduleFrom t m) (sym (sound-is s h))) in (
+      advancedIn s t (min m (greatestIn s t)),
+      try-register-operations-says tt (s, (ops, tt)) z (p .0) (p .1) ∙ ap (registerListOf s) e ∙ scheduling s h t m .registers,
+      moved s h (min m (greatestIn s t)) t (omega arith),
+    )

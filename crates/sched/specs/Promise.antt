@@ -111,3 +111,9 @@ pub record WrittenBy (s : RingBufferScheduler) (n : ℕ) (u : RingBufferSchedule
 abbrev pub MovedBy : RingBufferScheduler → OperationType → ℕ → RingBufferScheduler → Type 0
 MovedBy s Read n u = ReadBy s n u
 MovedBy s Write n u = WrittenBy s n u
+
+-- a list registered: operation by operation
+pub data MovedByList (s : RingBufferScheduler) : ScheduledOperations → RingBufferScheduler → Type 0 where
+  by-none : MovedByList s list.None s
+  by-one : {a : ScheduledOperation} {u : RingBufferScheduler} → MovedBy s (a .typ) (a .len) u → MovedByList s (list.One a) u
+  by-two : {a b : ScheduledOperation} {u : RingBufferScheduler} (v : RingBufferScheduler) → MovedBy s (a .typ) (a .len) v → MovedBy v (b .typ) (b .len) u → MovedByList s (list.Two a b) u

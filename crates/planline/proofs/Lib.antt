@@ -6,6 +6,7 @@ pub mod DecimalForm
 pub mod Grammar
 pub mod LineLaws
 pub mod NumeralLaws
+pub mod LinesLaws
 pub mod Printing
 pub mod TextLaws
 pub mod Pieces

@@ -25,10 +25,12 @@ use Rattle.planline.specs.declared.line.Plan.the-variants as plan
 use Rattle.planline.specs.Cut.{Step, step, stepOf, lastOf}
 use Rattle.planline.specs.Input.{linesOf, textsOf, joined}
 use Rattle.planline.specs.Line.{parseOf, planAfter, planOf}
+use Rattle.planline.specs.Lines.{LinesOf, Answered}
 use Rattle.planline.specs.Numeral.{Line, Printed, Appended, there, no-room}
 use Rattle.planline.specs.Run.{Place, Run, Start}
 use Rattle.planline.specs.Text.{Filled, filled, planText, appendOf}
 use Rattle.planline.proofs.Case.{input, output, case}
+use Rattle.planline.proofs.LinesLaws.{lines-are, answered}
 use Rattle.planline.proofs.Printing.{line-parsed, parsed-line, line-planned, else-bad, plan-printed}
 use Rattle.planline.proofs.Runs.{run-text}
 use Rattle.planline.proofs.Says.{parse-says, plan-line-says, append-says, answer-next-says, answer-last-says}
@@ -95,7 +97,7 @@ append-promised κs a z ws q ηs b e p r =
     rw (left .0, left .1, said)
     (appended (planOf (a .0 .now)) (planText (planOf (a .0 .now))) (a .1 .0 .now) (a .1 .1 .0) (plan-printed (a .0 .now)) (plan-text-short (planOf (a .0 .now))))
 
--- ---- a run of the calls over any pieces makes the text of the input's lines
+-- ---- a run of the calls over any pieces makes the answers to the input's lines
 -- `answer_next` may leave x on what stands at s, from an index of a piece
 pub record NextCall (piece : List ℕ) (s : Place) (i : ℕ) (x : Step) : Type 0 where
   pub κs : Lfts 3
@@ -129,9 +131,12 @@ last-is s o c =
     let left = answer-last-says (c .κs) (c .a) (c .z) (c .ws) (c .allowed) in
     c .leaves ∙ rw (left .0, left .1, c .lent-line, c .lent-out)
 
-pub run-promised : (pieces : List (List ℕ)) (s : Place) (text : List ℕ) → Start s → Run NextCall LastCall pieces s text → text ≡ textsOf (linesOf (joined pieces))
-run-promised = run-text NextCall LastCall next-is last-is
+run-is : (pieces : List (List ℕ)) (s : Place) (text : List ℕ) → Start s → Run NextCall LastCall pieces s text → text ≡ textsOf (linesOf (joined pieces))
+run-is = run-text NextCall LastCall next-is last-is
+
+pub run-promised : (pieces : List (List ℕ)) (s : Place) (text : List ℕ) → Start s → Run NextCall LastCall pieces s text → (lines : List (List ℕ)) × LinesOf (joined pieces) lines × Answered lines text
+run-promised pieces s text b r = (linesOf (joined pieces), lines-are (joined pieces), rw (run-is pieces s text b r) (answered (linesOf (joined pieces))))
 
 -- the paper's whole case, in whatever pieces
 pub case-promised : (pieces : List (List ℕ)) (s : Place) (text : List ℕ) → Start s → joined pieces ≡ input → Run NextCall LastCall pieces s text → text ≡ output
-case-promised pieces s text b e r = run-promised pieces s text b r ∙ ap (λ (xs : List ℕ). textsOf (linesOf xs)) e ∙ case
+case-promised pieces s text b e r = run-is pieces s text b r ∙ ap (λ (xs : List ℕ). textsOf (linesOf xs)) e ∙ case

@@ -1,8 +1,9 @@
 -- What each public call says, in the order of the paper: whatever its attached contract allows is this definition of its
 -- arguments. With specs/ these lines are what a reader must believe of this crate.
 use Prim.Native.Nat.{_%_}
+use mathlib.Core.Path.{refl}
 use Rattle.modular.specs.Modulus.{wholeOf, fullRange, tryNewOf, isFullRangeOf, modulusOf, containsOf, doubleAt, tryNewNumberOf, negMod, subMod, addMod}
-use Rattle.modular.proofs.Saying.{Says}
+use Rattle.modular.proofs.Saying.{Says, Decides, says-decides}
 use Rattle.modular.proofs.Modulus.new_full_range.Kinds as new-full-range-kinds
 use Rattle.modular.proofs.Modulus.new_full_range.Reads as new-full-range
 use Rattle.modular.proofs.Modulus.try_new.Kinds as try-new-kinds
@@ -61,3 +62,7 @@ sub-says κs a z ws p = p
 
 pub add-says : Says 0 add-kinds.ps add-kinds.r add.Learnt (λ κs a. addMod (wholeOf (a .0)) (a .1 .0) (a .1 .1 .0))
 add-says κs a z ws p = p
+
+-- ---- so each contract decides the outcome: any two that it allows are equal. Here for one of them
+add-decided : Decides 0 add-kinds.ps add-kinds.r add.Learnt
+add-decided = says-decides 0 add-kinds.ps add-kinds.r add.Learnt _ (λ κs a ws ws′. refl) add-says

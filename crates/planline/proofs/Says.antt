@@ -3,7 +3,7 @@
 use Prim.Native.Nat.{ℕ}
 use mathlib.Core.Path.{ap}
 use mathlib.Core.List.{List}
-use Rattle.modular.proofs.Saying.{Says, Leaves}
+use Rattle.modular.proofs.Saying.{Says, Leaves, Decides, leaves-decides}
 use Rattle.planline.specs.Cut.{Step, reached, stepOf, lastOf}
 use Rattle.planline.specs.Line.{parseOf, planOf}
 use Rattle.planline.specs.Text.{Filled, filled, planText, appendOf}
@@ -48,3 +48,7 @@ pub answer-last-says :
     (λ κs a. lastOf (filled (a .1 .0) (a .0 .now)) (filled (a .1 .1 .1 .0) (a .1 .1 .0 .now)) .at)
     (λ κs a. (tt, (tt, (lastOf (filled (a .1 .0) (a .0 .now)) (filled (a .1 .1 .1 .0) (a .1 .1 .0 .now)) .bytes, (tt, tt)))))
 answer-last-says κs a z ws p = (ap (λ (x : Filled). x .at) p, ap (λ (x : Filled). (tt, (tt, (x .bytes, (tt, tt))))) p)
+
+-- ---- so each contract decides the outcome: any two that it allows are equal, lent memory included. Here for one of them
+append-decided : Decides 2 append-kinds.ps append-kinds.r append.Learnt
+append-decided = leaves-decides 2 append-kinds.ps append-kinds.r append.Learnt _ _ append-says

@@ -1,12 +1,13 @@
 -- What each public call says, in the order of the paper: whatever its attached contract allows is this definition of its
 -- arguments. With specs/ these lines are what a reader must believe of this crate.
+use mathlib.Core.Path.{refl}
+use Rattle.modular.proofs.Saying.{Says, Decides, says-decides}
 use Rattle.sched.specs.declared.operation.OperationType.the-variants.{Read, Write}
 use Rattle.sched.specs.Block.{blockOf}
 use Rattle.sched.specs.Diff.{diffOf, isSameOf, isDifferentOf, oldValueOf, newValueOf}
 use Rattle.sched.specs.List.{soundListOf, cumulativeLengthOf, cumulativeOffsetsOf, outsideRangesOf}
 use Rattle.sched.specs.Operation.{operationOf, defaultOperation}
 use Rattle.sched.specs.Scheduler.{schedulerOf, soundOf, bufLenOf, counterAnswerOf, offsetAnswerOf, greatestOf, isZeroFrom, isPositiveFrom, fillStateOf, layoutOf, blocksOf, block0From, block1From, block2From, offFrom, lenFrom, nextBlockOf, nextOf, scheduleOf, registerOf, registerListOf}
-use Rattle.modular.proofs.Saying.{Says}
 use Rattle.sched.proofs.scheduler.RingBufferScheduler.try_new.Kinds as try-new-kinds
 use Rattle.sched.proofs.scheduler.RingBufferScheduler.try_new.Reads as try-new
 use Rattle.sched.proofs.scheduler.RingBufferScheduler.try_from_counters.Kinds as try-from-counters-kinds
@@ -304,3 +305,7 @@ old-value-says κs a z ws p = p
 
 pub new-value-says : Says 0 new-value-kinds.ps new-value-kinds.r new-value.Learnt (λ κs a. newValueOf (a .0))
 new-value-says κs a z ws p = p
+
+-- ---- so each contract decides the outcome: any two that it allows are equal. Here for one of them
+schedule-reads-decided : Decides 0 schedule-reads-kinds.ps schedule-reads-kinds.r schedule-reads.Learnt
+schedule-reads-decided = says-decides 0 schedule-reads-kinds.ps schedule-reads-kinds.r schedule-reads.Learnt _ (λ κs a ws ws′. refl) schedule-reads-says

@@ -1,21 +1,22 @@
 -- The numbers 1 to 6 are given exactly when the paper's table says so, over the definitions; `Refuses` states it of the calls.
 use Prim.Native.Nat.{ℕ, _*_, _^_, _<_}
-use mathlib.Core.Path.{_≡_, refl, sym, ap}
+use mathlib.Core.Path.{_≡_, refl, sym, ap, _∙_}
 use mathlib.Core.Bool.{Bool, true, false}
-use mathlib.Core.List.{List}
+use mathlib.Core.List.{List, [], _∷_}
 use mathlib.Core.Logic.{⊎-elim}
 use lib.Dec.{ltb, leb, eqb}
 use borrow.Author.Tests.{eqb-true, eqb-false, ltb-true, ltb-false, leb-true, leb-false, eq-eqb, ne-eqb, lt-ltb, le-ltb, lt-leb, le-leb}
 use native.Mathlib.Omega.{arith}
 use Rattle.modular.proofs.Laws.{lt-or-le}
 use Rattle.sched.specs.declared.operation.OperationType.{OperationType}
+use Rattle.sched.specs.declared.operation.OperationType.the-variants.{Read, Write}
 use Rattle.sched.specs.declared.refusal.Refusal.{Refusal}
 use Rattle.sched.specs.declared.refusal.Refusal.the-variants.{ZeroBufferLength, BufferTooLarge, ItemsWrittenOutOfBounds, ItemsReadOutofBounds, DataAvailOutOfBounds, OperationTooLarge, OperationTooLong, InconsistentOperationType}
 use Rattle.sched.specs.declared.scheduler.Checked.{Checked}
 use Rattle.sched.specs.declared.scheduler.Checked.the-variants as checked
 use Rattle.sched.specs.declared.scheduler.RingBufferScheduler.{RingBufferScheduler}
-use Rattle.sched.specs.Given.{Verdict, accepted, refused, numberIn, valuesIn, Exactly, Given, taken, given-1, given-2, given-3, given-4, given-5, GivenRegister, before-6, given-6, fits, ofChecked, ofRegistered}
-use Rattle.sched.specs.Refusal.{numberOf}
+use Rattle.sched.specs.Given.{Verdict, accepted, refused, numberIn, valuesIn, Exactly, Given, taken, given-1, given-2, given-3, given-4, given-5, TypeNumber, a-read, a-write, GivenRegister, before-6, given-6, fits, ofChecked, ofRegistered}
+use Rattle.sched.specs.Refusal.{numberOf, typeNumber}
 use Rattle.sched.specs.Scheduler.{IsSound, soundOf, dataIn, greatestIn, registerFrom, registerOf}
 use Rattle.sched.proofs.Laws.{sound-is, sound-both}
 use Rattle.sched.proofs.Promises.{too-large, registers}
@@ -96,6 +97,14 @@ number-some (OperationTooLong excess) = omega arith
 number-some InconsistentOperationType = omega arith
 
 -- ---- 6
+pub type-number : (t : OperationType) → TypeNumber t (typeNumber t)
+type-number Read = a-read
+type-number Write = a-write
+
+type-number-is : {t : OperationType} {no : ℕ} → TypeNumber t no → typeNumber t ≡ no
+type-number-is a-read = refl
+type-number-is a-write = refl
+
 module _ (s : RingBufferScheduler) (t : OperationType) (n : ℕ) where
   abbrev after : Verdict
   after = ofRegistered (registerOf s t n)
@@ -110,7 +119,7 @@ module _ (s : RingBufferScheduler) (t : OperationType) (n : ℕ) where
       sound-part : IsSound s → GivenRegister s t n (numberIn after) (valuesIn after)
       sound-part h =
           ⊎-elim
-          (λ l. rw (ap ofRegistered (too-large s h t n l)) (given-6 h l))
+          (λ l. rw (ap ofRegistered (too-large s h t n l)) (given-6 h (type-number t) l))
           (λ l. rw (ap ofRegistered (registers s h t n l)) (fits h l))
           (lt-or-le (greatestIn s t) n)
 
@@ -128,7 +137,9 @@ module _ (s : RingBufferScheduler) (t : OperationType) (n : ℕ) where
           let z : numberIn (ofChecked (soundOf s)) ≡ k = record-exactly s .always k vs g .0 in
           absurd (omega (arith, ap (λ (c : Checked). numberIn (ofChecked c)) q))
       go (checked.Refused e) q = rw (unsound e q) (rw q at (record-exactly s .always k vs g))
-  register-always (given-6 h l) = told after (refused (OperationTooLarge t n (greatestIn s t))) (ap ofRegistered (too-large s h t n l))
+  register-always (given-6 {no} h y l) =
+      let g = told after (refused (OperationTooLarge t n (greatestIn s t))) (ap ofRegistered (too-large s h t n l)) in
+      (g .0, g .1 ∙ ap (λ (x : ℕ). x ∷ n ∷ greatestIn s t ∷ []) (type-number-is y))
   register-always (fits h l) = told after accepted (ap ofRegistered (registers s h t n l))
 
   pub register-exactly : Exactly (GivenRegister s t n) (ofRegistered (registerOf s t n))

@@ -26,7 +26,7 @@ use Rattle.sched.specs.List.{sameTypeOf, soundListOf}
 use Rattle.sched.specs.Scheduler.{IsSound, soundOf, greatestIn, advancedIn, registerFrom, registerOf, registerSoundList, registerListFrom, registerListOf, thenRegister}
 use Rattle.sched.proofs.Laws.{sound-is, sound-both, advanced-sound}
 use Rattle.sched.proofs.Promises.{too-large, registers, too-long, inconsistent, list-taken}
-use Rattle.sched.proofs.Given.{Told, told, number-some, record-exactly, register-exactly}
+use Rattle.sched.proofs.Given.{Told, told, number-some, type-number, record-exactly, register-exactly}
 
 -- ---- 7, then 8
 different : {A : Type 0} → true ≡ false → A
@@ -132,7 +132,7 @@ module _ (s : RingBufferScheduler) where
         both : (l : soundListOf (list.Two a b) ≡ operations.Of (list.Two a b)) → GivenList (list.Two a b) 0 [] → GivenOperations s (list.Two a b) (numberIn (ofOps (list.Two a b))) (valuesIn (ofOps (list.Two a b)))
         both l g =
             ⊎-elim
-            (λ f. rw (first-refused a b l (OperationTooLarge (a .typ) (a .len) (greatestIn s (a .typ))) (too-large s h (a .typ) (a .len) f)) (at-first {k = 6} h g (omega arith) (given-6 h f)))
+            (λ f. rw (first-refused a b l (OperationTooLarge (a .typ) (a .len) (greatestIn s (a .typ))) (too-large s h (a .typ) (a .len) f)) (at-first {k = 6} h g (omega arith) (given-6 h (type-number (a .typ)) f)))
             (λ f. rw (ap ofRegistered (second-asked a b l f)) (at-second h g f (register-exactly (advancedIn s (a .typ) (a .len)) (b .typ) (b .len) .only)))
             (lt-or-le (greatestIn s (a .typ)) (a .len))
 

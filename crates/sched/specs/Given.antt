@@ -29,6 +29,7 @@ use Rattle.sched.specs.declared.list.ScheduledOperations.the-variants as
 use Rattle.sched.specs.declared.operation.NextOperationAnswer.{NextOperationAnswer}
 use Rattle.sched.specs.declared.operation.NextOperationAnswer.the-variants as nexts
 use Rattle.sched.specs.declared.operation.OperationType.{OperationType}
+use Rattle.sched.specs.declared.operation.OperationType.the-variants.{Read, Write}
 use Rattle.sched.specs.declared.operation.ScheduledOperation.{ScheduledOperation}
 use Rattle.sched.specs.declared.refusal.Refusal.{Refusal}
 use Rattle.sched.specs.declared.scheduler.Checked.{Checked}
@@ -36,7 +37,7 @@ use Rattle.sched.specs.declared.scheduler.Checked.the-variants as checke
 use Rattle.sched.specs.declared.scheduler.Registered.{Registered}
 use Rattle.sched.specs.declared.scheduler.Registered.the-variants as registered
 use Rattle.sched.specs.declared.scheduler.RingBufferScheduler.{RingBufferScheduler}
-use Rattle.sched.specs.Refusal.{numberOf, valuesOf, typeNumber}
+use Rattle.sched.specs.Refusal.{numberOf, valuesOf}
 use Rattle.sched.specs.Scheduler.{Sized, IsSound, dataIn, greatestIn, advancedIn}
 
 -- ---- what a caller is told
@@ -57,6 +58,11 @@ valuesIn (refused e) = valuesOf e
 pub record Exactly (G : ℕ → List ℕ → Type 0) (v : Verdict) : Type 0 where
   pub only : G (numberIn v) (valuesIn v)
   pub always : (k : ℕ) (vs : List ℕ) → G k vs → (numberIn v ≡ k) × (valuesIn v ≡ vs)
+
+-- a type's number among the values
+pub data TypeNumber : OperationType → ℕ → Type 0 where
+  a-read : TypeNumber Read 0
+  a-write : TypeNumber Write 1
 
 -- ---- 1 to 5: a record, tested in this order; 0 where it is taken
 module _ (s : RingBufferScheduler) where
@@ -81,7 +87,7 @@ module _ (s : RingBufferScheduler) where
   module _ (t : OperationType) (n : ℕ) where
     pub data GivenRegister : ℕ → List ℕ → Type 0 where
       before-6 : {k : ℕ} {vs : List ℕ} → 0 < k → Given k vs → GivenRegister k vs
-      given-6 : IsSound s → greatestIn s t < n → GivenRegister 6 (typeNumber t ∷ n ∷ greatestIn s t ∷ [])
+      given-6 : {no : ℕ} → IsSound s → TypeNumber t no → greatestIn s t < n → GivenRegister 6 (no ∷ n ∷ greatestIn s t ∷ [])
       fits : IsSound s → n ≤ greatestIn s t → GivenRegister 0 []
 
 -- ---- 7, then 8: a list of two. None and one are never refused

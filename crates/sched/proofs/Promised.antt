@@ -20,7 +20,7 @@ use Rattle.sched.specs.declared.scheduler.Checked.the-variants as checke
 use Rattle.sched.specs.declared.scheduler.Registered.{Registered}
 use Rattle.sched.specs.declared.scheduler.Registered.the-variants as registered
 use Rattle.sched.specs.declared.scheduler.RingBufferScheduler.{RingBufferScheduler}
-use Rattle.sched.specs.Promise.{Promise, NextPromise, Next, joined, byBlocks, Between, Taken, WrittenBy, MovedBy, MovedByList}
+use Rattle.sched.specs.Promise.{Schedules, Asks, Moves, NextPromise, joined, byBlocks, Between, Taken, WrittenBy, MovedBy, MovedByList}
 use Rattle.sched.specs.Scheduler.{IsSound, soundOf, dataIn, spaceIn, greatestIn, nextIn, scheduleIn, advancedIn, greatestFrom, nextFrom, nextOf, scheduleFrom, scheduleOf, registerOf, registerListOf}
 use Rattle.sched.proofs.Counting.{between, taken-sound, sound-taken, moved, registered-moved, list-moved, next-promised}
 use Rattle.sched.proofs.Laws.{sound-is, sound-both, advanced-sound}
@@ -112,9 +112,6 @@ module _ (s : RingBufferScheduler) (h : IsSound s) where
   greatest-of-write y z p q = space-avail-says tt (s, tt) y (p .0) (p .1) ∙ sym (max-operation-len-says tt (s, (Write, tt)) z (q .0) (q .1))
 
 -- ---- registering
-abbrev Moves : RingBufferScheduler → OperationType → ℕ → Registered → Type 0
-Moves s t n z = (u : RingBufferScheduler) → z ≡ registered.Advanced u → IsSound s × MovedBy s t n u
-
 pub read-registered : Keeps 0 try-register-read-kinds.ps try-register-read-kinds.r try-register-read.Learnt (λ κs a z. Moves (a .0) Read (a .1 .0) z)
 read-registered κs a z q u e = registered-moved (a .0) Read (a .1 .0) u (sym (try-register-read-says κs a z (q .0) (q .1)) ∙ e)
 
@@ -143,9 +140,6 @@ data-after-write s u n d z p q r =
     data-is u (m .1 .sound) z r ∙ ap amount.Of (m .1 .fill ∙ ap (λ (x : ℕ). x + n) (sym e))
 
 -- ---- scheduling
-abbrev Schedules : RingBufferScheduler → OperationType → ℕ → OperationsAnswer → Type 0
-Schedules s t m z = IsSound s → (ops : ScheduledOperations) × (z ≡ operations.Of ops) × Promise s t m ops
-
 schedules : (s : RingBufferScheduler) (t : OperationType) (m : ℕ) (z : OperationsAnswer) → z ≡ scheduleOf s t m → Schedules s t m z
 schedules s t m z e h = (scheduleIn s t m, e ∙ ap (scheduleFrom t m) (sym (sound-is s h)), scheduling s h t m)
 
@@ -159,9 +153,6 @@ pub writes-promised : Keeps 0 schedule-writes-kinds.ps schedule-writes-kinds.r s
 writes-promised κs a z q = schedules (a .0) Write (a .1 .0) z (schedule-writes-says κs a z (q .0) (q .1))
 
 -- the next operation alone
-abbrev Asks : RingBufferScheduler → OperationType → ℕ → NextOperationAnswer → Type 0
-Asks s t m z = IsSound s → (o : NextOperation) × (z ≡ nexts.Of o) × Next s t m o
-
 asks : (s : RingBufferScheduler) (t : OperationType) (m : ℕ) (z : NextOperationAnswer) → z ≡ nextOf s t m → Asks s t m z
 asks s t m z e h = (nextIn s t m, e ∙ ap (nextFrom t m) (sym (sound-is s h)), next-promised s h t m (nextIn s t m) refl)
 

@@ -3,13 +3,18 @@ use Prim.Native.Nat.{ℕ, zero, suc, _+_, _-_, _*_, _%_, _<_, _≤_, min}
 use mathlib.Core.Path.{_≡_}
 use mathlib.Core.List.{List, [], _∷_, _++_}
 use mathlib.Core.Logic.{_⊎_}
+use Rattle.sched.specs.declared.list.OperationsAnswer.{OperationsAnswer}
+use Rattle.sched.specs.declared.list.OperationsAnswer.the-variants as operations
 use Rattle.sched.specs.declared.list.ScheduledOperations.{ScheduledOperations}
 use Rattle.sched.specs.declared.list.ScheduledOperations.the-variants as list
 use Rattle.sched.specs.declared.operation.NextOperation.{NextOperation}
 use Rattle.sched.specs.declared.operation.NextOperation.the-variants as next
+use Rattle.sched.specs.declared.operation.NextOperationAnswer.{NextOperationAnswer}
+use Rattle.sched.specs.declared.operation.NextOperationAnswer.the-variants as nexts
 use Rattle.sched.specs.declared.operation.OperationType.{OperationType}
 use Rattle.sched.specs.declared.operation.OperationType.the-variants.{Read, Write}
 use Rattle.sched.specs.declared.operation.ScheduledOperation.{ScheduledOperation}
+use Rattle.sched.specs.declared.scheduler.Registered.{Registered}
 use Rattle.sched.specs.declared.scheduler.Registered.the-variants as registered
 use Rattle.sched.specs.declared.scheduler.RingBufferScheduler.{RingBufferScheduler}
 use Rattle.sched.specs.List.{totalIn}
@@ -71,6 +76,13 @@ abbrev pub Next : RingBufferScheduler → OperationType → ℕ → NextOperatio
 Next s t m next.None = min m (greatestIn s t) ≡ 0
 Next s t m (next.Some f) = NextPromise s t m f
 
+-- so of an answer: a sound scheduler is scheduled
+abbrev pub Schedules : RingBufferScheduler → OperationType → ℕ → OperationsAnswer → Type 0
+Schedules s t m z = IsSound s → (ops : ScheduledOperations) × (z ≡ operations.Of ops) × Promise s t m ops
+
+abbrev pub Asks : RingBufferScheduler → OperationType → ℕ → NextOperationAnswer → Type 0
+Asks s t m z = IsSound s → (o : NextOperation) × (z ≡ nexts.Of o) × Next s t m o
+
 -- asking block after block, as the Rust does: the second of the scheduler after the first, with what the first left over
 abbrev pub joined : ScheduledOperation → NextOperation → ScheduledOperations
 joined f next.None = list.One f
@@ -111,6 +123,10 @@ pub record WrittenBy (s : RingBufferScheduler) (n : ℕ) (u : RingBufferSchedule
 abbrev pub MovedBy : RingBufferScheduler → OperationType → ℕ → RingBufferScheduler → Type 0
 MovedBy s Read n u = ReadBy s n u
 MovedBy s Write n u = WrittenBy s n u
+
+-- so of an answer: an advanced scheduler comes of a sound one
+abbrev pub Moves : RingBufferScheduler → OperationType → ℕ → Registered → Type 0
+Moves s t n z = (u : RingBufferScheduler) → z ≡ registered.Advanced u → IsSound s × MovedBy s t n u
 
 -- a list registered: operation by operation
 pub data MovedByList (s : RingBufferScheduler) : ScheduledOperations → RingBufferScheduler → Type 0 where

@@ -3,4 +3,4 @@ pub mod Core
 pub mod Shared
 pub mod Plain
 pub mod Run
-pub mod Decided
+pub mod Says

@@ -1,3 +1,4 @@
 pub mod Ring
 pub mod Copies
 pub mod Lent
+pub mod Promises

@@ -2,5 +2,4 @@ pub mod View
 pub mod Core
 pub mod Shared
 pub mod Plain
-pub mod Run
 pub mod Says

@@ -3,3 +3,4 @@ pub mod Core
 pub mod Shared
 pub mod Plain
 pub mod Says
+pub mod Bridge

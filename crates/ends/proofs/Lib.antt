@@ -4,3 +4,4 @@ pub mod Shared
 pub mod Plain
 pub mod Says
 pub mod Bridge
+pub mod Witness

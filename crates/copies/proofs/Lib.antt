@@ -3,3 +3,4 @@ pub mod Laws
 pub mod Calls
 mod Lending
 pub mod Says
+pub mod Promised

@@ -8,7 +8,7 @@ use native.Mathlib.Nat.{mod-lt, mod-eq-of-lt, mod-add-mod, mod-self, suc-mod, ad
 use native.Mathlib.Numerals.{add-one}
 use native.Mathlib.Omega.{arith}
 use lib.ListN.{length, getD, set, take, drop, length-set, length-append, length-drop}
-use lib.Seq.{sets, sets-eq, drop-cons, drop-at, getD-set-same, getD-set-other}
+use lib.Seq.{sets, sets-eq, drop-cons, drop-at, ext-getD, getD-set-same, getD-set-other}
 use Rattle.copies.specs.Ring.{put, get}
 use Rattle.copies.specs.Copies.{part, pasted}
 use Rattle.copies.specs.Promises.{OnlyCells, OnlyFront}
@@ -121,3 +121,11 @@ pub get-own : (l : ℕ) (ring : List ℕ) (at n : ℕ) (dst : List ℕ) → n �
 get-own l ring at n dst h =
     let g : length (get l ring at n) ≡ n = length-get l ring at n in
     (rw (length-append, length-drop, g) (omega arith), drop-at (get l ring at n) (drop n dst) n g)
+
+-- bytes that are put somewhere, at most a turn of them, are got there
+pub get-put : (l : ℕ) (ring : List ℕ) (at : ℕ) (bs : List ℕ) → length ring ≡ l → length bs ≤ l → get l (put l ring at bs) at (length bs) ≡ bs
+get-put l ring at bs e h =
+    ext-getD 0 (get l (put l ring at bs) at (length bs)) bs (length-get l (put l ring at bs) at (length bs))
+    (λ k q.
+    let i : k < length bs = rw length-get at q in
+    getD-get l (put l ring at bs) at (length bs) k i ∙ getD-put-at l ring at bs k e h i)

@@ -4,7 +4,10 @@ use Prim.Native.Nat.{ℕ, _<_}
 use mathlib.Core.Path.{_≡_}
 use mathlib.Core.Logic.{_≢_}
 use mathlib.Core.List.{List, []}
+use Rattle.sched.specs.declared.scheduler.Checked.{Checked}
+use Rattle.sched.specs.declared.scheduler.Checked.the-variants as checked
 use Rattle.sched.specs.declared.scheduler.RingBufferScheduler.{RingBufferScheduler}
+use Rattle.sched.specs.Refusal as sched
 use Rattle.sched.specs.Scheduler.{IsSound}
 use Rattle.sched.proofs.Promises.{Given}
 use Rattle.copies.specs.declared.Copied.{Copied}
@@ -36,6 +39,10 @@ module _ (s : RingBufferScheduler) (n : ℕ) where
     given-9 : IsSound s → n ≢ s .«buf_len» → GivenCopy 9 []
 
 -- ---- the verdict in each kind of answer
+abbrev pub ofChecked : Checked → Verdict
+ofChecked (checked.Sound s) = verdict 0 []
+ofChecked (checked.Refused e) = verdict (sched.numberOf e) (sched.valuesOf e)
+
 abbrev pub ofReady : Ready → Verdict
 ofReady (ready.Sound s) = verdict 0 []
 ofReady (ready.Refused e) = verdict (numberOf e) (valuesOf e)

@@ -1,7 +1,7 @@
 -- The copies keep what specs/Promises.antt and specs/Given.antt say: first of the definitions, then of the calls, which is of
 -- whatever an attached contract allows.
 use Prim.Native.Nat.{ℕ, _<_, min}
-use mathlib.Core.Path.{_≡_, refl, sym, ap, _∙_}
+use mathlib.Core.Path.{_≡_, refl, sym, ap}
 use mathlib.Core.Bool.{Bool, true, false}
 use mathlib.Core.Logic.{_≢_}
 use mathlib.Core.List.{List, []}

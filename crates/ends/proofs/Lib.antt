@@ -3,5 +3,6 @@ pub mod Core
 pub mod Shared
 pub mod Plain
 pub mod Says
+pub mod Promised
 pub mod Bridge
 pub mod Witness

@@ -4,13 +4,15 @@ use Prim.Native.Nat.{ℕ, _≤_, _<_}
 use mathlib.Core.Path.{_≡_}
 use mathlib.Core.List.{List, []}
 use Rattle.sched.specs.declared.operation.OperationType.{OperationType}
+use Rattle.sched.specs.declared.operation.OperationType.the-variants.{Read, Write}
 use Rattle.sched.specs.declared.scheduler.RingBufferScheduler.{RingBufferScheduler}
-use Rattle.sched.specs.Scheduler.{IsSound, greatestIn}
+use Rattle.sched.specs.Scheduler.{schedulerOf, IsSound, greatestIn}
 use Rattle.sched.proofs.Promises.{Given}
 use Rattle.copies.specs.declared.lent.Told.the-variants as told
-use Rattle.copies.specs.Given.{Verdict, verdict}
+use Rattle.copies.specs.Given.{Verdict, verdict, Exactly}
 use Rattle.copies.specs.Promises.{Writes, Reads}
 use Rattle.ends.specs.declared.refusal.Refusal.{Refusal}
+use Rattle.ends.specs.declared.writing_end.WrittenCounter.{WrittenCounter}
 use Rattle.ends.specs.declared.writing_end.WrittenCounterAnswer.{WrittenCounterAnswer}
 use Rattle.ends.specs.declared.writing_end.WrittenCounterAnswer.the-variants as writtenCounter
 use Rattle.ends.specs.declared.writing_end.WritingEnd.{WritingEnd}
@@ -18,6 +20,7 @@ use Rattle.ends.specs.declared.writing_end.WritingEndAnswer.{WritingEndA
 use Rattle.ends.specs.declared.writing_end.WritingEndAnswer.the-variants as writing
 use Rattle.ends.specs.declared.writing_end.Wrote.{Wrote}
 use Rattle.ends.specs.declared.writing_end.Wrote.the-variants as wrote
+use Rattle.ends.specs.declared.reading_end.ReadCounter.{ReadCounter}
 use Rattle.ends.specs.declared.reading_end.ReadCounterAnswer.{ReadCounterAnswer}
 use Rattle.ends.specs.declared.reading_end.ReadCounterAnswer.the-variants as readCounter
 use Rattle.ends.specs.declared.reading_end.ReadingEnd.{ReadingEnd}
@@ -72,3 +75,30 @@ EndWrites e ring src (wrote.Refused r) memory = memory ≡ ring
 abbrev pub EndReads : ReadingEnd → List ℕ → List ℕ → Got → List ℕ → Type 0
 EndReads e ring dst (got.Moved f n) memory = Reads (e .scheduler) ring dst (told.Moved n) (f .scheduler) memory
 EndReads e ring dst (got.Refused r) memory = memory ≡ dst
+
+-- ---- an end is made of a record that passes, and holds it
+abbrev pub MadeW : RingBufferScheduler → WritingEndAnswer → Type 0
+MadeW s z = Exactly (Given s) (ofWritingEnd z) × ((e : WritingEnd) → z ≡ writing.Of e → e .scheduler ≡ s)
+
+abbrev pub MadeR : RingBufferScheduler → ReadingEndAnswer → Type 0
+MadeR s z = Exactly (Given s) (ofReadingEnd z) × ((e : ReadingEnd) → z ≡ reading.Of e → e .scheduler ≡ s)
+
+-- ---- it sends its own counter
+abbrev pub SentW : WritingEnd → WrittenCounterAnswer → Type 0
+SentW e z = Exactly (Given (e .scheduler)) (ofWritten z) × ((c : WrittenCounter) → z ≡ writtenCounter.Of c → c .0 ≡ e .scheduler .«items_written»)
+
+abbrev pub SentR : ReadingEnd → ReadCounterAnswer → Type 0
+SentR e z = Exactly (Given (e .scheduler)) (ofRead z) × ((c : ReadCounter) → z ≡ readCounter.Of c → c .0 ≡ e .scheduler .«items_read»)
+
+-- ---- and puts the other's in its place
+abbrev pub withRead : WritingEnd → ReadCounter → RingBufferScheduler
+withRead e c = schedulerOf (e .scheduler .«buf_len») (e .scheduler .«items_written») (c .0)
+
+abbrev pub TookW : WritingEnd → ReadCounter → WritingEndAnswer → Type 0
+TookW e c z = Exactly (GivenTake (e .scheduler) (withRead e c) Write) (ofWritingEnd z) × ((f : WritingEnd) → z ≡ writing.Of f → f .scheduler ≡ withRead e c)
+
+abbrev pub withWritten : ReadingEnd → WrittenCounter → RingBufferScheduler
+withWritten e c = schedulerOf (e .scheduler .«buf_len») (c .0) (e .scheduler .«items_read»)
+
+abbrev pub TookR : ReadingEnd → WrittenCounter → ReadingEndAnswer → Type 0
+TookR e c z = Exactly (GivenTake (e .scheduler) (withWritten e c) Read) (ofReadingEnd z) × ((f : ReadingEnd) → z ≡ reading.Of f → f .scheduler ≡ withWritten e c)

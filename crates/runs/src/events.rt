@@ -1,6 +1,7 @@
 // The events: each end copies, sends its counter and takes the other's.
 use crate::check;
 use crate::lent;
+use crate::lent_scheduler;
 use crate::numbers::add;
 use crate::numbers::min;
 use crate::stream;
@@ -36,8 +37,19 @@ pub fn happened(world: World, random: u64) -> World {
 
 fn writes(world: World, asked: u64) -> World {
     let src = stream::source(world.written);
-    let mut ring = world.ring;
-    match lent::write(world.writer, &mut ring, world.len, &src, asked) {
+    let before = world.ring;
+    let mut ring = before;
+    let answer = lent::write(world.writer, &mut ring, world.len, &src, asked);
+    let world = world.beside(lent_scheduler::writes_so(
+        world.writer,
+        before,
+        world.len,
+        &src,
+        asked,
+        &ring,
+        answer,
+    ));
+    match answer {
         Wrote::Moved { end, n } => wrote(world, end, ring, asked, n),
         Wrote::Refused(_) => world.refused(),
     }
@@ -60,9 +72,20 @@ fn wrote(mut world: World, end: WritingEnd, ring: [u8; 12], asked: u64, n: u64) 
 }
 
 fn reads(world: World, asked: u64) -> World {
-    let mut dst = [stream::MARK; 12];
+    let before = [stream::MARK; 12];
+    let mut dst = before;
     let ring = world.ring;
-    match lent::read(world.reader, &ring, world.len, &mut dst, asked) {
+    let answer = lent::read(world.reader, &ring, world.len, &mut dst, asked);
+    let world = world.beside(lent_scheduler::reads_so(
+        world.reader,
+        &ring,
+        world.len,
+        before,
+        asked,
+        &dst,
+        answer,
+    ));
+    match answer {
         Got::Moved { end, n } => got(world, end, dst, asked, n),
         Got::Refused(_) => world.refused(),
     }

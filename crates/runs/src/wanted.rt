@@ -1,6 +1,7 @@
 // Calls that must be refused, and must leave every byte as it was.
 use crate::check;
 use crate::lent;
+use crate::lent_scheduler;
 use crate::numbers::add;
 use crate::numbers::next;
 use crate::numbers::rem;
@@ -84,10 +85,21 @@ pub fn wrong_memory(world: World, len: u64) -> World {
     writes_wrong(reads_wrong(world, len), len)
 }
 
-fn writes_wrong(mut world: World, len: u64) -> World {
+fn writes_wrong(world: World, len: u64) -> World {
     let src = stream::source(world.written);
-    let mut memory = [stream::MARK; 12];
-    let answer = match lent::write(world.writer, &mut memory, len, &src, 12) {
+    let before = [stream::MARK; 12];
+    let mut memory = before;
+    let wrote = lent::write(world.writer, &mut memory, len, &src, 12);
+    let mut world = world.beside(lent_scheduler::writes_so(
+        world.writer,
+        before,
+        len,
+        &src,
+        12,
+        &memory,
+        wrote,
+    ));
+    let answer = match wrote {
         Wrote::Moved { end: _, n: _ } => 0,
         Wrote::Refused(e) => number(e),
     };
@@ -95,10 +107,21 @@ fn writes_wrong(mut world: World, len: u64) -> World {
     world
 }
 
-fn reads_wrong(mut world: World, len: u64) -> World {
+fn reads_wrong(world: World, len: u64) -> World {
     let memory = stream::source(world.read);
-    let mut dst = [stream::MARK; 12];
-    let answer = match lent::read(world.reader, &memory, len, &mut dst, 12) {
+    let before = [stream::MARK; 12];
+    let mut dst = before;
+    let got = lent::read(world.reader, &memory, len, &mut dst, 12);
+    let mut world = world.beside(lent_scheduler::reads_so(
+        world.reader,
+        &memory,
+        len,
+        before,
+        12,
+        &dst,
+        got,
+    ));
+    let answer = match got {
         Got::Moved { end: _, n: _ } => 0,
         Got::Refused(e) => number(e),
     };

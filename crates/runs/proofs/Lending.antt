@@ -68,4 +68,3 @@ module _ {M : Type 1} (𝓤 : URA M) (H : Heap 𝓤) (A : Atoms 𝓤) (W : Given
   part-out =
       qed W (‵ (partAt St fullShare d b o) ∷ []) ∵ fpick ! (λ vs. fsplit ! $ spelt ! St (Is St) (shows 𝓤 H A St) svals (LL.tells S.the-type S′.the-laws) fullShare d vs b o $
       move ! (1 ∷ []) $ peeks ! St (Is St) (shows 𝓤 H A St) d (svals d) (λ is. check ! is $ drop ! $ use1 W (‵ (fat fullShare S′.mir b o (sval d))) (W .laws .raw-at fullShare S′.mir b o (sval d)) $ done !))
-

@@ -37,19 +37,8 @@ pub fn happened(world: World, random: u64) -> World {
 
 fn writes(world: World, asked: u64) -> World {
     let src = stream::source(world.written);
-    let before = world.ring;
-    let mut ring = before;
-    let answer = lent::write(world.writer, &mut ring, world.len, &src, asked);
-    let world = world.beside(lent_scheduler::writes_so(
-        world.writer,
-        before,
-        world.len,
-        &src,
-        asked,
-        &ring,
-        answer,
-    ));
-    match answer {
+    let mut ring = world.ring;
+    match lent::write(world.writer, &mut ring, world.len, &src, asked) {
         Wrote::Moved { end, n } => wrote(world, end, ring, asked, n),
         Wrote::Refused(_) => world.refused(),
     }
@@ -59,7 +48,12 @@ fn wrote(mut world: World, end: WritingEnd, ring: [u8; 12], asked: u64, n: u64) 
     let before = world.ring;
     let first = check::cell(world.len, world.start, world.written);
     let space = amount(world.writer.scheduler.space_avail());
+    let s = world.writer.scheduler;
+    let next = end.scheduler;
+    let src = stream::source(world.written);
+    let same = lent_scheduler::writes_so(s, before, world.len, &src, asked, &ring, next, n);
     let mut report = world.report;
+    report.lent = report.lent.with(same);
     report.writes = report.writes.with(n);
     report.views = report.views.with(space == world.space());
     report.exact = report.exact.with(n == min(asked, space));
@@ -72,20 +66,9 @@ fn wrote(mut world: World, end: WritingEnd, ring: [u8; 12], asked: u64, n: u64) 
 }
 
 fn reads(world: World, asked: u64) -> World {
-    let before = [stream::MARK; 12];
-    let mut dst = before;
+    let mut dst = [stream::MARK; 12];
     let ring = world.ring;
-    let answer = lent::read(world.reader, &ring, world.len, &mut dst, asked);
-    let world = world.beside(lent_scheduler::reads_so(
-        world.reader,
-        &ring,
-        world.len,
-        before,
-        asked,
-        &dst,
-        answer,
-    ));
-    match answer {
+    match lent::read(world.reader, &ring, world.len, &mut dst, asked) {
         Got::Moved { end, n } => got(world, end, dst, asked, n),
         Got::Refused(_) => world.refused(),
     }
@@ -93,7 +76,13 @@ fn reads(world: World, asked: u64) -> World {
 
 fn got(mut world: World, end: ReadingEnd, dst: [u8; 12], asked: u64, n: u64) -> World {
     let data = amount(world.reader.scheduler.data_avail());
+    let s = world.reader.scheduler;
+    let next = end.scheduler;
+    let ring = world.ring;
+    let marks = [stream::MARK; 12];
+    let same = lent_scheduler::reads_so(s, &ring, world.len, marks, asked, &dst, next, n);
     let mut report = world.report;
+    report.lent = report.lent.with(same);
     report.reads = report.reads.with(n);
     report.views = report.views.with(data == world.data());
     report.exact = report.exact.with(n == min(asked, data));

@@ -4,10 +4,6 @@ use crate::check;
 use crate::check::Check;
 use crate::numbers::min;
 use copies::Told;
-use ends::Got;
-use ends::ReadingEnd;
-use ends::WritingEnd;
-use ends::Wrote;
 use sched::RingBufferScheduler;
 
 // The scheduler that was lent, after the call, and what the call told.
@@ -16,47 +12,41 @@ pub struct Lent {
     pub told: Told,
 }
 
-// Whether the write by this end, which left the ring so and answered so, is the one over a lent scheduler.
+// What is told of a copy that is refused: no copy moves so many bytes.
+pub const REFUSED: u64 = u64::MAX;
+
+// Whether a write over this scheduler, where it is lent, moves n bytes too, leaves the same ring and stores the same next scheduler.
 pub fn writes_so(
-    end: WritingEnd,
+    s: RingBufferScheduler,
     before: [u8; 12],
     len: u64,
     src: &[u8; 12],
     asked: u64,
     after: &[u8; 12],
-    answer: Wrote,
+    next: RingBufferScheduler,
+    n: u64,
 ) -> bool {
     let mut ring = before;
-    let lent = write_first(end.scheduler, &mut ring, len, src, asked);
-    let told = match answer {
-        Wrote::Moved { end, n } => same(lent, end.scheduler, n),
-        Wrote::Refused(_) => same(lent, end.scheduler, REFUSED),
-    };
-    told && same_bytes(&ring, after)
+    let lent = write_first(s, &mut ring, len, src, asked);
+    same(lent, next, n) && same_bytes(&ring, after)
 }
 
 pub fn reads_so(
-    end: ReadingEnd,
+    s: RingBufferScheduler,
     ring: &[u8; 12],
     len: u64,
     before: [u8; 12],
     asked: u64,
     after: &[u8; 12],
-    answer: Got,
+    next: RingBufferScheduler,
+    n: u64,
 ) -> bool {
     let mut dst = before;
-    let lent = read_first(end.scheduler, ring, len, &mut dst, asked);
-    let told = match answer {
-        Got::Moved { end, n } => same(lent, end.scheduler, n),
-        Got::Refused(_) => same(lent, end.scheduler, REFUSED),
-    };
-    told && same_bytes(&dst, after)
+    let lent = read_first(s, ring, len, &mut dst, asked);
+    same(lent, next, n) && same_bytes(&dst, after)
 }
 
-// No copy moves so many bytes.
-const REFUSED: u64 = u64::MAX;
-
-fn same(lent: Lent, scheduler: RingBufferScheduler, n: u64) -> bool {
+fn same(lent: Lent, next: RingBufferScheduler, n: u64) -> bool {
     let s = lent.scheduler;
     let told = lent.told;
     let moved = match told {
@@ -64,9 +54,9 @@ fn same(lent: Lent, scheduler: RingBufferScheduler, n: u64) -> bool {
         Told::Refused(_) => REFUSED,
     };
     moved == n
-        && s.buf_len == scheduler.buf_len
-        && s.items_written.0 == scheduler.items_written.0
-        && s.items_read.0 == scheduler.items_read.0
+        && s.buf_len == next.buf_len
+        && s.items_written.0 == next.items_written.0
+        && s.items_read.0 == next.items_read.0
 }
 
 fn same_bytes(a: &[u8; 12], b: &[u8; 12]) -> bool {

@@ -85,52 +85,39 @@ pub fn wrong_memory(world: World, len: u64) -> World {
     writes_wrong(reads_wrong(world, len), len)
 }
 
-fn writes_wrong(world: World, len: u64) -> World {
+fn writes_wrong(mut world: World, len: u64) -> World {
     let src = stream::source(world.written);
-    let before = [stream::MARK; 12];
-    let mut memory = before;
-    let wrote = lent::write(world.writer, &mut memory, len, &src, 12);
-    let mut world = world.beside(lent_scheduler::writes_so(
-        world.writer,
-        before,
-        len,
-        &src,
-        12,
-        &memory,
-        wrote,
-    ));
-    let answer = match wrote {
+    let marks = [stream::MARK; 12];
+    let mut memory = marks;
+    let answer = match lent::write(world.writer, &mut memory, len, &src, 12) {
         Wrote::Moved { end: _, n: _ } => 0,
         Wrote::Refused(e) => number(e),
     };
-    world.report = memory_wrong(world.report, answer, &memory, len);
+    let s = world.writer.scheduler;
+    let refused = lent_scheduler::REFUSED;
+    let same = lent_scheduler::writes_so(s, marks, len, &src, 12, &memory, s, refused);
+    world.report = memory_wrong(world.report, answer, &memory, len, same);
     world
 }
 
-fn reads_wrong(world: World, len: u64) -> World {
+fn reads_wrong(mut world: World, len: u64) -> World {
     let memory = stream::source(world.read);
-    let before = [stream::MARK; 12];
-    let mut dst = before;
-    let got = lent::read(world.reader, &memory, len, &mut dst, 12);
-    let mut world = world.beside(lent_scheduler::reads_so(
-        world.reader,
-        &memory,
-        len,
-        before,
-        12,
-        &dst,
-        got,
-    ));
-    let answer = match got {
+    let marks = [stream::MARK; 12];
+    let mut dst = marks;
+    let answer = match lent::read(world.reader, &memory, len, &mut dst, 12) {
         Got::Moved { end: _, n: _ } => 0,
         Got::Refused(e) => number(e),
     };
-    world.report = memory_wrong(world.report, answer, &dst, 12);
+    let s = world.reader.scheduler;
+    let refused = lent_scheduler::REFUSED;
+    let same = lent_scheduler::reads_so(s, &memory, len, marks, 12, &dst, s, refused);
+    world.report = memory_wrong(world.report, answer, &dst, 12, same);
     world
 }
 
-fn memory_wrong(mut report: Report, answer: u64, bytes: &[u8; 12], len: u64) -> Report {
+fn memory_wrong(mut report: Report, answer: u64, bytes: &[u8; 12], len: u64, same: bool) -> Report {
     report.wrong_memory = next(report.wrong_memory);
+    report.lent = report.lent.with(same);
     report.numbers = report.numbers.with(answer == 9);
     report.left = check::untouched(report.left, bytes, 0, len);
     report

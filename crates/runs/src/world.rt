@@ -65,14 +65,6 @@ impl World {
         self
     }
 
-    // With a copy that was made over a lent scheduler too, and whether both were the same.
-    pub fn beside(mut self, same: bool) -> World {
-        let mut report = self.report;
-        report.lent = report.lent.with(same);
-        self.report = report;
-        self
-    }
-
     // What holds after every event.
     pub fn checked(self) -> World {
         self.unread_checked().agreement_checked()

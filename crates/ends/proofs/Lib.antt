@@ -1,5 +1,6 @@
 pub mod View
 pub mod Core
+pub mod Laws
 pub mod Shared
 pub mod Plain
 pub mod Says

@@ -14,7 +14,8 @@ use Rattle.ends.specs.declared.reading_end.ReadingEnd.{ReadingEnd}
 use Rattle.ends.specs.Ends.{writingEnd, readingEnd}
 use Rattle.ends.specs.Plain.{definitions, plain, Demand3-of}
 use Rattle.ends.proofs.View.{view, seen, sound-view, write-view, read-view, take-read-view, take-written-view}
-use Rattle.ends.proofs.Shared.{Laws, shared}
+use Rattle.ends.proofs.Laws.{Laws}
+use Rattle.ends.proofs.Shared.{shared}
 
 laws : (l c : ℕ) → Laws plain l c
 laws l c =

@@ -15,13 +15,15 @@ use borrow.Author.Tests.{eqb-true, eqb-false}
 use borrow.Fn.Kinds.{PK, RK, Out, Dens, resT, endedOf}
 use Rattle.sched.specs.declared.operation.OperationType.the-variants.{Read, Write}
 use Rattle.sched.specs.declared.refusal.Refusal as sched
-use Rattle.sched.specs.declared.refusal.Refusal.the-variants.{ZeroBufferLength, BufferTooLarge, ItemsWrittenOutOfBounds, ItemsReadOutofBounds, DataAvailOutOfBounds, OperationTooLarge, OperationTooLong, InconsistentOperationType}
 use Rattle.sched.specs.declared.scheduler.Checked.{Checked}
 use Rattle.sched.specs.declared.scheduler.Checked.the-variants as checked
 use Rattle.sched.specs.declared.scheduler.RingBufferScheduler.{RingBufferScheduler}
 use Rattle.sched.specs.Scheduler.{IsSound, soundOf, greatestIn, offsetIn}
 use Rattle.sched.proofs.Laws.{sound-both, sound-is, greatest-most}
-use Rattle.sched.proofs.Promises.{Given, taken, given-only, given-then, registers}
+use Rattle.modular.proofs.Saying.{Keeps}
+use Rattle.sched.specs.Given.{Given, taken}
+use Rattle.sched.proofs.Given.{record-exactly, number-some}
+use Rattle.sched.proofs.Promises.{registers}
 use Rattle.sched.specs.Refusal.{numberOf, valuesOf}
 use Rattle.copies.specs.declared.Copied.{Copied}
 use Rattle.copies.specs.declared.Copied.the-variants as copied
@@ -83,11 +85,11 @@ tested s n = by (soundOf s) (checks s)
 -- what the scheduler's own table says of an answer of its tests
 module _ (s : RingBufferScheduler) where
   pub refusal-given : (e : sched.Refusal) → soundOf s ≡ checked.Refused e → Given s (numberOf e) (valuesOf e)
-  refusal-given e q = rw q at (given-only s)
+  refusal-given e q = rw q at (record-exactly s .only)
 
   pub given-refusal : (e : sched.Refusal) → soundOf s ≡ checked.Refused e → (k : ℕ) (vs : List ℕ) → Given s k vs → verdict (numberOf e) (valuesOf e) ≡ verdict k vs
   given-refusal e q k vs g =
-      let t = given-then s k vs g in
+      let t = record-exactly s .always k vs g in
       let n : numberOf e ≡ k = rw q at (t .0) in
       let v : valuesOf e ≡ vs = rw q at (t .1) in
       rw (n, v)
@@ -97,7 +99,7 @@ module _ (s : RingBufferScheduler) where
 
   given-sound : IsSound s → (k : ℕ) (vs : List ℕ) → Given s k vs → verdict 0 [] ≡ verdict k vs
   given-sound h k vs g =
-      let t = given-then s k vs g in
+      let t = record-exactly s .always k vs g in
       let n : 0 ≡ k = rw (← sound-is s h) at (t .0) in
       let v : [] ≡ vs = rw (← sound-is s h) at (t .1) in
       rw (n, v)
@@ -109,16 +111,6 @@ module _ (s : RingBufferScheduler) where
 pub checked-given : (s : RingBufferScheduler) (c : Checked) → Checks s c → Exactly (Given s) (ofChecked c)
 checked-given s c (passes h) = record { only = taken h; always = given-sound s h }
 checked-given s c (fails e q) = record { only = refusal-given s e q; always = given-refusal s e q }
-
-pub refusal-positive : (e : sched.Refusal) → 0 < numberOf e
-refusal-positive ZeroBufferLength = omega arith
-refusal-positive (BufferTooLarge l) = omega arith
-refusal-positive (ItemsWrittenOutOfBounds l w) = omega arith
-refusal-positive (ItemsReadOutofBounds l r) = omega arith
-refusal-positive (DataAvailOutOfBounds l w r) = omega arith
-refusal-positive (OperationTooLarge t n m) = omega arith
-refusal-positive (OperationTooLong n) = omega arith
-refusal-positive InconsistentOperationType = omega arith
 
 module _ (s : RingBufferScheduler) (n : ℕ) where
   given : (z : Ready) → Tested s n z → Exactly (GivenCopy s n) (ofReady z)
@@ -134,7 +126,7 @@ module _ (s : RingBufferScheduler) (n : ℕ) where
       so (made g e) = absurd (ne e)
       so {k} {vs} (by-scheduler p g) = absurd (omega (arith, sound-given s h k vs g))
       so (given-9 g f) = refl
-  given z (unsound e q) = record { only = by-scheduler (refusal-positive e) (refusal-given s e q); always = λ k vs g. so g }
+  given z (unsound e q) = record { only = by-scheduler (number-some e) (refusal-given s e q); always = λ k vs g. so g }
     where
       so : {k : ℕ} {vs : List ℕ} → GivenCopy s n k vs → verdict (numberOf e) (valuesOf e) ≡ verdict k vs
       so (made g f) = absurd (sound-not-refused s e q g)
@@ -199,27 +191,27 @@ module _ (s : RingBufferScheduler) (ring bytes : List ℕ) where
   got-promised = reads s ring bytes _ (tested s (length ring))
 
 -- ---- of the calls
--- whatever a contract allows has P
-abbrev pub Keeps : (n : ℕ) (ps : List (PK n)) (r : RK n) → Out n ps r → ((κs : Lfts n) (a : Dens κs ps) → resT r κs .Denot → Lasts (endedOf n ps r) κs a → Type 0) → Type 0
-Keeps n ps r L P =
+-- a promise of a call and of what it leaves: every outcome that its contract allows keeps it
+abbrev pub KeepsLeft : (n : ℕ) (ps : List (PK n)) (r : RK n) → Out n ps r → ((κs : Lfts n) (a : Dens κs ps) → resT r κs .Denot → Lasts (endedOf n ps r) κs a → Type 0) → Type 0
+KeepsLeft n ps r L P =
     (κs : Lfts n) (a : Dens κs ps) (z : resT r κs .Denot) (ws : Lasts (endedOf n ps r) κs a) → L κs a z (atExit (endedOf n ps r) κs a ws) → P κs a z ws
 
-pub demand-ring-memory-given : Keeps 0 ready-kinds.ps ready-kinds.r ready-reads.Learnt (λ κs a z ws. Exactly (GivenCopy (a .0) (a .1 .0)) (ofReady z))
-demand-ring-memory-given κs a z ws p = rw (demand-ring-memory-says κs a z ws p) (given (a .0) (a .1 .0) _ (tested (a .0) (a .1 .0)))
+pub demand-ring-memory-given : Keeps 0 ready-kinds.ps ready-kinds.r ready-reads.Learnt (λ κs a z. Exactly (GivenCopy (a .0) (a .1 .0)) (ofReady z))
+demand-ring-memory-given κs a z (ws, p) = rw (demand-ring-memory-says κs a z ws p) (given (a .0) (a .1 .0) _ (tested (a .0) (a .1 .0)))
 
-pub write-given : Keeps 2 write-kinds.ps write-kinds.r write.Learnt (λ κs a z ws. Exactly (GivenCopy (a .0) (length (a .1 .0 .now))) (ofCopied z))
-write-given κs a z ws p = rw (write-says κs a z ws p .0) (written-given (a .0) (a .1 .0 .now) (a .1 .1 .0 .now))
+pub write-given : Keeps 2 write-kinds.ps write-kinds.r write.Learnt (λ κs a z. Exactly (GivenCopy (a .0) (length (a .1 .0 .now))) (ofCopied z))
+write-given κs a z (ws, p) = rw (write-says κs a z ws p .0) (written-given (a .0) (a .1 .0 .now) (a .1 .1 .0 .now))
 
-pub read-given : Keeps 2 read-kinds.ps read-kinds.r read.Learnt (λ κs a z ws. Exactly (GivenCopy (a .0) (length (a .1 .0 .now))) (ofCopied z))
-read-given κs a z ws p = rw (read-says κs a z ws p .0) (got-given (a .0) (a .1 .0 .now) (a .1 .1 .0 .now))
+pub read-given : Keeps 2 read-kinds.ps read-kinds.r read.Learnt (λ κs a z. Exactly (GivenCopy (a .0) (length (a .1 .0 .now))) (ofCopied z))
+read-given κs a z (ws, p) = rw (read-says κs a z ws p .0) (got-given (a .0) (a .1 .0 .now) (a .1 .1 .0 .now))
 
-pub write-promised : Keeps 2 write-kinds.ps write-kinds.r write.Learnt
+pub write-promised : KeepsLeft 2 write-kinds.ps write-kinds.r write.Learnt
     (λ κs a z ws. Writes (a .0) (a .1 .0 .now) (a .1 .1 .0 .now) (toldOf z) (recordAfter (a .0) z) (ws .1 .0))
 write-promised κs a z ws p =
     let q = write-says κs a z ws p in
     rw (q .0, q .1) (written-promised (a .0) (a .1 .0 .now) (a .1 .1 .0 .now))
 
-pub read-promised : Keeps 2 read-kinds.ps read-kinds.r read.Learnt
+pub read-promised : KeepsLeft 2 read-kinds.ps read-kinds.r read.Learnt
     (λ κs a z ws. Reads (a .0) (a .1 .0 .now) (a .1 .1 .0 .now) (toldOf z) (recordAfter (a .0) z) (ws .1 .1 .0))
 read-promised κs a z ws p =
     let q = read-says κs a z ws p in

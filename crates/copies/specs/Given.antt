@@ -9,7 +9,7 @@ use Rattle.sched.specs.declared.scheduler.Checked.the-variants as checked
 use Rattle.sched.specs.declared.scheduler.RingBufferScheduler.{RingBufferScheduler}
 use Rattle.sched.specs.Refusal as sched
 use Rattle.sched.specs.Scheduler.{IsSound}
-use Rattle.sched.proofs.Promises.{Given}
+use Rattle.sched.specs.Given.{Given}
 use Rattle.copies.specs.declared.Copied.{Copied}
 use Rattle.copies.specs.declared.Copied.the-variants as copied
 use Rattle.copies.specs.declared.lent.Told.{Told}

@@ -14,8 +14,10 @@ use Rattle.sched.specs.declared.scheduler.Checked.{Checked}
 use Rattle.sched.specs.declared.scheduler.Checked.the-variants as checked
 use Rattle.sched.specs.declared.scheduler.RingBufferScheduler.{RingBufferScheduler}
 use Rattle.sched.specs.Scheduler.{schedulerOf, IsSound, counterFrom, greatestIn, greatestFrom, greatestOf}
-use Rattle.sched.proofs.Promises.{Given}
-use Rattle.sched.proofs.Promises as given
+use Rattle.modular.proofs.Saying.{Keeps}
+use Rattle.sched.specs.Given.{Given}
+use Rattle.sched.proofs.Given.{number-some}
+use Rattle.sched.specs.Given as given
 use Rattle.copies.specs.declared.Copied.{Copied}
 use Rattle.copies.specs.declared.Copied.the-variants as copied
 use Rattle.copies.specs.declared.Refusal.the-variants.{Scheduler}
@@ -23,7 +25,7 @@ use Rattle.copies.specs.Copies.{writeOf, readOf}
 use Rattle.copies.specs.Lent.{toldOf, recordAfter}
 use Rattle.copies.specs.Given.{Verdict, verdict, Exactly, GivenCopy, ofChecked, ofCopied}
 use Rattle.copies.specs.Promises.{Writes, Reads}
-use Rattle.copies.proofs.Promised.{Keeps, Checks, passes, fails, checks, checked-given, refusal-given, given-refusal, refusal-positive, sound-given, sound-not-refused, written-given, got-given, written-promised, got-promised, write-left, read-left}
+use Rattle.copies.proofs.Promised.{KeepsLeft, Checks, passes, fails, checks, checked-given, refusal-given, given-refusal, sound-given, sound-not-refused, written-given, got-given, written-promised, got-promised, write-left, read-left}
 use Rattle.ends.specs.declared.refusal.Refusal.the-variants.{Copy, RanBack}
 use Rattle.ends.specs.declared.refusal.Taken.{Taken}
 use Rattle.ends.specs.declared.refusal.Taken.the-variants as taken
@@ -156,14 +158,14 @@ module _ (s u : RingBufferScheduler) (t : OperationType) where
       by : (b : Bool) → ltb (greatestIn u t) (greatestIn s t) ≡ b → Exactly (GivenTake s u t) (ofTaken (cond (ltb (greatestIn u t) (greatestIn s t)) (taken.Refused RanBack) taken.Accepted))
       by true q = rw q (record { only = given-10 h g (ltb-true _ _ q); always = λ k vs f. back (ltb-true _ _ q) f })
       by false q = rw q (record { only = takes h g (ltb-false _ _ q); always = λ k vs f. on (ltb-false _ _ q) f })
-  taking c d (passes h) (fails e q) = record { only = new h (refusal-positive e) (refusal-given u e q); always = λ k vs f. so f }
+  taking c d (passes h) (fails e q) = record { only = new h (number-some e) (refusal-given u e q); always = λ k vs f. so f }
     where
       so : {k : ℕ} {vs : List ℕ} → GivenTake s u t k vs → refusedBy (Copy (Scheduler e)) ≡ verdict k vs
       so (takes i j le) = absurd (sound-not-refused u e q j)
       so {k} {vs} (own p f) = absurd (omega (arith, sound-given s h k vs f))
       so {k} {vs} (new i p f) = given-refusal u e q k vs f
       so (given-10 i j lt) = absurd (sound-not-refused u e q j)
-  taking c d (fails e q) x = record { only = own (refusal-positive e) (refusal-given s e q); always = λ k vs f. so f }
+  taking c d (fails e q) x = record { only = own (number-some e) (refusal-given s e q); always = λ k vs f. so f }
     where
       so : {k : ℕ} {vs : List ℕ} → GivenTake s u t k vs → refusedBy (Copy (Scheduler e)) ≡ verdict k vs
       so (takes i j le) = absurd (sound-not-refused s e q i)
@@ -197,25 +199,25 @@ new-written-only e c h p (given.given-4 l f g) = absurd (omega (arith, h .read))
 new-written-only e c h p (given.given-5 l f g d) = inr refl
 
 -- ---- of the calls
-pub WritingEnd-new-promised : Keeps 0 newW-kinds.ps newW-kinds.r newW.Learnt (λ κs a z ws. MadeW (schedulerOf (a .0) (record { 0 = 0 }) (record { 0 = 0 })) z)
-WritingEnd-new-promised κs a z ws p = rw (WritingEnd-new-says κs a z ws p) (madeW (schedulerOf (a .0) (record { 0 = 0 }) (record { 0 = 0 })) _ (checks (schedulerOf (a .0) (record { 0 = 0 }) (record { 0 = 0 }))))
+pub WritingEnd-new-promised : Keeps 0 newW-kinds.ps newW-kinds.r newW.Learnt (λ κs a z. MadeW (schedulerOf (a .0) (record { 0 = 0 }) (record { 0 = 0 })) z)
+WritingEnd-new-promised κs a z (ws, p) = rw (WritingEnd-new-says κs a z ws p) (madeW (schedulerOf (a .0) (record { 0 = 0 }) (record { 0 = 0 })) _ (checks (schedulerOf (a .0) (record { 0 = 0 }) (record { 0 = 0 }))))
 
-pub WritingEnd-from-counters-promised : Keeps 0 countersW-kinds.ps countersW-kinds.r countersW.Learnt (λ κs a z ws. MadeW (schedulerOf (a .0) (a .1 .0) (a .1 .1 .0)) z)
-WritingEnd-from-counters-promised κs a z ws p = rw (WritingEnd-from-counters-says κs a z ws p) (madeW (schedulerOf (a .0) (a .1 .0) (a .1 .1 .0)) _ (checks (schedulerOf (a .0) (a .1 .0) (a .1 .1 .0))))
+pub WritingEnd-from-counters-promised : Keeps 0 countersW-kinds.ps countersW-kinds.r countersW.Learnt (λ κs a z. MadeW (schedulerOf (a .0) (a .1 .0) (a .1 .1 .0)) z)
+WritingEnd-from-counters-promised κs a z (ws, p) = rw (WritingEnd-from-counters-says κs a z ws p) (madeW (schedulerOf (a .0) (a .1 .0) (a .1 .1 .0)) _ (checks (schedulerOf (a .0) (a .1 .0) (a .1 .1 .0))))
 
-pub WritingEnd-from-scheduler-promised : Keeps 0 schedulerW-kinds.ps schedulerW-kinds.r schedulerW.Learnt (λ κs a z ws. MadeW (a .0) z)
-WritingEnd-from-scheduler-promised κs a z ws p = rw (WritingEnd-from-scheduler-says κs a z ws p) (madeW (a .0) _ (checks (a .0)))
+pub WritingEnd-from-scheduler-promised : Keeps 0 schedulerW-kinds.ps schedulerW-kinds.r schedulerW.Learnt (λ κs a z. MadeW (a .0) z)
+WritingEnd-from-scheduler-promised κs a z (ws, p) = rw (WritingEnd-from-scheduler-says κs a z ws p) (madeW (a .0) _ (checks (a .0)))
 
-pub ReadingEnd-new-promised : Keeps 0 newR-kinds.ps newR-kinds.r newR.Learnt (λ κs a z ws. MadeR (schedulerOf (a .0) (record { 0 = 0 }) (record { 0 = 0 })) z)
-ReadingEnd-new-promised κs a z ws p = rw (ReadingEnd-new-says κs a z ws p) (madeR (schedulerOf (a .0) (record { 0 = 0 }) (record { 0 = 0 })) _ (checks (schedulerOf (a .0) (record { 0 = 0 }) (record { 0 = 0 }))))
+pub ReadingEnd-new-promised : Keeps 0 newR-kinds.ps newR-kinds.r newR.Learnt (λ κs a z. MadeR (schedulerOf (a .0) (record { 0 = 0 }) (record { 0 = 0 })) z)
+ReadingEnd-new-promised κs a z (ws, p) = rw (ReadingEnd-new-says κs a z ws p) (madeR (schedulerOf (a .0) (record { 0 = 0 }) (record { 0 = 0 })) _ (checks (schedulerOf (a .0) (record { 0 = 0 }) (record { 0 = 0 }))))
 
-pub ReadingEnd-from-counters-promised : Keeps 0 countersR-kinds.ps countersR-kinds.r countersR.Learnt (λ κs a z ws. MadeR (schedulerOf (a .0) (a .1 .0) (a .1 .1 .0)) z)
-ReadingEnd-from-counters-promised κs a z ws p = rw (ReadingEnd-from-counters-says κs a z ws p) (madeR (schedulerOf (a .0) (a .1 .0) (a .1 .1 .0)) _ (checks (schedulerOf (a .0) (a .1 .0) (a .1 .1 .0))))
+pub ReadingEnd-from-counters-promised : Keeps 0 countersR-kinds.ps countersR-kinds.r countersR.Learnt (λ κs a z. MadeR (schedulerOf (a .0) (a .1 .0) (a .1 .1 .0)) z)
+ReadingEnd-from-counters-promised κs a z (ws, p) = rw (ReadingEnd-from-counters-says κs a z ws p) (madeR (schedulerOf (a .0) (a .1 .0) (a .1 .1 .0)) _ (checks (schedulerOf (a .0) (a .1 .0) (a .1 .1 .0))))
 
-pub ReadingEnd-from-scheduler-promised : Keeps 0 schedulerR-kinds.ps schedulerR-kinds.r schedulerR.Learnt (λ κs a z ws. MadeR (a .0) z)
-ReadingEnd-from-scheduler-promised κs a z ws p = rw (ReadingEnd-from-scheduler-says κs a z ws p) (madeR (a .0) _ (checks (a .0)))
+pub ReadingEnd-from-scheduler-promised : Keeps 0 schedulerR-kinds.ps schedulerR-kinds.r schedulerR.Learnt (λ κs a z. MadeR (a .0) z)
+ReadingEnd-from-scheduler-promised κs a z (ws, p) = rw (ReadingEnd-from-scheduler-says κs a z ws p) (madeR (a .0) _ (checks (a .0)))
 
-pub WritingEnd-write-promised : Keeps 2 write-kinds.ps write-kinds.r write.Learnt
+pub WritingEnd-write-promised : KeepsLeft 2 write-kinds.ps write-kinds.r write.Learnt
     (λ κs a z ws. Exactly (GivenCopy (a .0 .scheduler) (length (a .1 .0 .now))) (ofWrote z) × EndWrites (a .0) (a .1 .0 .now) (a .1 .1 .0 .now) z (ws .1 .0))
 WritingEnd-write-promised κs a z ws p =
     let q = WritingEnd-write-says κs a z ws p in
@@ -225,7 +227,7 @@ WritingEnd-write-promised κs a z ws p =
       wrote-promised (a .0) (a .1 .0 .now) (a .1 .1 .0 .now) c _ (written-promised (a .0 .scheduler) (a .1 .0 .now) (a .1 .1 .0 .now)),
     )
 
-pub ReadingEnd-read-promised : Keeps 2 read-kinds.ps read-kinds.r read.Learnt
+pub ReadingEnd-read-promised : KeepsLeft 2 read-kinds.ps read-kinds.r read.Learnt
     (λ κs a z ws. Exactly (GivenCopy (a .0 .scheduler) (length (a .1 .0 .now))) (ofGot z) × EndReads (a .0) (a .1 .0 .now) (a .1 .1 .0 .now) z (ws .1 .1 .0))
 ReadingEnd-read-promised κs a z ws p =
     let q = ReadingEnd-read-says κs a z ws p in
@@ -235,20 +237,20 @@ ReadingEnd-read-promised κs a z ws p =
       got-end-promised (a .0) (a .1 .0 .now) (a .1 .1 .0 .now) c _ (got-promised (a .0 .scheduler) (a .1 .0 .now) (a .1 .1 .0 .now)),
     )
 
-pub WritingEnd-send-promised : Keeps 0 sendW-kinds.ps sendW-kinds.r sendW.Learnt (λ κs a z ws. SentW (a .0) z)
-WritingEnd-send-promised κs a z ws p = rw (WritingEnd-send-says κs a z ws p) (sentW (a .0) _ (checks (a .0 .scheduler)))
+pub WritingEnd-send-promised : Keeps 0 sendW-kinds.ps sendW-kinds.r sendW.Learnt (λ κs a z. SentW (a .0) z)
+WritingEnd-send-promised κs a z (ws, p) = rw (WritingEnd-send-says κs a z ws p) (sentW (a .0) _ (checks (a .0 .scheduler)))
 
-pub ReadingEnd-send-promised : Keeps 0 sendR-kinds.ps sendR-kinds.r sendR.Learnt (λ κs a z ws. SentR (a .0) z)
-ReadingEnd-send-promised κs a z ws p = rw (ReadingEnd-send-says κs a z ws p) (sentR (a .0) _ (checks (a .0 .scheduler)))
+pub ReadingEnd-send-promised : Keeps 0 sendR-kinds.ps sendR-kinds.r sendR.Learnt (λ κs a z. SentR (a .0) z)
+ReadingEnd-send-promised κs a z (ws, p) = rw (ReadingEnd-send-says κs a z ws p) (sentR (a .0) _ (checks (a .0 .scheduler)))
 
-pub WritingEnd-take-promised : Keeps 0 takeW-kinds.ps takeW-kinds.r takeW.Learnt (λ κs a z ws. TookW (a .0) (a .1 .0) z)
-WritingEnd-take-promised κs a z ws p =
+pub WritingEnd-take-promised : Keeps 0 takeW-kinds.ps takeW-kinds.r takeW.Learnt (λ κs a z. TookW (a .0) (a .1 .0) z)
+WritingEnd-take-promised κs a z (ws, p) =
     let u : RingBufferScheduler = withRead (a .0) (a .1 .0) in
     rw (WritingEnd-take-says κs a z ws p)
     (tookW (a .0) (a .1 .0) (takenFrom (greatestOf (a .0 .scheduler) Write) (greatestOf u Write)) (taking (a .0 .scheduler) u Write _ _ (checks (a .0 .scheduler)) (checks u)))
 
-pub ReadingEnd-take-promised : Keeps 0 takeR-kinds.ps takeR-kinds.r takeR.Learnt (λ κs a z ws. TookR (a .0) (a .1 .0) z)
-ReadingEnd-take-promised κs a z ws p =
+pub ReadingEnd-take-promised : Keeps 0 takeR-kinds.ps takeR-kinds.r takeR.Learnt (λ κs a z. TookR (a .0) (a .1 .0) z)
+ReadingEnd-take-promised κs a z (ws, p) =
     let u : RingBufferScheduler = withWritten (a .0) (a .1 .0) in
     rw (ReadingEnd-take-says κs a z ws p)
     (tookR (a .0) (a .1 .0) (takenFrom (greatestOf (a .0 .scheduler) Read) (greatestOf u Read)) (taking (a .0 .scheduler) u Read _ _ (checks (a .0 .scheduler)) (checks u)))

@@ -7,7 +7,7 @@ use Rattle.sched.specs.declared.operation.OperationType.{OperationType}
 use Rattle.sched.specs.declared.operation.OperationType.the-variants.{Read, Write}
 use Rattle.sched.specs.declared.scheduler.RingBufferScheduler.{RingBufferScheduler}
 use Rattle.sched.specs.Scheduler.{schedulerOf, IsSound, greatestIn}
-use Rattle.sched.proofs.Promises.{Given}
+use Rattle.sched.specs.Given.{Given}
 use Rattle.copies.specs.declared.lent.Told.the-variants as told
 use Rattle.copies.specs.Given.{Verdict, verdict, Exactly}
 use Rattle.copies.specs.Promises.{Writes, Reads}

@@ -46,9 +46,9 @@ use Rattle.receiver.specs.declared.state.StateAnswer.the-variants as state
 use Rattle.receiver.proofs.state.OperationalState.advance_state_towards_termination.Kinds as advance-kinds
 use Rattle.receiver.proofs.state.OperationalState.advance_state_towards_termination.Reads as advance
 
--- whatever the contract L allows on these arguments has P
-abbrev Allows : (ps : List (PK 0)) (r : RK 0) → Out 0 ps r → Dens tt ps → (resT r tt .Denot → Type 0) → Type 0
-Allows ps r L a P = (z : resT r tt .Denot) (ws : Lasts (endedOf 0 ps r) tt a) → L tt a z (atExit (endedOf 0 ps r) tt a ws) → P z
+-- whatever the contract L allows as an answer to these arguments has P
+abbrev Answers : (ps : List (PK 0)) (r : RK 0) → Out 0 ps r → Dens tt ps → (resT r tt .Denot → Type 0) → Type 0
+Answers ps r L a P = (z : resT r tt .Denot) (ws : Lasts (endedOf 0 ps r) tt a) → L tt a z (atExit (endedOf 0 ps r) tt a ws) → P z
 
 -- L, written, read
 abbrev pub ring : ℕ → ℕ → ℕ → RingBufferScheduler
@@ -71,28 +71,28 @@ refusedWith (checked.Refused e) = numberOf e
 
 -- `try_from_counters` refuses these counters with this number
 abbrev Refuses : ℕ → ℕ → ℕ → ℕ → Type 0
-Refuses l w r k = Allows made-kinds.ps made-kinds.r made.Learnt (l, (counter w, (counter r, tt))) (λ z. refusedWith z ≡ k)
+Refuses l w r k = Answers made-kinds.ps made-kinds.r made.Learnt (l, (counter w, (counter r, tt))) (λ z. refusedWith z ≡ k)
 
 -- a state is advanced by another to this one
 abbrev Advances : OperationalState → OperationalState → OperationalState → Type 0
-Advances s by to = Allows advance-kinds.ps advance-kinds.r advance.Learnt (s, (by, tt)) (λ z. z ≡ state.Of to)
+Advances s by to = Answers advance-kinds.ps advance-kinds.r advance.Learnt (s, (by, tt)) (λ z. z ≡ state.Of to)
 
 pub record Table : Type 0 where
-  pub rolled-over-data : Allows data-kinds.ps data-kinds.r data-avail.Learnt (ring (2 ^ 63) 5 (2 ^ 64 - 3), tt) (λ z. z ≡ amount.Of 8)
+  pub rolled-over-data : Answers data-kinds.ps data-kinds.r data-avail.Learnt (ring (2 ^ 63) 5 (2 ^ 64 - 3), tt) (λ z. z ≡ amount.Of 8)
   pub rolled-over-read :
-      Allows reads-kinds.ps reads-kinds.r reads.Learnt (ring (2 ^ 63) 5 (2 ^ 64 - 3), (8, tt))
+      Answers reads-kinds.ps reads-kinds.r reads.Learnt (ring (2 ^ 63) 5 (2 ^ 64 - 3), (8, tt))
       (λ z. z ≡ operations.Of (Two (readAt (2 ^ 63 - 3) 3) (readAt 0 5)))
   pub too-long : Refuses (2 ^ 63 + 1) 0 0 2
   pub written-too-far : Refuses 10 20 20 3
   pub read-too-far : Refuses 10 0 20 4
-  pub full : Allows fill-kinds.ps fill-kinds.r fill-state.Learnt (ring 10 10 0, tt) (λ z. z ≡ fill.Of Full)
-  pub full-layout : Allows layout-kinds.ps layout-kinds.r layout-call.Learnt (ring 10 10 0, tt) (λ z. z ≡ layout.Of DataFreeData)
+  pub full : Answers fill-kinds.ps fill-kinds.r fill-state.Learnt (ring 10 10 0, tt) (λ z. z ≡ fill.Of Full)
+  pub full-layout : Answers layout-kinds.ps layout-kinds.r layout-call.Learnt (ring 10 10 0, tt) (λ z. z ≡ layout.Of DataFreeData)
   pub overfull : Refuses 10 11 0 5
-  pub wrapped-data : Allows data-kinds.ps data-kinds.r data-avail.Learnt (ring 10 0 11, tt) (λ z. z ≡ amount.Of 9)
+  pub wrapped-data : Answers data-kinds.ps data-kinds.r data-avail.Learnt (ring 10 0 11, tt) (λ z. z ≡ amount.Of 9)
   pub write-of-4 :
-      Allows register-kinds.ps register-kinds.r register.Learnt (ring 10 19 12, (4, tt)) (λ z. z ≡ registered.Refused (OperationTooLarge Write 4 3))
+      Answers register-kinds.ps register-kinds.r register.Learnt (ring 10 19 12, (4, tt)) (λ z. z ≡ registered.Refused (OperationTooLarge Write 4 3))
   pub write-of-4-number : numberOf (OperationTooLarge Write 4 3) ≡ 6
-  pub write-of-3 : Allows register-kinds.ps register-kinds.r register.Learnt (ring 10 19 12, (3, tt)) (λ z. z ≡ registered.Advanced (ring 10 2 12))
+  pub write-of-3 : Answers register-kinds.ps register-kinds.r register.Learnt (ring 10 19 12, (3, tt)) (λ z. z ≡ registered.Advanced (ring 10 2 12))
   pub double-of-100 : doubleAt 8 (of8 100) ≡ modulus.Some (of8 200)
   pub double-of-128 : doubleAt 8 (of8 128) ≡ modulus.Some fullRange
   pub double-of-129 : doubleAt 8 (of8 129) ≡ modulus.None

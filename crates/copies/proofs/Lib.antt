@@ -2,4 +2,5 @@ pub mod Ring
 pub mod Laws
 pub mod Calls
 mod Lending
-pub mod Decided
+pub mod Says
+pub mod Promised

@@ -7,10 +7,11 @@ use mathlib.Core.List.{List, [], _∷_, _++_, append-assoc}
 use native.Mathlib.Nat.{mod-lt, mod-eq-of-lt, mod-add-mod, mod-self, suc-mod, add-mul-mod-self-right, div-add-mod', add-zero, add-suc, suc-add, not-suc-le-zero, le-of-suc-le-suc}
 use native.Mathlib.Numerals.{add-one}
 use native.Mathlib.Omega.{arith}
-use lib.ListN.{length, getD, set, take, drop, length-set}
-use lib.Seq.{sets, sets-eq, drop-cons, getD-set-same, getD-set-other}
+use lib.ListN.{length, getD, set, take, drop, length-set, length-append, length-drop}
+use lib.Seq.{sets, sets-eq, drop-cons, drop-at, ext-getD, getD-set-same, getD-set-other}
 use Rattle.copies.specs.Ring.{put, get}
 use Rattle.copies.specs.Copies.{part, pasted}
+use Rattle.copies.specs.Promises.{OnlyCells, OnlyFront}
 
 -- from x on to x + d, read off the two remainders
 pub diff-mod : (m x d : ℕ) → d < m → ((x + d) % m + (m - x % m)) % m ≡ d
@@ -104,3 +105,27 @@ getD-put-at l ring at (b ∷ bs) zero e h q =
     rw add-zero ((rw add-one at st) ∙ getD-set-same ring (at % l) b 0 lt)
 getD-put-at l ring at (b ∷ bs) (suc k) e h q =
     rw (add-suc, ← suc-add) (getD-put-at l (set ring (at % l) b) (suc at) bs k (length-set ring (at % l) b ∙ e) (omega arith) (le-of-suc-le-suc q))
+
+-- ---- what is left alone
+pub put-own : (l : ℕ) (ring : List ℕ) (at : ℕ) (bs : List ℕ) → OnlyCells l at (length bs) ring (put l ring at bs)
+put-own l ring at bs = (length-put l ring at bs, stays ring at bs)
+  where
+    stays : (ring : List ℕ) (at : ℕ) (bs : List ℕ) (k : ℕ) → ((j : ℕ) → j < length bs → k ≢ (at + j) % l) → getD (put l ring at bs) k 0 ≡ getD ring k 0
+    stays ring at [] k h = refl
+    stays ring at (b ∷ bs) k h =
+        let here : k ≢ at % l = rw add-zero at (h 0 (omega arith)) in
+        let on : (j : ℕ) → j < length bs → k ≢ (suc at + j) % l = λ j q. rw (suc-add, ← add-suc) (h (suc j) (omega arith)) in
+        stays (set ring (at % l) b) (suc at) bs k on ∙ getD-set-other ring (at % l) k b 0 here
+
+pub get-own : (l : ℕ) (ring : List ℕ) (at n : ℕ) (dst : List ℕ) → n ≤ length dst → OnlyFront n dst (get l ring at n ++ drop n dst)
+get-own l ring at n dst h =
+    let g : length (get l ring at n) ≡ n = length-get l ring at n in
+    (rw (length-append, length-drop, g) (omega arith), drop-at (get l ring at n) (drop n dst) n g)
+
+-- bytes that are put somewhere, at most a turn of them, are got there
+pub get-put : (l : ℕ) (ring : List ℕ) (at : ℕ) (bs : List ℕ) → length ring ≡ l → length bs ≤ l → get l (put l ring at bs) at (length bs) ≡ bs
+get-put l ring at bs e h =
+    ext-getD 0 (get l (put l ring at bs) at (length bs)) bs (length-get l (put l ring at bs) at (length bs))
+    (λ k q.
+    let i : k < length bs = rw length-get at q in
+    getD-get l (put l ring at bs) at (length bs) k i ∙ getD-put-at l ring at bs k e h i)

@@ -1,6 +1,9 @@
 pub mod View
 pub mod Core
+pub mod Laws
 pub mod Shared
 pub mod Plain
-pub mod Run
-pub mod Decided
+pub mod Says
+pub mod Promised
+pub mod Bridge
+pub mod Witness

@@ -1,3 +1,4 @@
 pub mod Ends
 pub mod World
 pub mod Plain
+pub mod Promises

@@ -1,5 +1,5 @@
--- The kind with plain counters: the ends of document 01. Its calls are the definitions that the contracts of `ends` cite.
-use Prim.Native.Nat.{ℕ, _≤_}
+-- The kind with plain counters: the ends of document 01.
+use Prim.Native.Nat.{ℕ, _≤_, _<_}
 use mathlib.Core.Path.{_≡_}
 use mathlib.Core.List.{List}
 use lib.ListN.{length}
@@ -50,29 +50,55 @@ abbrev pub takenR : ReadingEnd → ReadingEndAnswer → Taken ReadingEnd
 takenR e (reading.Of f) = record { answer = done 0; end = f }
 takenR e (reading.Refused r) = record { answer = refused (numberOf r); end = e }
 
-abbrev pub plain : Kind
-plain =
+-- the six calls of the two ends, as functions: a call's answer, and what it leaves in the memory that it may change
+pub record Calls : Type 0 where
+  pub write : WritingEnd → List ℕ → List ℕ → WroteLeft
+  pub read : ReadingEnd → List ℕ → List ℕ → GotLeft
+  pub sendW : WritingEnd → WrittenCounterAnswer
+  pub sendR : ReadingEnd → ReadCounterAnswer
+  pub takeW : WritingEnd → ReadCounter → WritingEndAnswer
+  pub takeR : ReadingEnd → WrittenCounter → ReadingEndAnswer
+
+-- A note's age is how many bytes its sender had moved. Notes come in order, so none is old, and no copy is left aside.
+abbrev pub kindOf : Calls → Kind
+kindOf c =
     record {
       Writer = WritingEnd;
       Reader = ReadingEnd;
       NoteW = WrittenCounter;
       NoteR = ReadCounter;
-      write = λ e ring src. copiedW e (wroteOf e ring src .answer) (wroteOf e ring src .memory);
-      read = λ e ring dst. copiedR e (gotOf e ring dst .answer) (gotOf e ring dst .memory);
-      sendW = λ e. sentW (writtenSentOf e);
-      sendR = λ e. sentR (readSentOf e);
-      takeW = λ e c. takenW e (takeReadOf e c);
-      takeR = λ e c. takenR e (takeWrittenOf e c);
+      write = λ e ring src. copiedW e (c .write e ring src .answer) (c .write e ring src .memory);
+      read = λ e ring dst. copiedR e (c .read e ring dst .answer) (c .read e ring dst .memory);
+      sendW = λ e. sentW (c .sendW e);
+      sendR = λ e. sentR (c .sendR e);
+      takeW = λ e n. takenW e (c .takeW e n);
+      takeR = λ e n. takenR e (c .takeR e n);
       schedW = λ e. e .scheduler;
       schedR = λ e. e .scheduler;
-      Delivered = λ heard after. heard ≤ after;
-      old = 10;
-      Aside = λ n. ⊥;
+      Holds = RingBufferScheduler;
+      holdsW = λ e. e .scheduler;
+      holdsR = λ e. e .scheduler;
+      Age = ℕ;
+      ageW = λ e n. n;
+      ageR = λ e n. n;
+      Older = λ a b. a < b;
+      Delivered = λ heard age. heard ≤ age;
+      old = λ heard age. 10;
+      AsideW = λ e n k. ⊥;
+      AsideR = λ e n k. ⊥;
     }
 
--- Demand 3: a writing and a reading end, whose records pass every test, start empty, with one length and equal counters, over
--- memory of that length
-abbrev pub Demand3-plain : Type 0
-Demand3-plain =
+-- the definitions that the contracts cite
+abbrev pub definitions : Calls
+definitions =
+    record { write = wroteOf; read = gotOf; sendW = writtenSentOf; sendR = readSentOf; takeW = takeReadOf; takeR = takeWrittenOf }
+
+abbrev pub plain : Kind
+plain = kindOf definitions
+
+-- Demand 3 of these calls: a writing and a reading end, whose records pass every test, start empty, with one length and equal
+-- counters, over memory of that length
+abbrev pub Demand3-of : Calls → Type 0
+Demand3-of c =
     (s : RingBufferScheduler) (ring : List ℕ) → soundOf s ≡ Sound s → s .«items_written» ≡ s .«items_read» → length ring ≡ s .«buf_len» →
-    HoldsFrom plain (writingEnd s) (readingEnd s) ring
+    HoldsFrom (kindOf c) (writingEnd s) (readingEnd s) ring

@@ -125,6 +125,18 @@ wrapped-add m a b r h = h ∙ add-mod a b m
 
 -- ---- what the definitions mean: each answer is below the modulus, and the difference is the number that added back gives
 -- what was there
+module _ (m a : ℕ) (p : 0 < m) where
+  pub neg-lt : negMod m a < m
+  unfolding negMod
+  neg-lt = mod-lt _ p
+
+  -- a number and its negation make whole moduli
+  pub neg-back : (a + negMod m a) % m ≡ 0
+  unfolding negMod
+  neg-back =
+      let e : a % m + (m - a % m) ≡ m = omega (arith, mod-lt a p) in
+      rw (add-mod-mod, ← mod-add-mod, e, mod-self)
+
 module _ (m a b : ℕ) (p : 0 < m) where
   pub sub-lt : subMod m a b < m
   unfolding subMod
@@ -133,10 +145,6 @@ module _ (m a b : ℕ) (p : 0 < m) where
   pub add-lt : addMod m a b < m
   unfolding addMod
   add-lt = mod-lt _ p
-
-  pub neg-lt : negMod m a < m
-  unfolding negMod
-  neg-lt = mod-lt _ p
 
   -- the difference added back
   pub sub-back : (b + subMod m a b) % m ≡ a % m

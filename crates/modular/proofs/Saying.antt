@@ -41,3 +41,10 @@ module _ (n : ℕ) (ps : List (PK n)) (r : RK n) (L : Out n ps r) (f : (κs : Lf
   pub leaves-decides : (g : (κs : Lfts n) (a : Dens κs ps) → Lasts (endedOf n ps r) κs a) → Leaves n ps r L f g → Decides n ps r L
   leaves-decides g leaves κs a z z′ ws ws′ p p′ =
       (leaves κs a z ws p .0 ∙ sym (leaves κs a z′ ws′ p′ .0), leaves κs a z ws p .1 ∙ sym (leaves κs a z′ ws′ p′ .1))
+
+-- ---- a promise of a call: every outcome that its contract allows keeps it
+abbrev pub Allows : (n : ℕ) (ps : List (PK n)) (r : RK n) → Out n ps r → (κs : Lfts n) → Dens κs ps → resT r κs .Denot → Type 0
+Allows n ps r L κs a z = (ws : Lasts (endedOf n ps r) κs a) × L κs a z (atExit (endedOf n ps r) κs a ws)
+
+abbrev pub Keeps : (n : ℕ) (ps : List (PK n)) (r : RK n) → Out n ps r → ((κs : Lfts n) → Dens κs ps → resT r κs .Denot → Type 0) → Type 0
+Keeps n ps r L P = (κs : Lfts n) (a : Dens κs ps) (z : resT r κs .Denot) → Allows n ps r L κs a z → P κs a z

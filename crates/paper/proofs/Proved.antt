@@ -1,30 +1,30 @@
--- The table: every row computes.
-use mathlib.Core.Path.{refl}
+-- The table: what a contract allows is what it says, and every row computes.
+use mathlib.Core.Path.{refl, ap}
 use Rattle.modular.specs.Modulus.{wholeAt, rawAt, doubleAt, subMod, addMod}
 use Rattle.sched.specs.Scheduler.{soundOf, fillStateIn, layoutIn, cutOf, registerIn}
 use Rattle.receiver.specs.State.{fitsErrno, normalizeIn, towardsErrorIn}
-use Rattle.paper.specs.Table.{Table}
+use Rattle.paper.specs.Table.{Table, refusedWith}
 
 pub table : Table
 unfolding wholeAt rawAt doubleAt subMod addMod soundOf fillStateIn layoutIn cutOf registerIn fitsErrno normalizeIn towardsErrorIn
 table =
     record {
-      rolled-over-data = refl;
-      rolled-over-read = refl;
-      too-long = refl;
-      written-too-far = refl;
-      read-too-far = refl;
-      full = refl;
-      full-layout = refl;
-      overfull = refl;
-      wrapped-data = refl;
-      write-of-4 = refl;
+      rolled-over-data = λ z ws says. says;
+      rolled-over-read = λ z ws says. says;
+      too-long = λ z ws says. ap refusedWith says;
+      written-too-far = λ z ws says. ap refusedWith says;
+      read-too-far = λ z ws says. ap refusedWith says;
+      full = λ z ws says. says;
+      full-layout = λ z ws says. says;
+      overfull = λ z ws says. ap refusedWith says;
+      wrapped-data = λ z ws says. says;
+      write-of-4 = λ z ws says. says;
       write-of-4-number = refl;
-      write-of-3 = refl;
+      write-of-3 = λ z ws says. says;
       double-of-100 = refl;
       double-of-128 = refl;
       double-of-129 = refl;
-      draining-by-blocked = refl;
-      draining-by-the-end = refl;
-      terminated-11-by-draining = refl;
+      draining-by-blocked = λ z ws says. says;
+      draining-by-the-end = λ z ws says. says;
+      terminated-11-by-draining = λ z ws says. says;
     }

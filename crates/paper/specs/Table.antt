@@ -1,17 +1,22 @@
--- The rows of the paper's "Numbers on both sides" that are marked P, under one statement. Each is of a definition that a contract cites.
-use Prim.Native.Nat.{ℕ, _+_, _-_, _^_}
+-- The rows of the paper's "Numbers on both sides" that are marked P, under one statement. Each is of the call: of whatever the
+-- contract attached to it allows on these arguments. Only the rows of 8 bits, which no call has, are of the definition.
+use Prim.Native.Nat.{ℕ, _-_, _+_, _^_}
 use mathlib.Core.Path.{_≡_}
+use mathlib.Core.List.{List}
+use denote.Triple.Clauses.{Lasts, atExit}
+use borrow.Fn.Kinds.{PK, RK, Out, Dens, resT, endedOf}
 use Rattle.modular.specs.Modulus.{doubleAt, fullRange}
 use Rattle.modular.specs.declared.Modulus.{Modulus}
 use Rattle.modular.specs.declared.OptionModulus.the-variants as modulus
 use Rattle.sched.specs.Operation.{operationOf}
 use Rattle.sched.specs.Refusal.{numberOf}
-use Rattle.sched.specs.Scheduler.{schedulerOf, soundOf, greatestOf, fillStateOf, layoutOf, scheduleOf, registerOf}
+use Rattle.sched.specs.Scheduler.{schedulerOf}
 use Rattle.sched.specs.declared.block.BufferFillState.the-variants.{Full}
 use Rattle.sched.specs.declared.block.BufferLayout.the-variants.{DataFreeData}
 use Rattle.sched.specs.declared.block.FillStateAnswer.the-variants as fill
 use Rattle.sched.specs.declared.block.LayoutAnswer.the-variants as layout
 use Rattle.sched.specs.declared.counter.AmountAnswer.the-variants as amount
+use Rattle.sched.specs.declared.counter.Counter.{Counter}
 use Rattle.sched.specs.declared.list.OperationsAnswer.the-variants as operations
 use Rattle.sched.specs.declared.list.ScheduledOperations.the-variants.{Two}
 use Rattle.sched.specs.declared.operation.OperationType.the-variants.{Read, Write}
@@ -21,14 +26,36 @@ use Rattle.sched.specs.declared.scheduler.Checked.{Checked}
 use Rattle.sched.specs.declared.scheduler.Checked.the-variants as checked
 use Rattle.sched.specs.declared.scheduler.Registered.the-variants as registered
 use Rattle.sched.specs.declared.scheduler.RingBufferScheduler.{RingBufferScheduler}
-use Rattle.receiver.specs.State.{advanceOf}
+use Rattle.sched.proofs.scheduler.RingBufferScheduler.try_from_counters.Kinds as made-kinds
+use Rattle.sched.proofs.scheduler.RingBufferScheduler.try_from_counters.Reads as made
+use Rattle.sched.proofs.scheduler.RingBufferScheduler.data_avail.Kinds as data-kinds
+use Rattle.sched.proofs.scheduler.RingBufferScheduler.data_avail.Reads as data-avail
+use Rattle.sched.proofs.scheduler.RingBufferScheduler.schedule_reads.Kinds as reads-kinds
+use Rattle.sched.proofs.scheduler.RingBufferScheduler.schedule_reads.Reads as reads
+use Rattle.sched.proofs.scheduler.RingBufferScheduler.fill_state.Kinds as fill-kinds
+use Rattle.sched.proofs.scheduler.RingBufferScheduler.fill_state.Reads as fill-state
+use Rattle.sched.proofs.scheduler.RingBufferScheduler.layout.Kinds as layout-kinds
+use Rattle.sched.proofs.scheduler.RingBufferScheduler.layout.Reads as layout-call
+use Rattle.sched.proofs.scheduler.RingBufferScheduler.try_register_write.Kinds as register-kinds
+use Rattle.sched.proofs.scheduler.RingBufferScheduler.try_register_write.Reads as register
 use Rattle.receiver.specs.declared.state.Failure.the-variants.{Io}
+use Rattle.receiver.specs.declared.state.OperationalState.{OperationalState}
 use Rattle.receiver.specs.declared.state.OperationalState.the-variants.{Draining, Terminated}
+use Rattle.receiver.specs.declared.state.StateAnswer.{StateAnswer}
 use Rattle.receiver.specs.declared.state.StateAnswer.the-variants as state
+use Rattle.receiver.proofs.state.OperationalState.advance_state_towards_termination.Kinds as advance-kinds
+use Rattle.receiver.proofs.state.OperationalState.advance_state_towards_termination.Reads as advance
+
+-- whatever the contract L allows as an answer to these arguments has P
+abbrev Answers : (ps : List (PK 0)) (r : RK 0) → Out 0 ps r → Dens tt ps → (resT r tt .Denot → Type 0) → Type 0
+Answers ps r L a P = (z : resT r tt .Denot) (ws : Lasts (endedOf 0 ps r) tt a) → L tt a z (atExit (endedOf 0 ps r) tt a ws) → P z
 
 -- L, written, read
 abbrev pub ring : ℕ → ℕ → ℕ → RingBufferScheduler
 ring l w r = schedulerOf l (record { 0 = w }) (record { 0 = r })
+
+abbrev pub counter : ℕ → Counter
+counter c = record { 0 = c }
 
 -- a read of n from offset a on
 abbrev pub readAt : ℕ → ℕ → ScheduledOperation
@@ -42,22 +69,33 @@ abbrev pub refusedWith : Checked → ℕ
 refusedWith (checked.Sound s) = 0
 refusedWith (checked.Refused e) = numberOf e
 
+-- `try_from_counters` refuses these counters with this number
+abbrev Refuses : ℕ → ℕ → ℕ → ℕ → Type 0
+Refuses l w r k = Answers made-kinds.ps made-kinds.r made.Learnt (l, (counter w, (counter r, tt))) (λ z. refusedWith z ≡ k)
+
+-- a state is advanced by another to this one
+abbrev Advances : OperationalState → OperationalState → OperationalState → Type 0
+Advances s by to = Answers advance-kinds.ps advance-kinds.r advance.Learnt (s, (by, tt)) (λ z. z ≡ state.Of to)
+
 pub record Table : Type 0 where
-  pub rolled-over-data : greatestOf (ring (2 ^ 63) 5 (2 ^ 64 - 3)) Read ≡ amount.Of 8
-  pub rolled-over-read : scheduleOf (ring (2 ^ 63) 5 (2 ^ 64 - 3)) Read 8 ≡ operations.Of (Two (readAt (2 ^ 63 - 3) 3) (readAt 0 5))
-  pub too-long : refusedWith (soundOf (ring (2 ^ 63 + 1) 0 0)) ≡ 2
-  pub written-too-far : refusedWith (soundOf (ring 10 20 20)) ≡ 3
-  pub read-too-far : refusedWith (soundOf (ring 10 0 20)) ≡ 4
-  pub full : fillStateOf (ring 10 10 0) ≡ fill.Of Full
-  pub full-layout : layoutOf (ring 10 10 0) ≡ layout.Of DataFreeData
-  pub overfull : refusedWith (soundOf (ring 10 11 0)) ≡ 5
-  pub wrapped-data : greatestOf (ring 10 0 11) Read ≡ amount.Of 9
-  pub write-of-4 : registerOf (ring 10 19 12) Write 4 ≡ registered.Refused (OperationTooLarge Write 4 3)
+  pub rolled-over-data : Answers data-kinds.ps data-kinds.r data-avail.Learnt (ring (2 ^ 63) 5 (2 ^ 64 - 3), tt) (λ z. z ≡ amount.Of 8)
+  pub rolled-over-read :
+      Answers reads-kinds.ps reads-kinds.r reads.Learnt (ring (2 ^ 63) 5 (2 ^ 64 - 3), (8, tt))
+      (λ z. z ≡ operations.Of (Two (readAt (2 ^ 63 - 3) 3) (readAt 0 5)))
+  pub too-long : Refuses (2 ^ 63 + 1) 0 0 2
+  pub written-too-far : Refuses 10 20 20 3
+  pub read-too-far : Refuses 10 0 20 4
+  pub full : Answers fill-kinds.ps fill-kinds.r fill-state.Learnt (ring 10 10 0, tt) (λ z. z ≡ fill.Of Full)
+  pub full-layout : Answers layout-kinds.ps layout-kinds.r layout-call.Learnt (ring 10 10 0, tt) (λ z. z ≡ layout.Of DataFreeData)
+  pub overfull : Refuses 10 11 0 5
+  pub wrapped-data : Answers data-kinds.ps data-kinds.r data-avail.Learnt (ring 10 0 11, tt) (λ z. z ≡ amount.Of 9)
+  pub write-of-4 :
+      Answers register-kinds.ps register-kinds.r register.Learnt (ring 10 19 12, (4, tt)) (λ z. z ≡ registered.Refused (OperationTooLarge Write 4 3))
   pub write-of-4-number : numberOf (OperationTooLarge Write 4 3) ≡ 6
-  pub write-of-3 : registerOf (ring 10 19 12) Write 3 ≡ registered.Advanced (ring 10 2 12)
+  pub write-of-3 : Answers register-kinds.ps register-kinds.r register.Learnt (ring 10 19 12, (3, tt)) (λ z. z ≡ registered.Advanced (ring 10 2 12))
   pub double-of-100 : doubleAt 8 (of8 100) ≡ modulus.Some (of8 200)
   pub double-of-128 : doubleAt 8 (of8 128) ≡ modulus.Some fullRange
   pub double-of-129 : doubleAt 8 (of8 129) ≡ modulus.None
-  pub draining-by-blocked : advanceOf (Draining (Io 32)) (Terminated (Io 11)) ≡ state.Of (Draining (Io 32))
-  pub draining-by-the-end : advanceOf (Draining (Io 5)) (Terminated (Io 32)) ≡ state.Of (Terminated (Io 5))
-  pub terminated-11-by-draining : advanceOf (Terminated (Io 11)) (Draining (Io 5)) ≡ state.Of (Draining (Io 5))
+  pub draining-by-blocked : Advances (Draining (Io 32)) (Terminated (Io 11)) (Draining (Io 32))
+  pub draining-by-the-end : Advances (Draining (Io 5)) (Terminated (Io 32)) (Terminated (Io 5))
+  pub terminated-11-by-draining : Advances (Terminated (Io 11)) (Draining (Io 5)) (Draining (Io 5))

@@ -1,11 +1,15 @@
 pub mod Case
 pub mod CutLaws
 pub mod DecimalLaws
-pub mod Decided
+pub mod Says
 pub mod DecimalForm
 pub mod Grammar
 pub mod LineLaws
+pub mod NumeralLaws
+pub mod LinesLaws
+pub mod Printing
 pub mod TextLaws
 pub mod Pieces
 pub mod Steps
 pub mod Runs
+pub mod Promised

@@ -5,6 +5,7 @@ use mathlib.Core.Bool.{Bool, true, false, cond}
 use mathlib.Core.List.{List, [], _∷_}
 use lib.Dec.{eqb, ltb, leb}
 use lib.ListN.{length, take, drop, set}
+use Rattle.planline.specs.declared.cut.Cut.{Cut}
 use Rattle.planline.specs.Input.{lineText}
 use Rattle.planline.specs.Text.{Filled, filled, longest, appendOf}
 
@@ -34,6 +35,10 @@ pub record Step : Type 0 where
 
 abbrev pub step : Filled → ℕ → Filled → Step
 step h i o = record { held = h; next = i; out = o }
+
+-- where a step got to, as the call answers it
+abbrev pub reached : Step → Cut
+reached s = record { held = s .held .at; next = s .next; at = s .out .at }
 
 abbrev pub heldLine : Filled → List ℕ
 heldLine h = take (h .at) (h .bytes)

@@ -3,6 +3,8 @@ pub mod Decimal
 pub mod Grammar
 pub mod Input
 pub mod Line
+pub mod Lines
+pub mod Numeral
 pub mod Run
 pub mod Stored
 pub mod Text

@@ -1,11 +1,11 @@
--- The runs of a program over the library: each piece of the input is used up by steps, and between any two of them the text so
--- far may be written out. Whatever the pieces are, and whenever text is written.
+-- The runs of a program over two calls, a step and the input's end: each piece of the input is used up by steps, and between any
+-- two of them the text so far may be written out. Whatever the pieces are, and whenever text is written.
 use Prim.Native.Nat.{ℕ, _≤_}
 use mathlib.Core.Path.{_≡_}
 use mathlib.Core.Bool.{true}
 use mathlib.Core.List.{List, [], _∷_, _++_}
 use lib.ListN.{length}
-use Rattle.planline.specs.Cut.{Step, heldLine, isReady, stepOf, lastOf}
+use Rattle.planline.specs.Cut.{Step, heldLine, isReady}
 use Rattle.planline.specs.Text.{Filled, filled}
 
 -- what is held of a line, the buffer of the text, and what was written before
@@ -20,19 +20,18 @@ place h o w = record { held = h; out = o; written = w }
 abbrev pub readyAt : Place → Type 0
 readyAt s = isReady (s .held .bytes) (s .out) ≡ true
 
-abbrev pub stepAt : List ℕ → Place → ℕ → Step
-stepAt piece s i = stepOf (s .held) i piece (s .out)
+-- `Next` and `Last` are what the calls may answer: a step from an index of a piece, and what the text's buffer holds at the end
+module _ (Next : List ℕ → Place → ℕ → Step → Type 0) (Last : Place → Filled → Type 0) where
+  -- from an index of the piece to its end
+  pub data Moves : List ℕ → Place → ℕ → Place → Type 0 where
+    ends : {piece : List ℕ} {s : Place} {i : ℕ} → length piece ≤ i → Moves piece s i s
+    steps : {piece : List ℕ} {s t : Place} {i : ℕ} {x : Step} → readyAt s → Next piece s i x → Moves piece (place (x .held) (x .out) (s .written)) (x .next) t → Moves piece s i t
+    writes : {piece : List ℕ} {s t : Place} {i : ℕ} → Moves piece (place (s .held) (filled 0 (s .out .bytes)) (s .written ++ heldLine (s .out))) i t → Moves piece s i t
 
--- from an index of the piece to its end
-pub data Moves : List ℕ → Place → ℕ → Place → Type 0 where
-  ends : {piece : List ℕ} {s : Place} {i : ℕ} → length piece ≤ i → Moves piece s i s
-  steps : {piece : List ℕ} {s t : Place} {i : ℕ} → readyAt s → Moves piece (place (stepAt piece s i .held) (stepAt piece s i .out) (s .written)) (stepAt piece s i .next) t → Moves piece s i t
-  writes : {piece : List ℕ} {s t : Place} {i : ℕ} → Moves piece (place (s .held) (filled 0 (s .out .bytes)) (s .written ++ heldLine (s .out))) i t → Moves piece s i t
-
--- all pieces, and the input's end
-pub data Run : List (List ℕ) → Place → List ℕ → Type 0 where
-  last : {s : Place} → readyAt s → Run [] s (s .written ++ heldLine (lastOf (s .held) (s .out)))
-  next : {piece : List ℕ} {pieces : List (List ℕ)} {s t : Place} {text : List ℕ} → Moves piece s 0 t → Run pieces t text → Run (piece ∷ pieces) s text
+  -- all pieces, and the input's end
+  pub data Run : List (List ℕ) → Place → List ℕ → Type 0 where
+    last : {s : Place} {o : Filled} → readyAt s → Last s o → Run [] s (s .written ++ heldLine o)
+    next : {piece : List ℕ} {pieces : List (List ℕ)} {s t : Place} {text : List ℕ} → Moves piece s 0 t → Run pieces t text → Run (piece ∷ pieces) s text
 
 -- nothing is held, and no text was made
 pub record Start (s : Place) : Type 0 where

@@ -12,5 +12,8 @@ pub mod Fits
 pub mod Made
 pub mod Spent
 pub mod PendingSum
+pub mod Keeps
+pub mod HandedSum
 pub mod Rows
+pub mod MachineRows
 pub mod Decided

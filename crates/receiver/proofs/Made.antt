@@ -16,12 +16,13 @@ use Rattle.receiver.specs.Admission.{admissionOf}
 use Rattle.receiver.specs.Answer.{receivedOf}
 use Rattle.receiver.specs.State.{fitsState, failureIn}
 use Rattle.receiver.specs.Receiver.{withScheduler, withPending, batchIn, handedOut}
-use Rattle.receiver.specs.Call.{call, finishedCall, outcomeIn, shutdownCall, flushCall, serviceCallBy, serviceCall, looksBy, liveCall, readCall, steppedOf, answeredOf}
+use Rattle.receiver.specs.Call.{call, finishedCall, outcomeIn, shutdownCall, flushCall, serviceCallBy, serviceCall, looksBy, liveCall, readCall, resumedOf, steppedOf, answeredOf}
 use Rattle.receiver.specs.declared.admission.Admission.the-variants.{Passed}
 use Rattle.receiver.specs.declared.admission.Memory.the-variants as memory
 use Rattle.receiver.specs.declared.answer.Answer.{Answer}
 use Rattle.receiver.specs.declared.answer.Received.{Received}
 use Rattle.receiver.specs.declared.answer.Received.the-variants as received
+use Rattle.receiver.specs.declared.call.Call.{Call}
 use Rattle.receiver.specs.declared.call.Ending.{Ending}
 use Rattle.receiver.specs.declared.call.Phase.the-variants.{Receive, Send, Shutdown}
 use Rattle.receiver.specs.declared.call.Step.the-variants.{Of}
@@ -80,3 +81,8 @@ module _ (q : ReceiverState) where
     send-waits f z =
         ap (λ (b : Bool). cond b (finishedCall q s (outcomeIn e)) (call q s (Send (batchIn q) e))) (sym z)
         ∙ ap (λ (x : PotentialFailure). serviceCallBy x q s e) (sym f)
+
+-- ---- such a call
+pub record Made (c : Call) : Type 0 where
+  pub tested : Tested (c .receiver)
+  pub resumes : resumedOf c ≡ Of c

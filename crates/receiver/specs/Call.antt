@@ -185,6 +185,27 @@ beginServiceOf q = admittedStep (admissionOf q memory.None) (step.Of (serviceCal
 abbrev pub beginShutdownOf : ReceiverState → Step
 beginShutdownOf q = admittedStep (admissionOf q memory.None) (step.Of (advanceCall (Draining (Io 32)) q (q .scheduler) (Told outcome.Done)))
 
+-- ---- what a driver asks
+-- a call that is over waits for nothing more
+abbrev pub isOver : Phase → Bool
+isOver (phase.Receive top asked) = false
+isOver (phase.Send batch e) = false
+isOver (phase.Shutdown e) = false
+isOver (phase.Finished o) = true
+
+abbrev pub overOf : Call → Bool
+overOf c = isOver (c .phase)
+
+-- an interruption is waited out by a receive and by a send; a shutdown is not tried again
+abbrev pub retriesIn : Phase → Answer → Bool
+retriesIn (phase.Receive top asked) a = interruptedOf a
+retriesIn (phase.Send batch e) a = interruptedOf a
+retriesIn (phase.Shutdown e) a = false
+retriesIn (phase.Finished o) a = false
+
+abbrev pub retriesOf : Call → Answer → Bool
+retriesOf c a = retriesIn (c .phase) a
+
 -- ---- the call after an answer
 -- the ring is looked at where a byte was received, and only there
 abbrev pub looksBy : Received → ℕ → Memory
@@ -238,24 +259,3 @@ answeredFrom (step.Refused r) ring a place = step.Refused r
 abbrev pub answeredOf : Call → List ℕ → Answer → ℕ → Step
 answeredOf c ring a place =
     admittedStep (admissionOf (c .receiver) (looksAt (c .phase) a (length ring))) (answeredFrom (resumedOf c) ring a place)
-
--- ---- what a driver asks
--- a call that is over waits for nothing more
-abbrev pub isOver : Phase → Bool
-isOver (phase.Receive top asked) = false
-isOver (phase.Send batch e) = false
-isOver (phase.Shutdown e) = false
-isOver (phase.Finished o) = true
-
-abbrev pub overOf : Call → Bool
-overOf c = isOver (c .phase)
-
--- an interruption is waited out by a receive and by a send; a shutdown is not tried again
-abbrev pub retriesIn : Phase → Answer → Bool
-retriesIn (phase.Receive top asked) a = interruptedOf a
-retriesIn (phase.Send batch e) a = interruptedOf a
-retriesIn (phase.Shutdown e) a = false
-retriesIn (phase.Finished o) a = false
-
-abbrev pub retriesOf : Call → Answer → Bool
-retriesOf c a = retriesIn (c .phase) a

@@ -5,3 +5,4 @@ pub mod Admission
 pub mod Receiver
 pub mod Call
 pub mod Pending
+pub mod Handed

@@ -1,6 +1,7 @@
 // The events: each end copies, sends its counter and takes the other's.
 use crate::check;
 use crate::lent;
+use crate::lent_scheduler;
 use crate::numbers::add;
 use crate::numbers::min;
 use crate::stream;
@@ -47,7 +48,12 @@ fn wrote(mut world: World, end: WritingEnd, ring: [u8; 12], asked: u64, n: u64) 
     let before = world.ring;
     let first = check::cell(world.len, world.start, world.written);
     let space = amount(world.writer.scheduler.space_avail());
+    let s = world.writer.scheduler;
+    let next = end.scheduler;
+    let src = stream::source(world.written);
+    let same = lent_scheduler::writes_so(s, before, world.len, &src, asked, &ring, next, n);
     let mut report = world.report;
+    report.lent = report.lent.with(same);
     report.writes = report.writes.with(n);
     report.views = report.views.with(space == world.space());
     report.exact = report.exact.with(n == min(asked, space));
@@ -70,7 +76,13 @@ fn reads(world: World, asked: u64) -> World {
 
 fn got(mut world: World, end: ReadingEnd, dst: [u8; 12], asked: u64, n: u64) -> World {
     let data = amount(world.reader.scheduler.data_avail());
+    let s = world.reader.scheduler;
+    let next = end.scheduler;
+    let ring = world.ring;
+    let marks = [stream::MARK; 12];
+    let same = lent_scheduler::reads_so(s, &ring, world.len, marks, asked, &dst, next, n);
     let mut report = world.report;
+    report.lent = report.lent.with(same);
     report.reads = report.reads.with(n);
     report.views = report.views.with(data == world.data());
     report.exact = report.exact.with(n == min(asked, data));

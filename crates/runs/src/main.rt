@@ -2,6 +2,7 @@
 mod check;
 mod events;
 mod lent;
+mod lent_scheduler;
 mod notes;
 mod numbers;
 mod report;

@@ -47,6 +47,7 @@ pub struct Report {
     pub agreed: Check,
     pub numbers: Check,
     pub left: Check,
+    pub lent: Check,
 }
 
 impl Report {
@@ -70,6 +71,7 @@ impl Report {
             agreed: Check::new(),
             numbers: Check::new(),
             left: Check::new(),
+            lent: Check::new(),
         }
     }
 
@@ -122,6 +124,7 @@ impl Report {
         print_check(self.agreed, b"both records are equal: ");
         print_check(self.numbers, b"refused with its number, 9 or 10: ");
         print_check(self.left, b"a refusal touches no byte: ");
+        print_check(self.lent, b"a lent scheduler makes the same copy: ");
     }
 }
 

@@ -1,6 +1,7 @@
 // Calls that must be refused, and must leave every byte as it was.
 use crate::check;
 use crate::lent;
+use crate::lent_scheduler;
 use crate::numbers::add;
 use crate::numbers::next;
 use crate::numbers::rem;
@@ -86,28 +87,37 @@ pub fn wrong_memory(world: World, len: u64) -> World {
 
 fn writes_wrong(mut world: World, len: u64) -> World {
     let src = stream::source(world.written);
-    let mut memory = [stream::MARK; 12];
+    let marks = [stream::MARK; 12];
+    let mut memory = marks;
     let answer = match lent::write(world.writer, &mut memory, len, &src, 12) {
         Wrote::Moved { end: _, n: _ } => 0,
         Wrote::Refused(e) => number(e),
     };
-    world.report = memory_wrong(world.report, answer, &memory, len);
+    let s = world.writer.scheduler;
+    let refused = lent_scheduler::REFUSED;
+    let same = lent_scheduler::writes_so(s, marks, len, &src, 12, &memory, s, refused);
+    world.report = memory_wrong(world.report, answer, &memory, len, same);
     world
 }
 
 fn reads_wrong(mut world: World, len: u64) -> World {
     let memory = stream::source(world.read);
-    let mut dst = [stream::MARK; 12];
+    let marks = [stream::MARK; 12];
+    let mut dst = marks;
     let answer = match lent::read(world.reader, &memory, len, &mut dst, 12) {
         Got::Moved { end: _, n: _ } => 0,
         Got::Refused(e) => number(e),
     };
-    world.report = memory_wrong(world.report, answer, &dst, 12);
+    let s = world.reader.scheduler;
+    let refused = lent_scheduler::REFUSED;
+    let same = lent_scheduler::reads_so(s, &memory, len, marks, 12, &dst, s, refused);
+    world.report = memory_wrong(world.report, answer, &dst, 12, same);
     world
 }
 
-fn memory_wrong(mut report: Report, answer: u64, bytes: &[u8; 12], len: u64) -> Report {
+fn memory_wrong(mut report: Report, answer: u64, bytes: &[u8; 12], len: u64, same: bool) -> Report {
     report.wrong_memory = next(report.wrong_memory);
+    report.lent = report.lent.with(same);
     report.numbers = report.numbers.with(answer == 9);
     report.left = check::untouched(report.left, bytes, 0, len);
     report

@@ -276,7 +276,7 @@ module _ (n a l : ℕ) (h : a < l) where
   passes f s e q p = omega arith
 
 module _ (t : OperationType) (a : Offset) (n : ℕ) where
-  some-none : next.None ≡ someOf t a n → n ≡ 0
+  pub some-none : next.None ≡ someOf t a n → n ≡ 0
   unfolding someOf
   some-none p = go (eqb n 0) refl p
     where
@@ -284,7 +284,7 @@ module _ (t : OperationType) (a : Offset) (n : ℕ) where
       go true q p = eqb-true n 0 q
       go false q p = let z : _≡_ {A = ℕ} 0 1 = cc in absurd (omega arith)
 
-  some-some : (f : ScheduledOperation) → next.Some f ≡ someOf t a n → (f ≡ operationOf t a n) × (0 < n)
+  pub some-some : (f : ScheduledOperation) → next.Some f ≡ someOf t a n → (f ≡ operationOf t a n) × (0 < n)
   unfolding someOf
   some-some f p = go (eqb n 0) refl p
     where

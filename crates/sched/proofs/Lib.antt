@@ -1,3 +1,11 @@
 pub mod Laws
 pub mod Promises
-pub mod Decided
+pub mod Says
+pub mod Given
+pub mod GivenLists
+pub mod Refuses
+pub mod Counting
+pub mod Promised
+pub mod Parts
+pub mod PromisedParts
+pub mod PromisedLists

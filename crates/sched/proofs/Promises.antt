@@ -1,127 +1,56 @@
--- What document 01 promises of the scheduler, as theorems over the definitions that the contracts cite.
-use Prim.Native.Nat.{ℕ, zero, suc, _+_, _-_, _*_, _%_, _^_, _<_, _≤_, min}
+-- What document 01 promises of the scheduler, over the definitions; `Promised` states it of the calls.
+use Prim.Native.Nat.{ℕ, zero, suc, _+_, _-_, _^_, _<_, _≤_, min}
 use mathlib.Core.Path.{_≡_, refl, sym, ap, _∙_}
-use mathlib.Core.Bool.{Bool, cond, true, false}
-use mathlib.Core.List.{List, [], _∷_, _++_}
+use mathlib.Core.Bool.{true, false}
+use mathlib.Core.List.{List, _∷_, _++_}
 use mathlib.Core.Logic.{_⊎_, inl, inr, ⊎-elim}
-use lib.Dec.{ltb, leb, eqb}
-use borrow.Author.Tests.{eqb-true, eqb-false, ltb-true, ltb-false, leb-true, leb-false, eq-eqb, ne-eqb, lt-ltb, le-ltb, lt-leb, le-leb}
+use borrow.Author.Tests.{eq-eqb, ne-eqb, lt-ltb, le-ltb}
 use native.Mathlib.Nat.{mod-eq-of-lt, add-mod-right, add-comm, add-zero, zero-add, eq-zero-or-pos}
 use native.Mathlib.Omega.{arith}
 use Rattle.modular.proofs.Laws.{lt-or-le}
 use Rattle.sched.specs.declared.block.BufferFillState.the-variants.{Empty, Partial, Full}
-use Rattle.sched.specs.declared.list.OperationsAnswer.{OperationsAnswer}
 use Rattle.sched.specs.declared.list.OperationsAnswer.the-variants as operations
-use Rattle.sched.specs.declared.list.ScheduledOperations.{ScheduledOperations}
 use Rattle.sched.specs.declared.list.ScheduledOperations.the-variants as list
 use Rattle.sched.specs.declared.operation.NextOperation.{NextOperation}
 use Rattle.sched.specs.declared.operation.NextOperation.the-variants as next
 use Rattle.sched.specs.declared.operation.OperationType.{OperationType}
 use Rattle.sched.specs.declared.operation.OperationType.the-variants.{Read, Write}
 use Rattle.sched.specs.declared.operation.ScheduledOperation.{ScheduledOperation}
-use Rattle.sched.specs.declared.refusal.Refusal.the-variants.{ZeroBufferLength, BufferTooLarge, ItemsWrittenOutOfBounds, ItemsReadOutofBounds, DataAvailOutOfBounds, OperationTooLarge, OperationTooLong, InconsistentOperationType}
-use Rattle.sched.specs.declared.scheduler.Checked.{Checked}
-use Rattle.sched.specs.declared.scheduler.Checked.the-variants as checked
-use Rattle.sched.specs.declared.scheduler.Registered.{Registered}
+use Rattle.sched.specs.declared.refusal.Refusal.the-variants.{OperationTooLarge, OperationTooLong, InconsistentOperationType}
 use Rattle.sched.specs.declared.scheduler.Registered.the-variants as registered
 use Rattle.sched.specs.declared.scheduler.RingBufferScheduler.{RingBufferScheduler}
-use Rattle.sched.specs.Refusal.{numberOf, valuesOf, typeNumber}
 use Rattle.sched.specs.Operation.{operationOf}
+use Rattle.sched.specs.Promise.{Promise, upFrom, roundFrom, joined, byBlocks}
 use Rattle.sched.specs.List.{sameTypeOf, soundTwoOf, soundListOf, totalIn}
-use Rattle.sched.specs.Scheduler.{Sized, IsSound, soundOf, dataIn, spaceIn, offsetIn, greatestIn, fillStateIn, nextBlockIn, nextIn, scheduleIn, advancedIn, registerIn, registerOf, registerListOf}
-use Rattle.sched.proofs.Laws.{sound-is, offset-lt, arranged, next-len, greatest-most, advanced-sound, advanced-greatest, advanced-twice, advanced-nothing, min-min, cut-none, cut-one, cut-two, schedule-none, schedule-one, schedule-two}
+use Rattle.sched.specs.Scheduler.{IsSound, dataIn, spaceIn, offsetIn, greatestIn, fillStateIn, nextBlockIn, nextIn, scheduleIn, advancedIn, registerIn, registerOf, registerListOf}
+use Rattle.sched.proofs.Laws.{sound-is, offset-lt, arranged, next-len, greatest-most, advanced-greatest, advanced-twice, advanced-nothing, min-min, cut-none, cut-one, cut-two, schedule-none, schedule-one, schedule-two}
 
--- ---- the refusals 1 to 5: the paper's table
-module _ (s : RingBufferScheduler) where
-  abbrev L : ℕ
-  L = s .«buf_len»
-
-  abbrev w : ℕ
-  w = s .«items_written» .0
-
-  abbrev r : ℕ
-  r = s .«items_read» .0
-
-  -- when a number is given, with its values; 0 where the scheduler is taken
-  pub data Given : ℕ → List ℕ → Type 0 where
-    taken : IsSound s → Given 0 []
-    given-1 : L ≡ 0 → Given 1 []
-    given-2 : 2 ^ 63 < L → Given 2 (L ∷ [])
-    given-3 : Sized L → 2 * L ≤ w → Given 3 (L ∷ w ∷ [])
-    given-4 : Sized L → w < 2 * L → 2 * L ≤ r → Given 4 (L ∷ r ∷ [])
-    given-5 : Sized L → w < 2 * L → r < 2 * L → L < dataIn s → Given 5 (L ∷ w ∷ r ∷ [])
-
--- the number and the values of an answer
-abbrev pub numberIn : Checked → ℕ
-numberIn (checked.Sound s) = 0
-numberIn (checked.Refused e) = numberOf e
-
-abbrev pub valuesIn : Checked → List ℕ
-valuesIn (checked.Sound s) = []
-valuesIn (checked.Refused e) = valuesOf e
-
--- each number is given only then
-pub given-only : (s : RingBufferScheduler) → Given s (numberIn (soundOf s)) (valuesIn (soundOf s))
-unfolding soundOf
-given-only s =
-    go (eqb (L s) 0) refl (ltb (2 ^ 63) (L s)) refl (leb (2 * L s) (w s)) refl (leb (2 * L s) (r s)) refl (ltb (L s) (dataIn s)) refl
-  where
-    go :
-        (a : Bool) → eqb (L s) 0 ≡ a → (b : Bool) → ltb (2 ^ 63) (L s) ≡ b → (c : Bool) → leb (2 * L s) (w s) ≡ c →
-        (d : Bool) → leb (2 * L s) (r s) ≡ d → (e : Bool) → ltb (L s) (dataIn s) ≡ e →
-        Given s (numberIn (soundOf s)) (valuesIn (soundOf s))
-    go true qa b qb c qc d qd e qe = simp qa (given-1 (eqb-true _ _ qa))
-    go false qa true qb c qc d qd e qe = simp (qa, qb) (given-2 (ltb-true _ _ qb))
-    go false qa false qb true qc d qd e qe = simp (qa, qb, qc) (given-3 (record { some = omega (arith, eqb-false); fits = ltb-false _ _ qb }) (leb-true _ _ qc))
-    go false qa false qb false qc true qd e qe = simp (qa, qb, qc, qd) (given-4 (record { some = omega (arith, eqb-false); fits = ltb-false _ _ qb }) (leb-false _ _ qc) (leb-true _ _ qd))
-    go false qa false qb false qc false qd true qe = simp (qa, qb, qc, qd, qe) (given-5 (record { some = omega (arith, eqb-false); fits = ltb-false _ _ qb }) (leb-false _ _ qc) (leb-false _ _ qd) (ltb-true _ _ qe))
-    go false qa false qb false qc false qd false qe = simp (qa, qb, qc, qd, qe) (taken (record { sized = record { some = omega (arith, eqb-false); fits = ltb-false _ _ qb }; written = leb-false _ _ qc; read = leb-false _ _ qd; fill = ltb-false _ _ qe }))
-
--- and always then
-pub given-then : (s : RingBufferScheduler) (k : ℕ) (vs : List ℕ) → Given s k vs → (numberIn (soundOf s) ≡ k) × (valuesIn (soundOf s) ≡ vs)
-unfolding soundOf
-given-then s k vs g = said g
-  where
-    of : (c : Checked) → soundOf s ≡ c → (numberIn (soundOf s) ≡ numberIn c) × (valuesIn (soundOf s) ≡ valuesIn c)
-    of c e = (ap numberIn e, ap valuesIn e)
-
-    said : {k : ℕ} {vs : List ℕ} → Given s k vs → (numberIn (soundOf s) ≡ k) × (valuesIn (soundOf s) ≡ vs)
-    said (taken h) = of (checked.Sound s) (sym (sound-is s h))
-    said (given-1 h) = of (checked.Refused ZeroBufferLength) (simp (eq-eqb _ _ h))
-    said (given-2 h) = of (checked.Refused (BufferTooLarge (L s))) (simp (ne-eqb (L s) 0 (λ z. omega arith), lt-ltb _ _ h))
-    said (given-3 l h) =
-        of (checked.Refused (ItemsWrittenOutOfBounds (L s) (s .«items_written»)))
-        (simp (ne-eqb (L s) 0 (λ z. omega arith), le-ltb _ _ (l .fits), le-leb _ _ h))
-    said (given-4 l g h) =
-        of (checked.Refused (ItemsReadOutofBounds (L s) (s .«items_read»)))
-        (simp (ne-eqb (L s) 0 (λ z. omega arith), le-ltb _ _ (l .fits), lt-leb _ _ g, le-leb _ _ h))
-    said (given-5 l f g h) =
-        of (checked.Refused (DataAvailOutOfBounds (L s) (s .«items_written») (s .«items_read»)))
-        (simp (ne-eqb (L s) 0 (λ z. omega arith), le-ltb _ _ (l .fits), lt-leb _ _ f, lt-leb _ _ g, lt-ltb _ _ h))
+abbrev L : RingBufferScheduler → ℕ
+L s = s .«buf_len»
 
 advances : (s : RingBufferScheduler) (t : OperationType) (n : ℕ) → n ≤ greatestIn s t → registerIn s t n ≡ registered.Advanced (advancedIn s t n)
 unfolding registerIn
 advances s t n l = rw (le-ltb _ _ l)
 
--- ---- 6: given exactly when a registered length is above the greatest; else the scheduler advances by it
+-- ---- 6 where a registered length is above the greatest; else the scheduler advances by it
 module _ (s : RingBufferScheduler) (h : IsSound s) (t : OperationType) (n : ℕ) where
-  pub given-6 : greatestIn s t < n → registerOf s t n ≡ registered.Refused (OperationTooLarge t n (greatestIn s t))
+  pub too-large : greatestIn s t < n → registerOf s t n ≡ registered.Refused (OperationTooLarge t n (greatestIn s t))
   unfolding registerIn
-  given-6 l = rw (← sound-is s h, lt-ltb _ _ l)
+  too-large l = rw (← sound-is s h, lt-ltb _ _ l)
 
   pub registers : n ≤ greatestIn s t → registerOf s t n ≡ registered.Advanced (advancedIn s t n)
   registers l = rw (← sound-is s h) (advances s t n l)
 
--- ---- 7, then 8: given exactly when the lengths of a list sum above 2^64 - 1, else when its types differ
+-- ---- 7 where the lengths of a list sum above 2^64 - 1, else 8 where its types differ
 module _ (a b : ScheduledOperation) where
-  pub given-7 : 2 ^ 64 - 1 < a .len + b .len → soundListOf (list.Two a b) ≡ operations.Refused (OperationTooLong (a .len + b .len - (2 ^ 64 - 1)))
+  pub too-long : 2 ^ 64 - 1 < a .len + b .len → soundListOf (list.Two a b) ≡ operations.Refused (OperationTooLong (a .len + b .len - (2 ^ 64 - 1)))
   unfolding soundTwoOf
-  given-7 l = rw (lt-ltb _ _ l)
+  too-long l = rw (lt-ltb _ _ l)
 
   module _ (l : a .len + b .len ≤ 2 ^ 64 - 1) where
-    pub given-8 : sameTypeOf (a .typ) (b .typ) ≡ false → soundListOf (list.Two a b) ≡ operations.Refused InconsistentOperationType
+    pub inconsistent : sameTypeOf (a .typ) (b .typ) ≡ false → soundListOf (list.Two a b) ≡ operations.Refused InconsistentOperationType
     unfolding soundTwoOf
-    given-8 d = rw (le-ltb _ _ l, d)
+    inconsistent d = rw (le-ltb _ _ l, d)
 
     pub list-taken : sameTypeOf (a .typ) (b .typ) ≡ true → soundListOf (list.Two a b) ≡ operations.Of (list.Two a b)
     unfolding soundTwoOf
@@ -150,50 +79,6 @@ module _ (s : RingBufferScheduler) (h : IsSound s) where
       (arranged s h)
 
 -- ---- scheduling
--- what holds of each operation of a list
-abbrev pub Each : (ScheduledOperation → Type 0) → ScheduledOperations → Type 0
-Each P list.None = Unit {0}
-Each P (list.One a) = P a
-Each P (list.Two a b) = P a × P b
-
-abbrev pub Disjoint : ScheduledOperations → Type 0
-Disjoint list.None = Unit {0}
-Disjoint (list.One a) = Unit {0}
-Disjoint (list.Two a b) = (a .off .0 + a .len ≤ b .off .0) ⊎ (b .off .0 + b .len ≤ a .off .0)
-
-abbrev pub firstLen : ScheduledOperations → ℕ
-firstLen list.None = 0
-firstLen (list.One a) = a .len
-firstLen (list.Two a b) = a .len
-
--- the places a, a + 1 and on, n of them; and the same round a buffer of l
-pub upFrom : ℕ → ℕ → List ℕ
-upFrom a zero = []
-upFrom a (suc n) = a ∷ upFrom (suc a) n
-
-pub roundFrom : ℕ → ℕ → ℕ → List ℕ
-roundFrom l a zero = []
-roundFrom l a (suc n) = a % l ∷ roundFrom l (suc a) n
-
--- the places that the operations of a list take, in order
-abbrev pub placesOf : ScheduledOperations → List ℕ
-placesOf list.None = []
-placesOf (list.One a) = upFrom (a .off .0) (a .len)
-placesOf (list.Two a b) = upFrom (a .off .0) (a .len) ++ upFrom (b .off .0) (b .len)
-
--- At most two operations (the list has no more places), none empty, inside the buffer, disjoint; together they cover
--- min(m, data) or min(m, space), consecutive round the buffer from the offset; the first runs to the end of its block or
--- to m; and registering them is not refused and advances by just that sum.
-pub record Promise (s : RingBufferScheduler) (t : OperationType) (m : ℕ) (ops : ScheduledOperations) : Type 0 where
-  pub typed : Each (λ a. a .typ ≡ t) ops
-  pub nonempty : Each (λ a. 0 < a .len) ops
-  pub inside : Each (λ a. a .off .0 + a .len ≤ s .«buf_len») ops
-  pub disjoint : Disjoint ops
-  pub total : totalIn ops ≡ min m (greatestIn s t)
-  pub places : placesOf ops ≡ roundFrom (s .«buf_len») (offsetIn s t .0) (min m (greatestIn s t))
-  pub first : firstLen ops ≡ min m (nextBlockIn s t .len)
-  pub registers : registerListOf s ops ≡ registered.Advanced (advancedIn s t (min m (greatestIn s t)))
-
 zero-min : (n : ℕ) → min 0 n ≡ 0
 zero-min n = omega arith
 
@@ -337,15 +222,7 @@ scheduling s h t m = ⊎-elim none some (eq-zero-or-pos (all s h t m))
         (λ l. rw (← cut-one t (s .«buf_len») (offsetIn s t) (all s h t m) p l) (promise-one s h t m p l))
         (lt-or-le (s .«buf_len») (at s h t m + all s h t m))
 
--- asking block after block, as the Rust does: the second of the scheduler after the first, with what the first left over
-abbrev pub joined : ScheduledOperation → NextOperation → ScheduledOperations
-joined f next.None = list.One f
-joined f (next.Some g) = list.Two f g
-
-abbrev pub byBlocks : RingBufferScheduler → OperationType → ℕ → NextOperation → ScheduledOperations
-byBlocks s t m next.None = list.None
-byBlocks s t m (next.Some f) = joined f (nextIn (advancedIn s t (f .len)) t (m - f .len))
-
+-- asking block after block gives the same
 pub by-blocks : (s : RingBufferScheduler) → IsSound s → (t : OperationType) (m : ℕ) → byBlocks s t m (nextIn s t m) ≡ scheduleIn s t m
 by-blocks s h t m = first (nextIn s t m) refl
   where

@@ -5,3 +5,6 @@ pub mod Block
 pub mod List
 pub mod Diff
 pub mod Scheduler
+pub mod Given
+pub mod Promise
+pub mod Parts

@@ -1,0 +1,39 @@
+-- What each public call says, in the order of the paper: whatever its attached contract allows is this definition of its
+-- arguments, and what it leaves in the lent memory is this one.
+use Prim.Native.Nat.{ℕ}
+use mathlib.Core.Path.{_≡_, ap}
+use mathlib.Core.List.{List}
+use Rattle.modular.proofs.Saying.{Says, Leaves}
+use Rattle.sched.specs.declared.scheduler.RingBufferScheduler.{RingBufferScheduler}
+use Rattle.copies.specs.declared.lent.Told.{Told}
+use Rattle.copies.specs.Copies.{Left, readyOf, writeOf, readOf}
+use Rattle.copies.specs.Lent.{toldOf, recordAfter, WriteLeaves, ReadLeaves}
+use Rattle.copies.proofs.demand_ring_memory.Kinds as demand-ring-memory-kinds
+use Rattle.copies.proofs.demand_ring_memory.Reads as demand-ring-memory
+use Rattle.copies.proofs.write.Kinds as write-kinds
+use Rattle.copies.proofs.write.Reads as write
+use Rattle.copies.proofs.read.Kinds as read-kinds
+use Rattle.copies.proofs.read.Reads as read
+
+pub demand-ring-memory-says : Says 0 demand-ring-memory-kinds.ps demand-ring-memory-kinds.r demand-ring-memory.Learnt (λ κs a. readyOf (a .0) (a .1 .0))
+demand-ring-memory-says κs a z ws p = p
+
+-- the scheduler, the ring, the source or the destination
+pub write-says : Leaves 2 write-kinds.ps write-kinds.r write.Learnt
+    (λ κs a. writeOf (a .0) (a .1 .0 .now) (a .1 .1 .0 .now) .answer)
+    (λ κs a. (tt, (writeOf (a .0) (a .1 .0 .now) (a .1 .1 .0 .now) .memory, (tt, tt))))
+write-says κs a z ws p = (ap (λ (x : Left). x .answer) p, ap (λ (x : Left). (tt, (x .memory, (tt, tt)))) p)
+
+pub read-says : Leaves 2 read-kinds.ps read-kinds.r read.Learnt
+    (λ κs a. readOf (a .0) (a .1 .0 .now) (a .1 .1 .0 .now) .answer)
+    (λ κs a. (tt, (tt, (readOf (a .0) (a .1 .0 .now) (a .1 .1 .0 .now) .memory, tt))))
+read-says κs a z ws p = (ap (λ (x : Left). x .answer) p, ap (λ (x : Left). (tt, (tt, (x .memory, tt)))) p)
+
+-- ---- the calls over a lent scheduler: the toolchain reads no such contract, so each cites one predicate of its outcome
+pub write-lent-says : (s : RingBufferScheduler) (ring src : List ℕ) (r : Told) (after : RingBufferScheduler) (memory : List ℕ) → WriteLeaves s ring src r after memory →
+    (r ≡ toldOf (writeOf s ring src .answer)) × (after ≡ recordAfter s (writeOf s ring src .answer)) × (memory ≡ writeOf s ring src .memory)
+write-lent-says s ring src r after memory p = p
+
+pub read-lent-says : (s : RingBufferScheduler) (ring dst : List ℕ) (r : Told) (after : RingBufferScheduler) (memory : List ℕ) → ReadLeaves s ring dst r after memory →
+    (r ≡ toldOf (readOf s ring dst .answer)) × (after ≡ recordAfter s (readOf s ring dst .answer)) × (memory ≡ readOf s ring dst .memory)
+read-lent-says s ring dst r after memory p = p

@@ -1,0 +1,44 @@
+-- What a copy promises of the memory before and after it, in other words than those of its definition.
+use Prim.Native.Nat.{ℕ, _+_, _%_, _<_, min}
+use mathlib.Core.Path.{_≡_}
+use mathlib.Core.Logic.{_≢_}
+use mathlib.Core.List.{List}
+use lib.ListN.{length, getD, take, drop}
+use Rattle.sched.specs.declared.operation.OperationType.the-variants.{Read, Write}
+use Rattle.sched.specs.declared.scheduler.Registered.the-variants as registered
+use Rattle.sched.specs.declared.scheduler.RingBufferScheduler.{RingBufferScheduler}
+use Rattle.sched.specs.Scheduler.{greatestIn, offsetIn, registerOf}
+use Rattle.copies.specs.declared.Refusal.{Refusal}
+use Rattle.copies.specs.declared.lent.Told.{Told}
+use Rattle.copies.specs.declared.lent.Told.the-variants as told
+use Rattle.copies.specs.Ring.{get}
+
+-- of a ring of l places none but the n places from `at` on are changed
+abbrev pub OnlyCells : ℕ → ℕ → ℕ → List ℕ → List ℕ → Type 0
+OnlyCells l at n old new = (length new ≡ length old) × ((k : ℕ) → ((j : ℕ) → j < n → k ≢ (at + j) % l) → getD new k 0 ≡ getD old k 0)
+
+-- past its first n bytes a destination stays
+abbrev pub OnlyFront : ℕ → List ℕ → List ℕ → Type 0
+OnlyFront n old new = (length new ≡ length old) × (drop n new ≡ drop n old)
+
+module _ (s : RingBufferScheduler) (ring : List ℕ) where
+  -- A write is refused, and changes neither the scheduler nor the memory. Or it moves exactly the smaller of what is asked and
+  -- the greatest length, which is what is registered; the front of the source then stands in its cells, and no other changed.
+  pub data Writes (src : List ℕ) : Told → RingBufferScheduler → List ℕ → Type 0 where
+    refuses : (e : Refusal) → Writes src (told.Refused e) s ring
+    moves : (n : ℕ) (after : RingBufferScheduler) (memory : List ℕ) →
+        n ≡ min (length src) (greatestIn s Write) →
+        registerOf s Write n ≡ registered.Advanced after →
+        get (s .«buf_len») memory (offsetIn s Write .0) n ≡ take n src →
+        OnlyCells (s .«buf_len») (offsetIn s Write .0) n ring memory →
+        Writes src (told.Moved n) after memory
+
+  -- A read likewise: the front of the destination then holds what stands in its cells, and the rest of it stays.
+  pub data Reads (dst : List ℕ) : Told → RingBufferScheduler → List ℕ → Type 0 where
+    refuses : (e : Refusal) → Reads dst (told.Refused e) s dst
+    moves : (n : ℕ) (after : RingBufferScheduler) (memory : List ℕ) →
+        n ≡ min (length dst) (greatestIn s Read) →
+        registerOf s Read n ≡ registered.Advanced after →
+        take n memory ≡ get (s .«buf_len») ring (offsetIn s Read .0) n →
+        OnlyFront n dst memory →
+        Reads dst (told.Moved n) after memory

@@ -1,0 +1,128 @@
+-- Lines and answers in the words of `Numeral`, over the definitions; `Promised` states it of the calls.
+use Prim.Native.Nat.{ℕ, _+_, _^_, _<_, _≤_}
+use mathlib.Core.Path.{_≡_, refl, sym, ap, _∙_}
+use mathlib.Core.List.{List}
+use mathlib.Core.Logic.{⊎-elim}
+use lib.ListN.{length}
+use native.Mathlib.Omega.{arith}
+use Rattle.modular.proofs.Laws.{lt-or-le}
+use Rattle.sched.specs.declared.list.ScheduledOperations.{ScheduledOperations}
+use Rattle.sched.specs.declared.list.ScheduledOperations.the-variants as list
+use Rattle.sched.specs.declared.operation.OperationType.{OperationType}
+use Rattle.sched.specs.declared.operation.ScheduledOperation.{ScheduledOperation}
+use Rattle.sched.specs.declared.refusal.Refusal.{Refusal}
+use Rattle.sched.specs.declared.refusal.Refusal.the-variants.{ZeroBufferLength, BufferTooLarge, ItemsWrittenOutOfBounds, ItemsReadOutofBounds, DataAvailOutOfBounds, OperationTooLarge, OperationTooLong, InconsistentOperationType}
+use Rattle.sched.specs.declared.scheduler.Checked.{Checked}
+use Rattle.sched.specs.declared.scheduler.Checked.the-variants as checked
+use Rattle.sched.specs.declared.scheduler.RingBufferScheduler.{RingBufferScheduler}
+use Rattle.sched.specs.Promise.{Each}
+use Rattle.sched.specs.Refusal.{numberOf}
+use Rattle.sched.specs.Scheduler.{schedulerOf, IsSound, soundOf, scheduleIn, scheduleOf}
+use Rattle.sched.proofs.Laws.{sound-both}
+use Rattle.sched.proofs.Promises.{scheduling}
+use Rattle.planline.specs.declared.line.Asked.{Asked}
+use Rattle.planline.specs.declared.line.Parsed.{Parsed}
+use Rattle.planline.specs.declared.line.Parsed.the-variants as parsed
+use Rattle.planline.specs.declared.line.Plan.{Plan}
+use Rattle.planline.specs.declared.line.Plan.the-variants as plan
+use Rattle.planline.specs.Decimal.{decimal}
+use Rattle.planline.specs.Grammar.{WellFormed}
+use Rattle.planline.specs.Line.{lineOf, parseOf, planAfter, planFor, planFrom, planOf}
+use Rattle.planline.specs.Numeral.{Line, Pair, pair, Printed, bad, refused, ok-none, ok-one, ok-two}
+use Rattle.planline.specs.Text.{operationText, listText, planText}
+use Rattle.planline.proofs.Grammar.{accepts, accepted, planned, bad-else}
+use Rattle.planline.proofs.LineLaws.{plan-long, plan-short}
+use Rattle.planline.proofs.NumeralLaws.{decimal-numeral, numeral-is}
+
+-- ---- lines
+line-formed : (xs : List ℕ) (a : Asked) → Line xs a → xs ≡ lineOf a
+unfolding lineOf
+line-formed xs a h =
+    h .is
+    ∙ rw (
+      numeral-is (h .l) (a .«buf_len») (h .fits .buf) (h .buf),
+      numeral-is (h .w) (a .written) (h .fits .written) (h .written),
+      numeral-is (h .r) (a .read) (h .fits .read) (h .read),
+      numeral-is (h .m) (a .«max_len») (h .fits .max) (h .max),
+    )
+
+formed-line : (xs : List ℕ) (a : Asked) → WellFormed xs a → Line xs a
+unfolding lineOf
+formed-line xs a h =
+    record {
+      l = decimal (a .«buf_len»);
+      w = decimal (a .written);
+      r = decimal (a .read);
+      m = decimal (a .«max_len»);
+      buf = decimal-numeral (a .«buf_len») (h .fits .buf);
+      written = decimal-numeral (a .written) (h .fits .written);
+      read = decimal-numeral (a .read) (h .fits .read);
+      max = decimal-numeral (a .«max_len») (h .fits .max);
+      fits = h .fits;
+      is = h .is;
+    }
+
+pub line-parsed : (xs : List ℕ) (a : Asked) → Line xs a → parseOf xs ≡ parsed.Of a
+line-parsed xs a h = ap parseOf (line-formed xs a h) ∙ accepts a (h .fits)
+
+pub parsed-line : (xs : List ℕ) (a : Asked) → parseOf xs ≡ parsed.Of a → Line xs a
+parsed-line xs a e = formed-line xs a (accepted xs a e)
+
+pub line-planned : (xs : List ℕ) (a : Asked) → Line xs a → planOf xs ≡ planFor a
+line-planned xs a h = ap planOf (line-formed xs a h) ∙ planned a (h .fits)
+
+pub else-bad : (xs : List ℕ) → ((a : Asked) → Line xs a → ⊥) → planOf xs ≡ plan.Bad
+else-bad xs f = bad-else xs (λ a h. f a (formed-line xs a h))
+
+-- ---- answers: a plan's numbers are below 2^64
+abbrev Small : Plan → Type 0
+Small plan.Bad = Unit {0}
+Small (plan.Refused n) = n < 2 ^ 64
+Small (plan.Ok ops) = Each (λ a. (a .off .0 < 2 ^ 64) × (a .len < 2 ^ 64)) ops
+
+pair-printed : (a : ScheduledOperation) → (a .off .0 < 2 ^ 64) × (a .len < 2 ^ 64) → Pair (operationText a) a
+unfolding operationText
+pair-printed a h = pair (decimal-numeral (a .off .0) (h .0)) (decimal-numeral (a .len) (h .1))
+
+printed : (p : Plan) → Small p → Printed (planText p) p
+unfolding planText listText
+printed plan.Bad h = bad
+printed (plan.Refused n) h = refused (decimal-numeral n h)
+printed (plan.Ok list.None) h = ok-none
+printed (plan.Ok (list.One a)) h = ok-one (pair-printed a h)
+printed (plan.Ok (list.Two a b)) h = ok-two (pair-printed a (h .0)) (pair-printed b (h .1))
+
+number-small : (e : Refusal) → numberOf e < 2 ^ 64
+number-small ZeroBufferLength = omega arith
+number-small (BufferTooLarge l) = omega arith
+number-small (ItemsWrittenOutOfBounds l w) = omega arith
+number-small (ItemsReadOutofBounds l r) = omega arith
+number-small (DataAvailOutOfBounds l w r) = omega arith
+number-small (OperationTooLarge t n greatest) = omega arith
+number-small (OperationTooLong excess) = omega arith
+number-small InconsistentOperationType = omega arith
+
+-- each operation lies inside a buffer of at most 2^63
+inside-small : (l : ℕ) (ops : ScheduledOperations) → l ≤ 2 ^ 63 → Each (λ a. a .off .0 + a .len ≤ l) ops → Small (plan.Ok ops)
+inside-small l list.None f h = tt
+inside-small l (list.One a) f h = (omega arith, omega arith)
+inside-small l (list.Two a b) f h = ((omega (arith, h .0), omega (arith, h .0)), (omega (arith, h .1), omega (arith, h .1)))
+
+scheduled-small : (s : RingBufferScheduler) (t : OperationType) (m : ℕ) → Small (planAfter (scheduleOf s t m))
+scheduled-small s t m = go (soundOf s) refl
+  where
+    go : (c : Checked) → soundOf s ≡ c → Small (planAfter (scheduleOf s t m))
+    go (checked.Refused e) p = rw p (number-small e)
+    go (checked.Sound u) p =
+        let b : IsSound s × (u ≡ s) = sound-both u s (sym p) in
+        rw (p, b .1) (inside-small (s .«buf_len») (scheduleIn s t m) (b .0 .sized .fits) (scheduling s (b .0) t m .inside))
+
+plan-small : (xs : List ℕ) → Small (planOf xs)
+plan-small xs = ⊎-elim (λ long. rw (← plan-long xs long) tt) (λ short. rw (← plan-short xs short) (go (parseOf xs))) (lt-or-le 120 (length xs))
+  where
+    go : (p : Parsed) → Small (planFrom p)
+    go (parsed.Of a) = scheduled-small (schedulerOf (a .«buf_len») (record { 0 = a .written }) (record { 0 = a .read })) (a .typ) (a .«max_len»)
+    go parsed.Bad = tt
+
+pub plan-printed : (xs : List ℕ) → Printed (planText (planOf xs)) (planOf xs)
+plan-printed xs = printed (planOf xs) (plan-small xs)

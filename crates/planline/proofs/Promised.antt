@@ -1,0 +1,142 @@
+-- What is promised of lines, texts and runs, of the calls: every outcome that an attached contract allows keeps it.
+use Prim.Native.Nat.{ℕ, _+_, _<_, _≤_}
+use mathlib.Core.Path.{_≡_, sym, ap, _∙_}
+use mathlib.Core.List.{List}
+use mathlib.Core.Logic.{⊎-elim}
+use lib.ListN.{length}
+use lib.Seq.{sets-eq}
+use borrow.Author.Tests.{le-leb, lt-leb}
+use native.Mathlib.Omega.{arith}
+use contract.Lifetimes.{Lfts}
+use denote.Triple.Clauses.{Lasts, atExit}
+use borrow.Fn.Kinds.{Dens, resT, endedOf}
+use Rattle.modular.proofs.Laws.{lt-or-le}
+use Rattle.modular.proofs.Saying.{Allows, Keeps}
+use Rattle.sched.specs.declared.list.OperationsAnswer.{OperationsAnswer}
+use Rattle.sched.specs.Scheduler.{schedulerOf}
+use Rattle.sched.proofs.Says.{schedule-contiguous-operations-says}
+use Rattle.sched.proofs.scheduler.RingBufferScheduler.schedule_contiguous_operations.Kinds as schedule-kinds
+use Rattle.sched.proofs.scheduler.RingBufferScheduler.schedule_contiguous_operations.Reads as schedule
+use Rattle.planline.specs.declared.cut.Cut.{Cut}
+use Rattle.planline.specs.declared.line.Asked.{Asked}
+use Rattle.planline.specs.declared.line.Parsed.the-variants as parsed
+use Rattle.planline.specs.declared.line.Plan.{Plan}
+use Rattle.planline.specs.declared.line.Plan.the-variants as plan
+use Rattle.planline.specs.Cut.{Step, step, stepOf, lastOf}
+use Rattle.planline.specs.Input.{linesOf, textsOf, joined}
+use Rattle.planline.specs.Line.{parseOf, planAfter, planOf}
+use Rattle.planline.specs.Lines.{LinesOf, Answered}
+use Rattle.planline.specs.Numeral.{Line, Printed, Appended, there, no-room}
+use Rattle.planline.specs.Run.{Place, Run, Start}
+use Rattle.planline.specs.Text.{Filled, filled, planText, appendOf}
+use Rattle.planline.proofs.Case.{input, output, case}
+use Rattle.planline.proofs.LinesLaws.{lines-are, answered}
+use Rattle.planline.proofs.Printing.{line-parsed, parsed-line, line-planned, else-bad, plan-printed}
+use Rattle.planline.proofs.Runs.{run-text}
+use Rattle.planline.proofs.Says.{parse-says, plan-line-says, append-says, answer-next-says, answer-last-says}
+use Rattle.planline.proofs.TextLaws.{plan-text-short}
+use Rattle.planline.proofs.line.parse.Kinds as parse-kinds
+use Rattle.planline.proofs.line.parse.Reads as parse
+use Rattle.planline.proofs.line.plan_line.Kinds as plan-line-kinds
+use Rattle.planline.proofs.line.plan_line.Reads as plan-line
+use Rattle.planline.proofs.text.append.Kinds as append-kinds
+use Rattle.planline.proofs.text.append.Reads as append
+use Rattle.planline.proofs.cut.answer_next.Kinds as answer-next-kinds
+use Rattle.planline.proofs.cut.answer_next.Reads as answer-next
+use Rattle.planline.proofs.cut.answer_last.Kinds as answer-last-kinds
+use Rattle.planline.proofs.cut.answer_last.Reads as answer-last
+
+-- ---- a line is read exactly when it is one, as what it asks
+pub parse-promised :
+    Keeps 1 parse-kinds.ps parse-kinds.r parse.Learnt
+    (λ κs a z. (x : Asked) → (Line (a .0 .now) x → z ≡ parsed.Of x) × (z ≡ parsed.Of x → Line (a .0 .now) x))
+parse-promised κs a z q x = (λ l. said ∙ line-parsed (a .0 .now) x l, λ e. parsed-line (a .0 .now) x (sym said ∙ e))
+  where
+    said : z ≡ parseOf (a .0 .now)
+    said = parse-says κs a z (q .0) (q .1)
+
+-- its answer is what the scheduler's call answers to that, and `bad` where it is no line
+abbrev pub Scheduled : Asked → OperationsAnswer → Type 0
+Scheduled x y =
+    Allows 0 schedule-kinds.ps schedule-kinds.r schedule.Learnt tt
+    (schedulerOf (x .«buf_len») (record { 0 = x .written }) (record { 0 = x .read }), (x .typ, (x .«max_len», tt))) y
+
+pub plan-line-promised :
+    Keeps 1 plan-line-kinds.ps plan-line-kinds.r plan-line.Learnt
+    (λ κs a z. ((x : Asked) → Line (a .0 .now) x → (y : OperationsAnswer) → Scheduled x y → z ≡ planAfter y) × (((x : Asked) → Line (a .0 .now) x → ⊥) → z ≡ plan.Bad))
+plan-line-promised κs a z q = (
+  λ x l y r. said ∙ line-planned (a .0 .now) x l ∙ ap planAfter (sym (schedule-contiguous-operations-says tt _ y (r .0) (r .1))),
+  λ n. said ∙ else-bad (a .0 .now) n,
+)
+  where
+    said : z ≡ planOf (a .0 .now)
+    said = plan-line-says κs a z (q .0) (q .1)
+
+-- ---- the text of a line's answer, of which every number is worth what it says
+appended : (p : Plan) (text before : List ℕ) (at : ℕ) → Printed text p → length text ≤ 89 → Appended before at p (appendOf text (filled at before) .at) (appendOf text (filled at before) .bytes)
+unfolding appendOf
+appended p text before at h l = ⊎-elim none some (lt-or-le (length before) (at + 89))
+  where
+    none : length before < at + 89 → Appended before at p (appendOf text (filled at before) .at) (appendOf text (filled at before) .bytes)
+    none g = rw (lt-leb _ _ g) (no-room g)
+
+    some : at + 89 ≤ length before → Appended before at p (appendOf text (filled at before) .at) (appendOf text (filled at before) .bytes)
+    some g =
+        let f : at + length text ≤ length before = omega arith in
+        rw (le-leb _ _ g, sets-eq text before at f) (there text g h)
+
+pub append-promised :
+    (κs : Lfts 2) (a : Dens κs append-kinds.ps) (z : resT append-kinds.r κs .Denot) (ws : Lasts (endedOf 2 append-kinds.ps append-kinds.r) κs a) →
+    append.Learnt κs a z (atExit (endedOf 2 append-kinds.ps append-kinds.r) κs a ws) →
+    (ηs : Lfts 1) (b : Dens ηs plan-line-kinds.ps) → b .0 .now ≡ a .0 .now →
+    (p : Plan) → Allows 1 plan-line-kinds.ps plan-line-kinds.r plan-line.Learnt ηs b p →
+    Appended (a .1 .0 .now) (a .1 .1 .0) p z (ws .1 .0)
+append-promised κs a z ws q ηs b e p r =
+    let said : p ≡ planOf (a .0 .now) = plan-line-says ηs b p (r .0) (r .1) ∙ ap planOf e in
+    let left = append-says κs a z ws q in
+    rw (left .0, left .1, said)
+    (appended (planOf (a .0 .now)) (planText (planOf (a .0 .now))) (a .1 .0 .now) (a .1 .1 .0) (plan-printed (a .0 .now)) (plan-text-short (planOf (a .0 .now))))
+
+-- ---- a run of the calls over any pieces makes the answers to the input's lines
+-- `answer_next` may leave x on what stands at s, from an index of a piece
+pub record NextCall (piece : List ℕ) (s : Place) (i : ℕ) (x : Step) : Type 0 where
+  pub κs : Lfts 3
+  pub a : Dens κs answer-next-kinds.ps
+  pub z : Cut
+  pub ws : Lasts (endedOf 3 answer-next-kinds.ps answer-next-kinds.r) κs a
+  pub allowed : answer-next.Learnt κs a z (atExit (endedOf 3 answer-next-kinds.ps answer-next-kinds.r) κs a ws)
+  pub lent-line : filled (a .1 .0) (a .0 .now) ≡ s .held
+  pub lent-piece : (a .1 .1 .0 .now ≡ piece) × (a .1 .1 .1 .0 ≡ i)
+  pub lent-out : filled (a .1 .1 .1 .1 .1 .0) (a .1 .1 .1 .1 .0 .now) ≡ s .out
+  pub leaves : x ≡ step (filled (z .held) (ws .0)) (z .next) (filled (z .at) (ws .1 .1 .1 .1 .0))
+
+-- `answer_last` may leave o in the text's buffer
+pub record LastCall (s : Place) (o : Filled) : Type 0 where
+  pub κs : Lfts 2
+  pub a : Dens κs answer-last-kinds.ps
+  pub z : ℕ
+  pub ws : Lasts (endedOf 2 answer-last-kinds.ps answer-last-kinds.r) κs a
+  pub allowed : answer-last.Learnt κs a z (atExit (endedOf 2 answer-last-kinds.ps answer-last-kinds.r) κs a ws)
+  pub lent-line : filled (a .1 .0) (a .0 .now) ≡ s .held
+  pub lent-out : filled (a .1 .1 .1 .0) (a .1 .1 .0 .now) ≡ s .out
+  pub leaves : o ≡ filled z (ws .1 .1 .0)
+
+next-is : (piece : List ℕ) (s : Place) (i : ℕ) (x : Step) → NextCall piece s i x → x ≡ stepOf (s .held) i piece (s .out)
+next-is piece s i x c =
+    let left = answer-next-says (c .κs) (c .a) (c .z) (c .ws) (c .allowed) in
+    c .leaves ∙ rw (left .0, left .1, c .lent-line, c .lent-piece .0, c .lent-piece .1, c .lent-out)
+
+last-is : (s : Place) (o : Filled) → LastCall s o → o ≡ lastOf (s .held) (s .out)
+last-is s o c =
+    let left = answer-last-says (c .κs) (c .a) (c .z) (c .ws) (c .allowed) in
+    c .leaves ∙ rw (left .0, left .1, c .lent-line, c .lent-out)
+
+run-is : (pieces : List (List ℕ)) (s : Place) (text : List ℕ) → Start s → Run NextCall LastCall pieces s text → text ≡ textsOf (linesOf (joined pieces))
+run-is = run-text NextCall LastCall next-is last-is
+
+pub run-promised : (pieces : List (List ℕ)) (s : Place) (text : List ℕ) → Start s → Run NextCall LastCall pieces s text → (lines : List (List ℕ)) × LinesOf (joined pieces) lines × Answered lines text
+run-promised pieces s text b r = (linesOf (joined pieces), lines-are (joined pieces), rw (run-is pieces s text b r) (answered (linesOf (joined pieces))))
+
+-- the paper's whole case, in whatever pieces
+pub case-promised : (pieces : List (List ℕ)) (s : Place) (text : List ℕ) → Start s → joined pieces ≡ input → Run NextCall LastCall pieces s text → text ≡ output
+case-promised pieces s text b e r = run-is pieces s text b r ∙ ap (λ (xs : List ℕ). textsOf (linesOf xs)) e ∙ case

@@ -1,0 +1,62 @@
+-- The machine in the hands of a host with a real socket: answers are handed in one at a time, fitting and not, over whatever ring is
+-- lent with each. One that is refused leaves the call as it was.
+use Prim.Native.Nat.{ℕ, _+_}
+use mathlib.Core.List.{List, [], _∷_}
+use Rattle.receiver.specs.Pending.{sentBy, wholeIn}
+use Rattle.receiver.specs.Call.{outcomeIn, answeredOf}
+use Rattle.receiver.specs.declared.answer.Answer.{Answer}
+use Rattle.receiver.specs.declared.call.Call.{Call}
+use Rattle.receiver.specs.declared.call.Phase.{Phase}
+use Rattle.receiver.specs.declared.call.Phase.the-variants.{Receive, Send, Shutdown, Finished}
+use Rattle.receiver.specs.declared.call.Step.{Step}
+use Rattle.receiver.specs.declared.call.Step.the-variants.{Of, Refused}
+use Rattle.receiver.specs.declared.receiver.Outcome.{Outcome}
+use Rattle.receiver.specs.declared.receiver.Outcome.the-variants as outcome
+
+pub record Handed : Type 0 where
+  pub ring : List ℕ
+  pub answer : Answer
+  pub place : ℕ
+
+abbrev pub stepOf : Call → Handed → Step
+stepOf c h = answeredOf c (h .ring) (h .answer) (h .place)
+
+-- the host goes on with the call that it has
+abbrev pub keptBy : Call → Step → Call
+keptBy c (Of d) = d
+keptBy c (Refused r) = c
+
+abbrev pub handedTo : Call → List Handed → Call
+handedTo c [] = c
+handedTo c (h ∷ hs) = handedTo (keptBy c (stepOf c h)) hs
+
+-- what was sent: by a call that waits to send, if it takes the answer
+abbrev pub sentAt : Phase → Step → Answer → ℕ
+sentAt (Send batch e) (Of d) a = sentBy a
+sentAt (Send batch e) (Refused r) a = 0
+sentAt (Receive top asked) x a = 0
+sentAt (Shutdown e) x a = 0
+sentAt (Finished o) x a = 0
+
+abbrev pub allSentTo : Call → List Handed → ℕ
+allSentTo c [] = 0
+allSentTo c (h ∷ hs) = sentAt (c .phase) (stepOf c h) (h .answer) + allSentTo (keptBy c (stepOf c h)) hs
+
+-- the outcome that a call comes to if nothing fails; one that waits for a receive has none yet
+abbrev pub comingTo : Phase → Outcome
+comingTo (Receive top asked) = outcome.Done
+comingTo (Send batch e) = outcomeIn e
+comingTo (Shutdown e) = outcomeIn e
+comingTo (Finished o) = o
+
+-- a chunk handed out whole: by a call that waits for its announcement, and comes to a read that leaves no data
+abbrev pub wholeAt : Phase → Step → ℕ
+wholeAt (Receive top asked) (Of d) = wholeIn (d .receiver) (comingTo (d .phase))
+wholeAt (Receive top asked) (Refused r) = 0
+wholeAt (Send batch e) x = 0
+wholeAt (Shutdown e) x = 0
+wholeAt (Finished o) x = 0
+
+abbrev pub allWholeTo : Call → List Handed → ℕ
+allWholeTo c [] = 0
+allWholeTo c (h ∷ hs) = wholeAt (c .phase) (stepOf c h) + allWholeTo (keptBy c (stepOf c h)) hs

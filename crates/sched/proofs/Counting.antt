@@ -1,0 +1,136 @@
+-- What the tests take, and what registering does, in the words of `Promise`: counters with some data between them.
+use Prim.Native.Nat.{ℕ, _+_, _-_, _*_, _%_, _<_, _≤_, min}
+use mathlib.Core.Path.{_≡_, refl, sym, ap, _∙_}
+use mathlib.Core.Logic.{⊎-elim}
+use native.Mathlib.Nat.{mod-eq-of-lt, mod-lt, mod-mod}
+use native.Mathlib.Omega.{arith}
+use Rattle.modular.proofs.Laws.{sub-back, sub-unique, sub-of-sum, sub-to-sum, add-is, lt-or-le}
+use Rattle.sched.specs.declared.list.OperationsAnswer.{OperationsAnswer}
+use Rattle.sched.specs.declared.list.OperationsAnswer.the-variants as operations
+use Rattle.sched.specs.declared.list.ScheduledOperations.{ScheduledOperations}
+use Rattle.sched.specs.declared.list.ScheduledOperations.the-variants as list
+use Rattle.sched.specs.declared.operation.NextOperation.{NextOperation}
+use Rattle.sched.specs.declared.operation.NextOperation.the-variants as next
+use Rattle.sched.specs.declared.operation.OperationType.{OperationType}
+use Rattle.sched.specs.declared.operation.OperationType.the-variants.{Read, Write}
+use Rattle.sched.specs.declared.operation.ScheduledOperation.{ScheduledOperation}
+use Rattle.sched.specs.declared.refusal.Refusal.{Refusal}
+use Rattle.sched.specs.declared.refusal.Refusal.the-variants.{OperationTooLarge}
+use Rattle.sched.specs.declared.scheduler.Checked.{Checked}
+use Rattle.sched.specs.declared.scheduler.Checked.the-variants as checked
+use Rattle.sched.specs.declared.scheduler.Registered.{Registered}
+use Rattle.sched.specs.declared.scheduler.Registered.the-variants as registered
+use Rattle.sched.specs.declared.scheduler.RingBufferScheduler.{RingBufferScheduler}
+use Rattle.sched.specs.List.{soundListOf}
+use Rattle.sched.specs.Operation.{operationOf}
+use Rattle.sched.specs.Promise.{MovedByList, by-none, by-one, by-two, Next, Between, Taken, MovedBy}
+use Rattle.sched.specs.Scheduler.{Sized, IsSound, soundOf, dataIn, greatestIn, offsetIn, nextIn, advancedIn, registerFrom, registerOf, registerSoundList, registerListFrom, registerListOf, thenRegister}
+use Rattle.sched.proofs.Laws.{sound-is, sound-both, registered-sound, next-is, some-none, some-some, offset-lt, advanced-sound}
+use Rattle.sched.proofs.GivenLists.{list-kept, tests-list, registers-one, registers-two}
+use Rattle.sched.proofs.Promises.{too-large, registers}
+
+-- ---- the data between the counters
+module _ (s : RingBufferScheduler) where
+  abbrev L : ℕ
+  L = s .«buf_len»
+
+  abbrev w : ℕ
+  w = s .«items_written» .0
+
+  abbrev r : ℕ
+  r = s .«items_read» .0
+
+  pub between : IsSound s → Between s (dataIn s)
+  between h = record { at-most = h .fill; ahead = sub-back (2 * L) w r (omega arith) ∙ mod-eq-of-lt (h .written) }
+
+  pub between-is : Sized L → (d : ℕ) → Between s d → dataIn s ≡ d
+  between-is l d b =
+      let e : w % (2 * L) ≡ w = ap (λ (x : ℕ). x % (2 * L)) (sym (b .ahead)) ∙ mod-mod (r + d) (2 * L) ∙ b .ahead in
+      sub-unique (2 * L) w r d (omega arith) (omega (arith, b .at-most)) (b .ahead ∙ sym e)
+
+  pub taken-sound : Taken s → IsSound s
+  taken-sound t =
+      record {
+        sized = t .sized;
+        written = let l : (r + t .held .0) % (2 * L) < 2 * L = mod-lt (r + t .held .0) (omega (arith, t .sized .some)) in rw (t .held .1 .ahead) at l;
+        read = t .read;
+        fill = rw (between-is (t .sized) (t .held .0) (t .held .1)) (t .held .1 .at-most);
+      }
+
+  pub sound-taken : IsSound s → Taken s
+  sound-taken h = record { sized = h .sized; read = h .read; held = (dataIn s, between h) }
+
+-- ---- registering
+module _ (s : RingBufferScheduler) (h : IsSound s) (n : ℕ) where
+  pub moved : (t : OperationType) → n ≤ greatestIn s t → MovedBy s t n (advancedIn s t n)
+  moved Read l =
+      let e : dataIn (advancedIn s Read n) ≡ dataIn s - n = sub-to-sum (2 * s .«buf_len») (s .«items_written» .0) (s .«items_read» .0) n (omega arith) l in
+      record {
+        sound = advanced-sound s h n Read l;
+        length = refl;
+        written = refl;
+        read = add-is (2 * s .«buf_len») (s .«items_read» .0) n;
+        fill = omega arith;
+      }
+  moved Write l =
+      record {
+        sound = advanced-sound s h n Write l;
+        length = refl;
+        read = refl;
+        written = add-is (2 * s .«buf_len») (s .«items_written» .0) n;
+        fill = sub-of-sum (2 * s .«buf_len») (s .«items_written» .0) (s .«items_read» .0) n (omega arith) (omega arith);
+      }
+
+never : {A : Type 0} (u : RingBufferScheduler) (e : Refusal) → registered.Refused e ≡ registered.Advanced u → A
+never u e p = let z : _≡_ {A = ℕ} 0 1 = cc in absurd (omega arith)
+
+same-advanced : (u v : RingBufferScheduler) → registered.Advanced u ≡ registered.Advanced v → u ≡ v
+same-advanced u v p = cc
+
+pub registered-moved : (s : RingBufferScheduler) (t : OperationType) (n : ℕ) (u : RingBufferScheduler) → registerOf s t n ≡ registered.Advanced u → IsSound s × MovedBy s t n u
+registered-moved s t n u p = go (soundOf s) refl
+  where
+    sound-part : (h : IsSound s) → MovedBy s t n u
+    sound-part h =
+        ⊎-elim
+        (λ l. never u (OperationTooLarge t n (greatestIn s t)) (sym (too-large s h t n l) ∙ p))
+        (λ l. rw (same-advanced u (advancedIn s t n) (sym p ∙ registers s h t n l)) (moved s h n t l))
+        (lt-or-le (greatestIn s t) n)
+
+    go : (c : Checked) → soundOf s ≡ c → IsSound s × MovedBy s t n u
+    go (checked.Sound v) q = let h : IsSound s = sound-both v s (sym q) .0 in (h, sound-part h)
+    go (checked.Refused e) q = never u e (sym (ap (registerFrom t n) q) ∙ p)
+
+-- ---- registering a list
+module _ (s : RingBufferScheduler) (h : IsSound s) (u : RingBufferScheduler) where
+  -- the second after the first
+  then-moved : (a b : ScheduledOperation) (x : Registered) → registerOf s (a .typ) (a .len) ≡ x → thenRegister x b ≡ registered.Advanced u → MovedByList s (list.Two a b) u
+  then-moved a b (registered.Advanced v) p q =
+      let k : IsSound v = registered-sound s h (a .typ) (a .len) v (sym p ∙ sym (ap (registerFrom (a .typ) (a .len)) (sound-is s h))) in
+      by-two v (registered-moved s (a .typ) (a .len) v p .1) (registered-moved v (b .typ) (b .len) u (sym (ap (registerFrom (b .typ) (b .len)) (sound-is v k)) ∙ q) .1)
+  then-moved a b (registered.Refused e) p q = never u e q
+
+  sound-moved : (ops : ScheduledOperations) → registerListOf s ops ≡ registered.Advanced u → MovedByList s ops u
+  sound-moved list.None p = rw (same-advanced u s (sym p ∙ tests-list s h list.None)) by-none
+  sound-moved (list.One a) p = by-one (registered-moved s (a .typ) (a .len) u (sym (registers-one s h a) ∙ p) .1)
+  sound-moved (list.Two a b) p = go (soundListOf (list.Two a b)) refl
+    where
+      go : (x : OperationsAnswer) → soundListOf (list.Two a b) ≡ x → MovedByList s (list.Two a b) u
+      go (operations.Of ops) q = then-moved a b (registerOf s (a .typ) (a .len)) refl (sym (registers-two s h a b (q ∙ ap operations.Of (list-kept a b ops q))) ∙ p)
+      go (operations.Refused e) q = never u e (sym (tests-list s h (list.Two a b) ∙ ap (registerSoundList s) q) ∙ p)
+
+pub list-moved : (s : RingBufferScheduler) (ops : ScheduledOperations) (u : RingBufferScheduler) → registerListOf s ops ≡ registered.Advanced u → IsSound s × MovedByList s ops u
+list-moved s ops u p = go (soundOf s) refl
+  where
+    go : (c : Checked) → soundOf s ≡ c → IsSound s × MovedByList s ops u
+    go (checked.Sound v) q = let h : IsSound s = sound-both v s (sym q) .0 in (h, sound-moved s h u ops p)
+    go (checked.Refused e) q = never u e (sym (ap (registerListFrom ops) q) ∙ p)
+
+-- ---- the next operation
+pub next-promised : (s : RingBufferScheduler) → IsSound s → (t : OperationType) (m : ℕ) (o : NextOperation) → nextIn s t m ≡ o → Next s t m o
+next-promised s h t m next.None e =
+    let z : min m (min (greatestIn s t) (s .«buf_len» - offsetIn s t .0)) ≡ 0 = some-none _ _ _ (sym e ∙ next-is s h t m) in
+    omega (arith, offset-lt s h t)
+next-promised s h t m (next.Some f) e =
+    let q : (f ≡ operationOf t (offsetIn s t) (min m (min (greatestIn s t) (s .«buf_len» - offsetIn s t .0)))) × (0 < min m (min (greatestIn s t) (s .«buf_len» - offsetIn s t .0))) = some-some _ _ _ f (sym e ∙ next-is s h t m) in
+    rw (q .0) (record { typed = refl; nonempty = q .1; starts = refl; runs = refl })

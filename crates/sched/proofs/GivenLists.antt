@@ -1,0 +1,187 @@
+-- The numbers 7 and 8 of a list, and 6 where a list is registered operation by operation, are given exactly when the paper says
+-- so, over the definitions.
+use Prim.Native.Nat.{ℕ, _+_, _-_, _^_, _<_, _≤_}
+use mathlib.Core.Path.{_≡_, refl, sym, ap, _∙_}
+use mathlib.Core.Bool.{Bool, true, false}
+use mathlib.Core.List.{List, []}
+use mathlib.Core.Logic.{⊎-elim}
+use native.Mathlib.Omega.{arith}
+use Rattle.modular.proofs.Laws.{lt-or-le}
+use Rattle.sched.specs.declared.list.ScheduledOperations.{ScheduledOperations}
+use Rattle.sched.specs.declared.list.ScheduledOperations.the-variants as list
+use Rattle.sched.specs.declared.list.OperationsAnswer.{OperationsAnswer}
+use Rattle.sched.specs.declared.list.OperationsAnswer.the-variants as operations
+use Rattle.sched.specs.declared.operation.OperationType.{OperationType}
+use Rattle.sched.specs.declared.operation.OperationType.the-variants.{Read, Write}
+use Rattle.sched.specs.declared.operation.ScheduledOperation.{ScheduledOperation}
+use Rattle.sched.specs.declared.refusal.Refusal.{Refusal}
+use Rattle.sched.specs.declared.refusal.Refusal.the-variants.{OperationTooLarge, OperationTooLong, InconsistentOperationType}
+use Rattle.sched.specs.declared.scheduler.Checked.{Checked}
+use Rattle.sched.specs.declared.scheduler.Checked.the-variants as checked
+use Rattle.sched.specs.declared.scheduler.Registered.{Registered}
+use Rattle.sched.specs.declared.scheduler.Registered.the-variants as registered
+use Rattle.sched.specs.declared.scheduler.RingBufferScheduler.{RingBufferScheduler}
+use Rattle.sched.specs.Given.{Verdict, accepted, refused, numberIn, valuesIn, Exactly, Given, taken, GivenRegister, given-6, GivenList, list-none, list-one, list-two, given-7, given-8, GivenOperations, the-record, the-list, nothing, alone, at-first, at-second, ofChecked, ofRegistered, ofOperations}
+use Rattle.sched.specs.List.{sameTypeOf, soundListOf}
+use Rattle.sched.specs.Scheduler.{IsSound, soundOf, greatestIn, advancedIn, registerFrom, registerOf, registerSoundList, registerListFrom, registerListOf, thenRegister}
+use Rattle.sched.proofs.Laws.{sound-is, sound-both, advanced-sound}
+use Rattle.sched.proofs.Promises.{too-large, registers, too-long, inconsistent, list-taken}
+use Rattle.sched.proofs.Given.{Told, told, number-some, type-number, record-exactly, register-exactly}
+
+-- ---- 7, then 8
+different : {A : Type 0} → true ≡ false → A
+different p = absurd (let z : _≡_ {A = ℕ} 0 1 = cc in omega arith)
+
+types-same : (t u : OperationType) → sameTypeOf t u ≡ true → t ≡ u
+types-same Read Read p = refl
+types-same Read Write p = different (sym p)
+types-same Write Read p = different (sym p)
+types-same Write Write p = refl
+
+same-types : (t u : OperationType) → t ≡ u → sameTypeOf t u ≡ true
+same-types t Read e = rw e
+same-types t Write e = rw e
+
+types-differ : (t u : OperationType) → (t ≡ u → ⊥) → sameTypeOf t u ≡ false
+types-differ t u d = go (sameTypeOf t u) refl
+  where
+    go : (b : Bool) → sameTypeOf t u ≡ b → sameTypeOf t u ≡ false
+    go true p = absurd (d (types-same t u p))
+    go false p = p
+
+abbrev ofList : ScheduledOperations → Verdict
+ofList ops = ofOperations (soundListOf ops)
+
+list-only : (ops : ScheduledOperations) → GivenList ops (numberIn (ofList ops)) (valuesIn (ofList ops))
+list-only list.None = list-none
+list-only (list.One a) = list-one
+list-only (list.Two a b) = ⊎-elim (λ l. rw (ap ofOperations (too-long a b l)) (given-7 l)) (λ l. go l (sameTypeOf (a .typ) (b .typ)) refl) (lt-or-le (2 ^ 64 - 1) (a .len + b .len))
+  where
+    go : a .len + b .len ≤ 2 ^ 64 - 1 → (x : Bool) → sameTypeOf (a .typ) (b .typ) ≡ x → GivenList (list.Two a b) (numberIn (ofList (list.Two a b))) (valuesIn (ofList (list.Two a b)))
+    go l true p = rw (ap ofOperations (list-taken a b l p)) (list-two l (types-same (a .typ) (b .typ) p))
+    go l false p = rw (ap ofOperations (inconsistent a b l p)) (given-8 l (λ e. different (sym (same-types (a .typ) (b .typ) e) ∙ p)))
+
+list-always : {ops : ScheduledOperations} {k : ℕ} {vs : List ℕ} → GivenList ops k vs → Told (ofList ops) k vs
+list-always list-none = (refl, refl)
+list-always list-one = (refl, refl)
+list-always (list-two {a} {b} l e) = told (ofList (list.Two a b)) accepted (ap ofOperations (list-taken a b l (same-types (a .typ) (b .typ) e)))
+list-always (given-7 {a} {b} l) = told (ofList (list.Two a b)) (refused (OperationTooLong (a .len + b .len - (2 ^ 64 - 1)))) (ap ofOperations (too-long a b l))
+list-always (given-8 {a} {b} l d) = told (ofList (list.Two a b)) (refused InconsistentOperationType) (ap ofOperations (inconsistent a b l (types-differ (a .typ) (b .typ) d)))
+
+pub list-exactly : (ops : ScheduledOperations) → Exactly (GivenList ops) (ofOperations (soundListOf ops))
+list-exactly ops = record { only = list-only ops; always = λ k vs g. list-always g }
+
+list-passed : (a b : ScheduledOperation) → GivenList (list.Two a b) 0 [] → soundListOf (list.Two a b) ≡ operations.Of (list.Two a b)
+list-passed a b (list-two l e) = list-taken a b l (same-types (a .typ) (b .typ) e)
+
+-- a list that is taken is handed back
+pub list-kept : (a b : ScheduledOperation) (ops : ScheduledOperations) → soundListOf (list.Two a b) ≡ operations.Of ops → ops ≡ list.Two a b
+list-kept a b ops p = go (list-only (list.Two a b)) (ap (λ (x : OperationsAnswer). numberIn (ofOperations x)) p)
+  where
+    go : {k : ℕ} {vs : List ℕ} → GivenList (list.Two a b) k vs → k ≡ 0 → ops ≡ list.Two a b
+    go (list-two l e) z = let q : operations.Of ops ≡ operations.Of (list.Two a b) = sym p ∙ list-taken a b l (same-types (a .typ) (b .typ) e) in cc
+    go (given-7 l) z = absurd (omega arith)
+    go (given-8 l d) z = absurd (omega arith)
+
+-- an answer that is made of the list's, and refused where that is refused
+module _ {A : Type 0} (of : A → Verdict) (from : OperationsAnswer → A) where
+  same-list : ((ops : ScheduledOperations) → of (from (operations.Of ops)) ≡ accepted) → ((e : Refusal) → of (from (operations.Refused e)) ≡ refused e) → (c : OperationsAnswer) → ofOperations c ≡ of (from c)
+  same-list f g (operations.Of ops) = sym (f ops)
+  same-list f g (operations.Refused e) = sym (g e)
+
+  pub listed :
+      ((ops : ScheduledOperations) → of (from (operations.Of ops)) ≡ accepted) → ((e : Refusal) → of (from (operations.Refused e)) ≡ refused e) →
+      (ops : ScheduledOperations) → Exactly (GivenList ops) (of (from (soundListOf ops)))
+  listed f g ops = rw (same-list f g (soundListOf ops)) at (list-exactly ops)
+
+-- ---- a list that is registered
+module _ (s : RingBufferScheduler) where
+  abbrev ofOps : ScheduledOperations → Verdict
+  ofOps ops = ofRegistered (registerListOf s ops)
+
+  record-refused : (ops : ScheduledOperations) (e : Refusal) → soundOf s ≡ checked.Refused e → ofOps ops ≡ refused e
+  record-refused ops e p = ap (λ (c : Checked). ofRegistered (registerListFrom ops c)) p
+
+  module _ (h : IsSound s) where
+    pub tests-list : (ops : ScheduledOperations) → registerListOf s ops ≡ registerSoundList s (soundListOf ops)
+    tests-list ops = ap (registerListFrom ops) (sym (sound-is s h))
+
+    list-refused : (ops : ScheduledOperations) (e : Refusal) → soundListOf ops ≡ operations.Refused e → ofOps ops ≡ refused e
+    list-refused ops e p = ap ofRegistered (tests-list ops ∙ ap (registerSoundList s) p)
+
+    pub registers-one : (a : ScheduledOperation) → registerListOf s (list.One a) ≡ registerOf s (a .typ) (a .len)
+    registers-one a = tests-list (list.One a) ∙ ap (registerFrom (a .typ) (a .len)) (sound-is s h)
+
+    module _ (a b : ScheduledOperation) (l : soundListOf (list.Two a b) ≡ operations.Of (list.Two a b)) where
+      pub registers-two : registerListOf s (list.Two a b) ≡ thenRegister (registerOf s (a .typ) (a .len)) b
+      registers-two = tests-list (list.Two a b) ∙ ap (registerSoundList s) l ∙ ap (λ (c : Checked). thenRegister (registerFrom (a .typ) (a .len) c) b) (sound-is s h)
+
+      first-refused : (e : Refusal) → registerOf s (a .typ) (a .len) ≡ registered.Refused e → ofOps (list.Two a b) ≡ refused e
+      first-refused e p = ap ofRegistered (registers-two ∙ ap (λ (x : Registered). thenRegister x b) p)
+
+      second-asked : a .len ≤ greatestIn s (a .typ) → registerListOf s (list.Two a b) ≡ registerOf (advancedIn s (a .typ) (a .len)) (b .typ) (b .len)
+      second-asked f =
+          registers-two ∙ ap (λ (x : Registered). thenRegister x b) (registers s h (a .typ) (a .len) f)
+          ∙ ap (registerFrom (b .typ) (b .len)) (sound-is (advancedIn s (a .typ) (a .len)) (advanced-sound s h (a .len) (a .typ) f))
+
+    sound-only : (ops : ScheduledOperations) → GivenOperations s ops (numberIn (ofOps ops)) (valuesIn (ofOps ops))
+    sound-only list.None = rw (ap ofRegistered (tests-list list.None)) (nothing h)
+    sound-only (list.One a) = rw (ap ofRegistered (registers-one a)) (alone h (register-exactly s (a .typ) (a .len) .only))
+    sound-only (list.Two a b) = go (soundListOf (list.Two a b)) refl (list-only (list.Two a b))
+      where
+        both : (l : soundListOf (list.Two a b) ≡ operations.Of (list.Two a b)) → GivenList (list.Two a b) 0 [] → GivenOperations s (list.Two a b) (numberIn (ofOps (list.Two a b))) (valuesIn (ofOps (list.Two a b)))
+        both l g =
+            ⊎-elim
+            (λ f. rw (first-refused a b l (OperationTooLarge (a .typ) (a .len) (greatestIn s (a .typ))) (too-large s h (a .typ) (a .len) f)) (at-first {k = 6} h g (omega arith) (given-6 h (type-number (a .typ)) f)))
+            (λ f. rw (ap ofRegistered (second-asked a b l f)) (at-second h g f (register-exactly (advancedIn s (a .typ) (a .len)) (b .typ) (b .len) .only)))
+            (lt-or-le (greatestIn s (a .typ)) (a .len))
+
+        go : (x : OperationsAnswer) → soundListOf (list.Two a b) ≡ x → GivenList (list.Two a b) (numberIn (ofList (list.Two a b))) (valuesIn (ofList (list.Two a b))) → GivenOperations s (list.Two a b) (numberIn (ofOps (list.Two a b))) (valuesIn (ofOps (list.Two a b)))
+        go (operations.Of ops) p g = both (p ∙ ap operations.Of (list-kept a b ops p)) (rw p at g)
+        go (operations.Refused e) p g = rw (list-refused (list.Two a b) e p) (the-list h (number-some e) (rw p at g))
+
+    alone-always : (a : ScheduledOperation) (k : ℕ) (vs : List ℕ) → GivenRegister s (a .typ) (a .len) k vs → Told (ofOps (list.One a)) k vs
+    alone-always a k vs g = rw (ap ofRegistered (registers-one a)) (register-exactly s (a .typ) (a .len) .always k vs g)
+
+    list-always-refused : (ops : ScheduledOperations) (k : ℕ) (vs : List ℕ) → 0 < k → GivenList ops k vs → Told (ofOps ops) k vs
+    list-always-refused ops k vs p g = go (soundListOf ops) refl (list-exactly ops .always k vs g)
+      where
+        go : (x : OperationsAnswer) → soundListOf ops ≡ x → Told (ofList ops) k vs → Told (ofOps ops) k vs
+        go (operations.Of l) q d = absurd (omega (arith, ap (λ (c : OperationsAnswer). numberIn (ofOperations c)) q, d .0))
+        go (operations.Refused e) q d = rw (list-refused ops e q) (rw q at d)
+
+    module _ (a b : ScheduledOperation) (l : soundListOf (list.Two a b) ≡ operations.Of (list.Two a b)) (k : ℕ) (vs : List ℕ) where
+      first-always : 0 < k → GivenRegister s (a .typ) (a .len) k vs → Told (ofOps (list.Two a b)) k vs
+      first-always p g = go (registerOf s (a .typ) (a .len)) refl (register-exactly s (a .typ) (a .len) .always k vs g)
+        where
+          go : (x : Registered) → registerOf s (a .typ) (a .len) ≡ x → Told (ofRegistered (registerOf s (a .typ) (a .len))) k vs → Told (ofOps (list.Two a b)) k vs
+          go (registered.Advanced u) q d = absurd (omega (arith, ap (λ (c : Registered). numberIn (ofRegistered c)) q, d .0))
+          go (registered.Refused e) q d = rw (first-refused a b l e q) (rw q at d)
+
+      second-always : a .len ≤ greatestIn s (a .typ) → GivenRegister (advancedIn s (a .typ) (a .len)) (b .typ) (b .len) k vs → Told (ofOps (list.Two a b)) k vs
+      second-always f g = rw (ap ofRegistered (second-asked a b l f)) (register-exactly (advancedIn s (a .typ) (a .len)) (b .typ) (b .len) .always k vs g)
+
+  operations-only : (ops : ScheduledOperations) → GivenOperations s ops (numberIn (ofOps ops)) (valuesIn (ofOps ops))
+  operations-only ops = go (soundOf s) refl
+    where
+      go : (c : Checked) → soundOf s ≡ c → GivenOperations s ops (numberIn (ofOps ops)) (valuesIn (ofOps ops))
+      go (checked.Sound u) p = sound-only (sound-both u s (sym p) .0) ops
+      go (checked.Refused e) p = rw (record-refused ops e p) (the-record (number-some e) (rw p at (record-exactly s .only)))
+
+  record-always : (ops : ScheduledOperations) (k : ℕ) (vs : List ℕ) → 0 < k → Given s k vs → Told (ofOps ops) k vs
+  record-always ops k vs p g = go (soundOf s) refl (record-exactly s .always k vs g)
+    where
+      go : (c : Checked) → soundOf s ≡ c → Told (ofChecked (soundOf s)) k vs → Told (ofOps ops) k vs
+      go (checked.Sound u) q d = absurd (omega (arith, ap (λ (c : Checked). numberIn (ofChecked c)) q, d .0))
+      go (checked.Refused e) q d = rw (record-refused ops e q) (rw q at d)
+
+  operations-always : {ops : ScheduledOperations} {k : ℕ} {vs : List ℕ} → GivenOperations s ops k vs → Told (ofOps ops) k vs
+  operations-always (the-record {ops} {k} {vs} p g) = record-always ops k vs p g
+  operations-always (the-list {ops} {k} {vs} h p g) = list-always-refused h ops k vs p g
+  operations-always (nothing h) = told (ofOps list.None) accepted (ap ofRegistered (tests-list h list.None))
+  operations-always (alone {a} {k} {vs} h g) = alone-always h a k vs g
+  operations-always (at-first {a} {b} {k} {vs} h l p g) = first-always h a b (list-passed a b l) k vs p g
+  operations-always (at-second {a} {b} {k} {vs} h l f g) = second-always h a b (list-passed a b l) k vs f g
+
+  pub operations-exactly : (ops : ScheduledOperations) → Exactly (GivenOperations s ops) (ofRegistered (registerListOf s ops))
+  operations-exactly ops = record { only = operations-only ops; always = λ k vs g. operations-always g }

@@ -1,0 +1,132 @@
+-- The definitions of counters, offsets, fill, layout and blocks keep what `Parts` of specs/ says; `PromisedParts` states it of
+-- the calls.
+use Prim.Native.Nat.{ℕ, _+_, _-_, _*_, _%_, _<_}
+use mathlib.Core.Path.{_≡_, refl, sym, ap}
+use mathlib.Core.Bool.{Bool, true, false, cond}
+use mathlib.Core.Logic.{_⊎_, inl, inr, ⊎-elim}
+use lib.Dec.{eqb, ltb}
+use borrow.Author.Tests.{eqb-true, eqb-false, ltb-true, ltb-false}
+use native.Mathlib.Nat.{mod-eq-of-lt}
+use native.Mathlib.Omega.{arith}
+use Rattle.modular.proofs.Laws.{once, lt-or-le}
+use Rattle.sched.specs.declared.block.BufferFillState.the-variants.{Empty, Partial, Full}
+use Rattle.sched.specs.declared.block.BufferLayout.{BufferLayout}
+use Rattle.sched.specs.declared.block.BufferLayout.the-variants.{DataFreeData, FreeDataFree}
+use Rattle.sched.specs.declared.block.BlockType.the-variants.{Free, Data}
+use Rattle.sched.specs.declared.counter.Counter.{Counter}
+use Rattle.sched.specs.declared.counter.Offset.{Offset}
+use Rattle.sched.specs.declared.operation.OperationType.{OperationType}
+use Rattle.sched.specs.declared.operation.OperationType.the-variants.{Read, Write}
+use Rattle.sched.specs.declared.scheduler.RingBufferScheduler.{RingBufferScheduler}
+use Rattle.sched.specs.Parts.{CounterOf, OffsetOf, FillOf, None, Some, LayoutOf, BlocksOf, typeFor, NextBlockOf}
+use Rattle.sched.specs.Scheduler.{IsSound, dataIn, greatestIn, counterIn, offsetIn, fillStateIn, layoutIn, blocksIn, nextBlockIn}
+use Rattle.sched.proofs.Laws.{offset-lt, counter-lt, arranged, next-off, next-len}
+
+pub counter-is : (s : RingBufferScheduler) (t : OperationType) → CounterOf s t (counterIn s t)
+counter-is s Read = refl
+counter-is s Write = refl
+
+counter-only : (s : RingBufferScheduler) (t : OperationType) (c : Counter) → CounterOf s t c → c ≡ counterIn s t
+counter-only s Read c e = e
+counter-only s Write c e = e
+
+-- n is below 2l: n, or l less
+halved : (l n : ℕ) → n < 2 * l → (n ≡ n % l) ⊎ (n ≡ n % l + l)
+halved l n h =
+    ⊎-elim
+    (λ b. inl (sym (mod-eq-of-lt b)))
+    (λ b. let e : n % l ≡ n - l = once l n (n - l) (omega arith) (omega arith) in inr (omega arith))
+    (lt-or-le n l)
+
+pub none-is : (n : ℕ) → None n (eqb n 0)
+none-is n = go (eqb n 0) refl
+  where
+    go : (b : Bool) → eqb n 0 ≡ b → None n b
+    go true e = eqb-true n 0 e
+    go false e = let k : n ≡ 0 → ⊥ = eqb-false n 0 e in omega (arith, k)
+
+pub some-is : (n : ℕ) → Some n (ltb 0 n)
+some-is n = go (ltb 0 n) refl
+  where
+    go : (b : Bool) → ltb 0 n ≡ b → Some n b
+    go true e = ltb-true 0 n e
+    go false e = omega (arith, ltb-false 0 n e)
+
+module _ (s : RingBufferScheduler) (h : IsSound s) where
+  pub offset-is : (t : OperationType) → OffsetOf s t (offsetIn s t)
+  offset-is t = record { below = offset-lt s h t; counts = λ c e. rw (counter-only s t c e) (halved (s .«buf_len») (counterIn s t .0) (counter-lt s h t)) }
+
+  pub fill-is : FillOf s (fillStateIn s)
+  unfolding fillStateIn
+  fill-is = go (eqb (dataIn s) 0) refl (eqb (dataIn s) (s .«buf_len»)) refl
+    where
+      go : (a : Bool) → eqb (dataIn s) 0 ≡ a → (b : Bool) → eqb (dataIn s) (s .«buf_len») ≡ b → FillOf s (cond a Empty (cond b Full Partial))
+      go true e b f = eqb-true _ _ e
+      go false e true f = eqb-true _ _ f
+      go false e false f =
+          let k : dataIn s ≡ 0 → ⊥ = eqb-false _ _ e in
+          let l : dataIn s ≡ s .«buf_len» → ⊥ = eqb-false _ _ f in
+          (omega (arith, k), omega (arith, l, h .fill))
+
+  pub layout-is : LayoutOf s (layoutIn s)
+  layout-is = ⊎-elim (λ a. rw (a .0) (a .1)) (λ a. rw (a .0) (a .1)) (arranged s h)
+
+  abbrev place : ℕ → Offset
+  place n = record { 0 = n }
+
+  free-data : Free ≡ Data → ⊥
+  free-data p = let z : _≡_ {A = ℕ} 0 1 = cc in omega arith
+
+  pub blocks-are : BlocksOf s (blocksIn s)
+  blocks-are =
+      ⊎-elim
+      (λ a.
+      rw (a .0)
+      (record {
+        first = refl;
+        second = refl;
+        third = omega arith;
+        whole = omega (arith, offset-lt s h Read, offset-lt s h Write);
+        cut = inl (ap place (omega (arith, a .1)), ap place (omega (arith, a .1)));
+        held = omega (arith, a .1);
+        outer = refl;
+        inner = λ p. free-data (sym p);
+        numbers = (refl, refl, refl);
+      }))
+      (λ a.
+      rw (a .0)
+      (record {
+        first = refl;
+        second = refl;
+        third = omega arith;
+        whole = omega (arith, offset-lt s h Read, offset-lt s h Write);
+        cut = inr (ap place (omega (arith, a .1, h .fill)), ap place (omega (arith, a .1, h .fill)));
+        held = omega (arith, a .1, offset-lt s h Read, offset-lt s h Write, h .fill);
+        outer = refl;
+        inner = free-data;
+        numbers = (refl, refl, refl);
+      }))
+      (arranged s h)
+
+  next-typed : (t : OperationType) → nextBlockIn s t .typ ≡ typeFor t
+  next-typed t = go t (layoutIn s) refl
+    where
+      go : (t : OperationType) (l : BufferLayout) → layoutIn s ≡ l → nextBlockIn s t .typ ≡ typeFor t
+      go Read DataFreeData e = rw e
+      go Read FreeDataFree e = rw e
+      go Write DataFreeData e = rw e
+      go Write FreeDataFree e = rw e
+
+  pub next-block-is : (t : OperationType) → NextBlockOf s t (nextBlockIn s t)
+  next-block-is t =
+      let o : nextBlockIn s t .off .0 ≡ offsetIn s t .0 = ap (λ (x : Offset). x .0) (next-off s h t) in
+      record {
+        typed = next-typed t;
+        starts = next-off s h t;
+        ends =
+            ⊎-elim
+            (λ l. inl (omega (arith, o, next-len s h t, offset-lt s h t)))
+            (λ l. inr (omega (arith, o, next-len s h t, offset-lt s h t)))
+            (lt-or-le (s .«buf_len» - offsetIn s t .0) (greatestIn s t));
+        fits = (omega (arith, o, next-len s h t, offset-lt s h t), omega (arith, next-len s h t));
+      }

@@ -1,0 +1,311 @@
+-- What each public call says, in the order of the paper: whatever its attached contract allows is this definition of its
+-- arguments. With specs/ these lines are what a reader must believe of this crate.
+use mathlib.Core.Path.{refl}
+use Rattle.modular.proofs.Saying.{Says, Decides, says-decides}
+use Rattle.sched.specs.declared.operation.OperationType.the-variants.{Read, Write}
+use Rattle.sched.specs.Block.{blockOf}
+use Rattle.sched.specs.Diff.{diffOf, isSameOf, isDifferentOf, oldValueOf, newValueOf}
+use Rattle.sched.specs.List.{soundListOf, cumulativeLengthOf, cumulativeOffsetsOf, outsideRangesOf}
+use Rattle.sched.specs.Operation.{operationOf, defaultOperation}
+use Rattle.sched.specs.Scheduler.{schedulerOf, soundOf, bufLenOf, counterAnswerOf, offsetAnswerOf, greatestOf, isZeroFrom, isPositiveFrom, fillStateOf, layoutOf, blocksOf, block0From, block1From, block2From, offFrom, lenFrom, nextBlockOf, nextOf, scheduleOf, registerOf, registerListOf}
+use Rattle.sched.proofs.scheduler.RingBufferScheduler.try_new.Kinds as try-new-kinds
+use Rattle.sched.proofs.scheduler.RingBufferScheduler.try_new.Reads as try-new
+use Rattle.sched.proofs.scheduler.RingBufferScheduler.try_from_counters.Kinds as try-from-counters-kinds
+use Rattle.sched.proofs.scheduler.RingBufferScheduler.try_from_counters.Reads as try-from-counters
+use Rattle.sched.proofs.scheduler.RingBufferScheduler.demand_soundness.Kinds as demand-soundness-kinds
+use Rattle.sched.proofs.scheduler.RingBufferScheduler.demand_soundness.Reads as demand-soundness
+use Rattle.sched.proofs.scheduler.RingBufferScheduler.buf_len.Kinds as buf-len-kinds
+use Rattle.sched.proofs.scheduler.RingBufferScheduler.buf_len.Reads as buf-len
+use Rattle.sched.proofs.scheduler.RingBufferScheduler.is_zero_sized.Kinds as is-zero-sized-kinds
+use Rattle.sched.proofs.scheduler.RingBufferScheduler.is_zero_sized.Reads as is-zero-sized
+use Rattle.sched.proofs.scheduler.RingBufferScheduler.items_read.Kinds as items-read-kinds
+use Rattle.sched.proofs.scheduler.RingBufferScheduler.items_read.Reads as items-read
+use Rattle.sched.proofs.scheduler.RingBufferScheduler.items_written.Kinds as items-written-kinds
+use Rattle.sched.proofs.scheduler.RingBufferScheduler.items_written.Reads as items-written
+use Rattle.sched.proofs.scheduler.RingBufferScheduler.operation_counter.Kinds as operation-counter-kinds
+use Rattle.sched.proofs.scheduler.RingBufferScheduler.operation_counter.Reads as operation-counter
+use Rattle.sched.proofs.scheduler.RingBufferScheduler.read_off.Kinds as read-off-kinds
+use Rattle.sched.proofs.scheduler.RingBufferScheduler.read_off.Reads as read-off
+use Rattle.sched.proofs.scheduler.RingBufferScheduler.write_off.Kinds as write-off-kinds
+use Rattle.sched.proofs.scheduler.RingBufferScheduler.write_off.Reads as write-off
+use Rattle.sched.proofs.scheduler.RingBufferScheduler.operation_offset.Kinds as operation-offset-kinds
+use Rattle.sched.proofs.scheduler.RingBufferScheduler.operation_offset.Reads as operation-offset
+use Rattle.sched.proofs.scheduler.RingBufferScheduler.data_avail.Kinds as data-avail-kinds
+use Rattle.sched.proofs.scheduler.RingBufferScheduler.data_avail.Reads as data-avail
+use Rattle.sched.proofs.scheduler.RingBufferScheduler.space_avail.Kinds as space-avail-kinds
+use Rattle.sched.proofs.scheduler.RingBufferScheduler.space_avail.Reads as space-avail
+use Rattle.sched.proofs.scheduler.RingBufferScheduler.max_operation_len.Kinds as max-operation-len-kinds
+use Rattle.sched.proofs.scheduler.RingBufferScheduler.max_operation_len.Reads as max-operation-len
+use Rattle.sched.proofs.scheduler.RingBufferScheduler.fill_state.Kinds as fill-state-kinds
+use Rattle.sched.proofs.scheduler.RingBufferScheduler.fill_state.Reads as fill-state
+use Rattle.sched.proofs.scheduler.RingBufferScheduler.is_empty.Kinds as is-empty-kinds
+use Rattle.sched.proofs.scheduler.RingBufferScheduler.is_empty.Reads as is-empty
+use Rattle.sched.proofs.scheduler.RingBufferScheduler.is_full.Kinds as is-full-kinds
+use Rattle.sched.proofs.scheduler.RingBufferScheduler.is_full.Reads as is-full
+use Rattle.sched.proofs.scheduler.RingBufferScheduler.is_nonempty.Kinds as is-nonempty-kinds
+use Rattle.sched.proofs.scheduler.RingBufferScheduler.is_nonempty.Reads as is-nonempty
+use Rattle.sched.proofs.scheduler.RingBufferScheduler.is_nonfull.Kinds as is-nonfull-kinds
+use Rattle.sched.proofs.scheduler.RingBufferScheduler.is_nonfull.Reads as is-nonfull
+use Rattle.sched.proofs.scheduler.RingBufferScheduler.layout.Kinds as layout-kinds
+use Rattle.sched.proofs.scheduler.RingBufferScheduler.layout.Reads as layout
+use Rattle.sched.proofs.scheduler.RingBufferScheduler.blocks.Kinds as blocks-kinds
+use Rattle.sched.proofs.scheduler.RingBufferScheduler.blocks.Reads as blocks
+use Rattle.sched.proofs.scheduler.RingBufferScheduler.block_0.Kinds as block-0-kinds
+use Rattle.sched.proofs.scheduler.RingBufferScheduler.block_0.Reads as block-0
+use Rattle.sched.proofs.scheduler.RingBufferScheduler.block_1.Kinds as block-1-kinds
+use Rattle.sched.proofs.scheduler.RingBufferScheduler.block_1.Reads as block-1
+use Rattle.sched.proofs.scheduler.RingBufferScheduler.block_2.Kinds as block-2-kinds
+use Rattle.sched.proofs.scheduler.RingBufferScheduler.block_2.Reads as block-2
+use Rattle.sched.proofs.scheduler.RingBufferScheduler.block_0_off.Kinds as block-0-off-kinds
+use Rattle.sched.proofs.scheduler.RingBufferScheduler.block_0_off.Reads as block-0-off
+use Rattle.sched.proofs.scheduler.RingBufferScheduler.block_1_off.Kinds as block-1-off-kinds
+use Rattle.sched.proofs.scheduler.RingBufferScheduler.block_1_off.Reads as block-1-off
+use Rattle.sched.proofs.scheduler.RingBufferScheduler.block_2_off.Kinds as block-2-off-kinds
+use Rattle.sched.proofs.scheduler.RingBufferScheduler.block_2_off.Reads as block-2-off
+use Rattle.sched.proofs.scheduler.RingBufferScheduler.block_0_len.Kinds as block-0-len-kinds
+use Rattle.sched.proofs.scheduler.RingBufferScheduler.block_0_len.Reads as block-0-len
+use Rattle.sched.proofs.scheduler.RingBufferScheduler.block_1_len.Kinds as block-1-len-kinds
+use Rattle.sched.proofs.scheduler.RingBufferScheduler.block_1_len.Reads as block-1-len
+use Rattle.sched.proofs.scheduler.RingBufferScheduler.block_2_len.Kinds as block-2-len-kinds
+use Rattle.sched.proofs.scheduler.RingBufferScheduler.block_2_len.Reads as block-2-len
+use Rattle.sched.proofs.scheduler.RingBufferScheduler.next_operation_block.Kinds as next-operation-block-kinds
+use Rattle.sched.proofs.scheduler.RingBufferScheduler.next_operation_block.Reads as next-operation-block
+use Rattle.sched.proofs.scheduler.RingBufferScheduler.next_read_block.Kinds as next-read-block-kinds
+use Rattle.sched.proofs.scheduler.RingBufferScheduler.next_read_block.Reads as next-read-block
+use Rattle.sched.proofs.scheduler.RingBufferScheduler.next_write_block.Kinds as next-write-block-kinds
+use Rattle.sched.proofs.scheduler.RingBufferScheduler.next_write_block.Reads as next-write-block
+use Rattle.sched.proofs.block.Block.new.Kinds as Block-new-kinds
+use Rattle.sched.proofs.block.Block.new.Reads as Block-new
+use Rattle.sched.proofs.scheduler.RingBufferScheduler.schedule_next_contiguous_operation.Kinds as schedule-next-contiguous-operation-kinds
+use Rattle.sched.proofs.scheduler.RingBufferScheduler.schedule_next_contiguous_operation.Reads as schedule-next-contiguous-operation
+use Rattle.sched.proofs.scheduler.RingBufferScheduler.schedule_next_read.Kinds as schedule-next-read-kinds
+use Rattle.sched.proofs.scheduler.RingBufferScheduler.schedule_next_read.Reads as schedule-next-read
+use Rattle.sched.proofs.scheduler.RingBufferScheduler.schedule_next_write.Kinds as schedule-next-write-kinds
+use Rattle.sched.proofs.scheduler.RingBufferScheduler.schedule_next_write.Reads as schedule-next-write
+use Rattle.sched.proofs.scheduler.RingBufferScheduler.schedule_contiguous_operations.Kinds as schedule-contiguous-operations-kinds
+use Rattle.sched.proofs.scheduler.RingBufferScheduler.schedule_contiguous_operations.Reads as schedule-contiguous-operations
+use Rattle.sched.proofs.scheduler.RingBufferScheduler.schedule_reads.Kinds as schedule-reads-kinds
+use Rattle.sched.proofs.scheduler.RingBufferScheduler.schedule_reads.Reads as schedule-reads
+use Rattle.sched.proofs.scheduler.RingBufferScheduler.schedule_writes.Kinds as schedule-writes-kinds
+use Rattle.sched.proofs.scheduler.RingBufferScheduler.schedule_writes.Reads as schedule-writes
+use Rattle.sched.proofs.operation.ScheduledOperation.new.Kinds as ScheduledOperation-new-kinds
+use Rattle.sched.proofs.operation.ScheduledOperation.new.Reads as ScheduledOperation-new
+use Rattle.sched.proofs.operation.ScheduledOperation.default.Kinds as default-kinds
+use Rattle.sched.proofs.operation.ScheduledOperation.default.Reads as default
+use Rattle.sched.proofs.scheduler.RingBufferScheduler.try_register_read.Kinds as try-register-read-kinds
+use Rattle.sched.proofs.scheduler.RingBufferScheduler.try_register_read.Reads as try-register-read
+use Rattle.sched.proofs.scheduler.RingBufferScheduler.try_register_write.Kinds as try-register-write-kinds
+use Rattle.sched.proofs.scheduler.RingBufferScheduler.try_register_write.Reads as try-register-write
+use Rattle.sched.proofs.scheduler.RingBufferScheduler.try_register_operation_manually.Kinds as try-register-operation-manually-kinds
+use Rattle.sched.proofs.scheduler.RingBufferScheduler.try_register_operation_manually.Reads as try-register-operation-manually
+use Rattle.sched.proofs.scheduler.RingBufferScheduler.try_register_operation.Kinds as try-register-operation-kinds
+use Rattle.sched.proofs.scheduler.RingBufferScheduler.try_register_operation.Reads as try-register-operation
+use Rattle.sched.proofs.scheduler.RingBufferScheduler.try_register_operations.Kinds as try-register-operations-kinds
+use Rattle.sched.proofs.scheduler.RingBufferScheduler.try_register_operations.Reads as try-register-operations
+use Rattle.sched.proofs.list.ScheduledOperations.try_new.Kinds as ScheduledOperations-try-new-kinds
+use Rattle.sched.proofs.list.ScheduledOperations.try_new.Reads as ScheduledOperations-try-new
+use Rattle.sched.proofs.list.ScheduledOperations.container.Kinds as container-kinds
+use Rattle.sched.proofs.list.ScheduledOperations.container.Reads as container
+use Rattle.sched.proofs.list.ScheduledOperations.into_container.Kinds as into-container-kinds
+use Rattle.sched.proofs.list.ScheduledOperations.into_container.Reads as into-container
+use Rattle.sched.proofs.list.ScheduledOperations.cumulative_operation_length.Kinds as cumulative-operation-length-kinds
+use Rattle.sched.proofs.list.ScheduledOperations.cumulative_operation_length.Reads as cumulative-operation-length
+use Rattle.sched.proofs.list.ScheduledOperations.with_cumulative_offset.Kinds as with-cumulative-offset-kinds
+use Rattle.sched.proofs.list.ScheduledOperations.with_cumulative_offset.Reads as with-cumulative-offset
+use Rattle.sched.proofs.list.ScheduledOperations.with_outside_buffer_range.Kinds as with-outside-buffer-range-kinds
+use Rattle.sched.proofs.list.ScheduledOperations.with_outside_buffer_range.Reads as with-outside-buffer-range
+use Rattle.sched.proofs.diff.Diff.new.Kinds as Diff-new-kinds
+use Rattle.sched.proofs.diff.Diff.new.Reads as Diff-new
+use Rattle.sched.proofs.diff.Diff.is_same.Kinds as is-same-kinds
+use Rattle.sched.proofs.diff.Diff.is_same.Reads as is-same
+use Rattle.sched.proofs.diff.Diff.is_different.Kinds as is-different-kinds
+use Rattle.sched.proofs.diff.Diff.is_different.Reads as is-different
+use Rattle.sched.proofs.diff.Diff.old_value.Kinds as old-value-kinds
+use Rattle.sched.proofs.diff.Diff.old_value.Reads as old-value
+use Rattle.sched.proofs.diff.Diff.new_value.Kinds as new-value-kinds
+use Rattle.sched.proofs.diff.Diff.new_value.Reads as new-value
+
+-- ---- the record and its checks
+pub try-new-says : Says 0 try-new-kinds.ps try-new-kinds.r try-new.Learnt (λ κs a. soundOf (schedulerOf (a .0) (record { 0 = 0 }) (record { 0 = 0 })))
+try-new-says κs a z ws p = p
+
+pub try-from-counters-says : Says 0 try-from-counters-kinds.ps try-from-counters-kinds.r try-from-counters.Learnt (λ κs a. soundOf (schedulerOf (a .0) (a .1 .0) (a .1 .1 .0)))
+try-from-counters-says κs a z ws p = p
+
+pub demand-soundness-says : Says 0 demand-soundness-kinds.ps demand-soundness-kinds.r demand-soundness.Learnt (λ κs a. soundOf (a .0))
+demand-soundness-says κs a z ws p = p
+
+-- ---- counters, offsets, data and space
+pub buf-len-says : Says 0 buf-len-kinds.ps buf-len-kinds.r buf-len.Learnt (λ κs a. bufLenOf (a .0))
+buf-len-says κs a z ws p = p
+
+pub is-zero-sized-says : Says 0 is-zero-sized-kinds.ps is-zero-sized-kinds.r is-zero-sized.Learnt (λ κs a. isZeroFrom (bufLenOf (a .0)))
+is-zero-sized-says κs a z ws p = p
+
+pub items-read-says : Says 0 items-read-kinds.ps items-read-kinds.r items-read.Learnt (λ κs a. counterAnswerOf (a .0) Read)
+items-read-says κs a z ws p = p
+
+pub items-written-says : Says 0 items-written-kinds.ps items-written-kinds.r items-written.Learnt (λ κs a. counterAnswerOf (a .0) Write)
+items-written-says κs a z ws p = p
+
+pub operation-counter-says : Says 0 operation-counter-kinds.ps operation-counter-kinds.r operation-counter.Learnt (λ κs a. counterAnswerOf (a .0) (a .1 .0))
+operation-counter-says κs a z ws p = p
+
+pub read-off-says : Says 0 read-off-kinds.ps read-off-kinds.r read-off.Learnt (λ κs a. offsetAnswerOf (a .0) Read)
+read-off-says κs a z ws p = p
+
+pub write-off-says : Says 0 write-off-kinds.ps write-off-kinds.r write-off.Learnt (λ κs a. offsetAnswerOf (a .0) Write)
+write-off-says κs a z ws p = p
+
+pub operation-offset-says : Says 0 operation-offset-kinds.ps operation-offset-kinds.r operation-offset.Learnt (λ κs a. offsetAnswerOf (a .0) (a .1 .0))
+operation-offset-says κs a z ws p = p
+
+pub data-avail-says : Says 0 data-avail-kinds.ps data-avail-kinds.r data-avail.Learnt (λ κs a. greatestOf (a .0) Read)
+data-avail-says κs a z ws p = p
+
+pub space-avail-says : Says 0 space-avail-kinds.ps space-avail-kinds.r space-avail.Learnt (λ κs a. greatestOf (a .0) Write)
+space-avail-says κs a z ws p = p
+
+pub max-operation-len-says : Says 0 max-operation-len-kinds.ps max-operation-len-kinds.r max-operation-len.Learnt (λ κs a. greatestOf (a .0) (a .1 .0))
+max-operation-len-says κs a z ws p = p
+
+-- ---- blocks, layout, fill state
+pub fill-state-says : Says 0 fill-state-kinds.ps fill-state-kinds.r fill-state.Learnt (λ κs a. fillStateOf (a .0))
+fill-state-says κs a z ws p = p
+
+pub is-empty-says : Says 0 is-empty-kinds.ps is-empty-kinds.r is-empty.Learnt (λ κs a. isZeroFrom (greatestOf (a .0) Read))
+is-empty-says κs a z ws p = p
+
+pub is-full-says : Says 0 is-full-kinds.ps is-full-kinds.r is-full.Learnt (λ κs a. isZeroFrom (greatestOf (a .0) Write))
+is-full-says κs a z ws p = p
+
+pub is-nonempty-says : Says 0 is-nonempty-kinds.ps is-nonempty-kinds.r is-nonempty.Learnt (λ κs a. isPositiveFrom (greatestOf (a .0) Read))
+is-nonempty-says κs a z ws p = p
+
+pub is-nonfull-says : Says 0 is-nonfull-kinds.ps is-nonfull-kinds.r is-nonfull.Learnt (λ κs a. isPositiveFrom (greatestOf (a .0) Write))
+is-nonfull-says κs a z ws p = p
+
+pub layout-says : Says 0 layout-kinds.ps layout-kinds.r layout.Learnt (λ κs a. layoutOf (a .0))
+layout-says κs a z ws p = p
+
+pub blocks-says : Says 0 blocks-kinds.ps blocks-kinds.r blocks.Learnt (λ κs a. blocksOf (a .0))
+blocks-says κs a z ws p = p
+
+pub block-0-says : Says 0 block-0-kinds.ps block-0-kinds.r block-0.Learnt (λ κs a. block0From (blocksOf (a .0)))
+block-0-says κs a z ws p = p
+
+pub block-1-says : Says 0 block-1-kinds.ps block-1-kinds.r block-1.Learnt (λ κs a. block1From (blocksOf (a .0)))
+block-1-says κs a z ws p = p
+
+pub block-2-says : Says 0 block-2-kinds.ps block-2-kinds.r block-2.Learnt (λ κs a. block2From (blocksOf (a .0)))
+block-2-says κs a z ws p = p
+
+pub block-0-off-says : Says 0 block-0-off-kinds.ps block-0-off-kinds.r block-0-off.Learnt (λ κs a. offFrom (block0From (blocksOf (a .0))))
+block-0-off-says κs a z ws p = p
+
+pub block-1-off-says : Says 0 block-1-off-kinds.ps block-1-off-kinds.r block-1-off.Learnt (λ κs a. offFrom (block1From (blocksOf (a .0))))
+block-1-off-says κs a z ws p = p
+
+pub block-2-off-says : Says 0 block-2-off-kinds.ps block-2-off-kinds.r block-2-off.Learnt (λ κs a. offFrom (block2From (blocksOf (a .0))))
+block-2-off-says κs a z ws p = p
+
+pub block-0-len-says : Says 0 block-0-len-kinds.ps block-0-len-kinds.r block-0-len.Learnt (λ κs a. lenFrom (block0From (blocksOf (a .0))))
+block-0-len-says κs a z ws p = p
+
+pub block-1-len-says : Says 0 block-1-len-kinds.ps block-1-len-kinds.r block-1-len.Learnt (λ κs a. lenFrom (block1From (blocksOf (a .0))))
+block-1-len-says κs a z ws p = p
+
+pub block-2-len-says : Says 0 block-2-len-kinds.ps block-2-len-kinds.r block-2-len.Learnt (λ κs a. lenFrom (block2From (blocksOf (a .0))))
+block-2-len-says κs a z ws p = p
+
+pub next-operation-block-says : Says 0 next-operation-block-kinds.ps next-operation-block-kinds.r next-operation-block.Learnt (λ κs a. nextBlockOf (a .0) (a .1 .0))
+next-operation-block-says κs a z ws p = p
+
+pub next-read-block-says : Says 0 next-read-block-kinds.ps next-read-block-kinds.r next-read-block.Learnt (λ κs a. nextBlockOf (a .0) Read)
+next-read-block-says κs a z ws p = p
+
+pub next-write-block-says : Says 0 next-write-block-kinds.ps next-write-block-kinds.r next-write-block.Learnt (λ κs a. nextBlockOf (a .0) Write)
+next-write-block-says κs a z ws p = p
+
+pub Block-new-says : Says 0 Block-new-kinds.ps Block-new-kinds.r Block-new.Learnt (λ κs a. blockOf (a .0) (a .1 .0) (a .1 .1 .0) (a .1 .1 .1 .0))
+Block-new-says κs a z ws p = p
+
+-- ---- scheduling
+pub schedule-next-contiguous-operation-says : Says 0 schedule-next-contiguous-operation-kinds.ps schedule-next-contiguous-operation-kinds.r schedule-next-contiguous-operation.Learnt (λ κs a. nextOf (a .0) (a .1 .0) (a .1 .1 .0))
+schedule-next-contiguous-operation-says κs a z ws p = p
+
+pub schedule-next-read-says : Says 0 schedule-next-read-kinds.ps schedule-next-read-kinds.r schedule-next-read.Learnt (λ κs a. nextOf (a .0) Read (a .1 .0))
+schedule-next-read-says κs a z ws p = p
+
+pub schedule-next-write-says : Says 0 schedule-next-write-kinds.ps schedule-next-write-kinds.r schedule-next-write.Learnt (λ κs a. nextOf (a .0) Write (a .1 .0))
+schedule-next-write-says κs a z ws p = p
+
+pub schedule-contiguous-operations-says : Says 0 schedule-contiguous-operations-kinds.ps schedule-contiguous-operations-kinds.r schedule-contiguous-operations.Learnt (λ κs a. scheduleOf (a .0) (a .1 .0) (a .1 .1 .0))
+schedule-contiguous-operations-says κs a z ws p = p
+
+pub schedule-reads-says : Says 0 schedule-reads-kinds.ps schedule-reads-kinds.r schedule-reads.Learnt (λ κs a. scheduleOf (a .0) Read (a .1 .0))
+schedule-reads-says κs a z ws p = p
+
+pub schedule-writes-says : Says 0 schedule-writes-kinds.ps schedule-writes-kinds.r schedule-writes.Learnt (λ κs a. scheduleOf (a .0) Write (a .1 .0))
+schedule-writes-says κs a z ws p = p
+
+pub ScheduledOperation-new-says : Says 0 ScheduledOperation-new-kinds.ps ScheduledOperation-new-kinds.r ScheduledOperation-new.Learnt (λ κs a. operationOf (a .0) (a .1 .0) (a .1 .1 .0))
+ScheduledOperation-new-says κs a z ws p = p
+
+pub default-says : Says 0 default-kinds.ps default-kinds.r default.Learnt (λ κs a. defaultOperation)
+default-says κs a z ws p = p
+
+-- ---- registering
+pub try-register-read-says : Says 0 try-register-read-kinds.ps try-register-read-kinds.r try-register-read.Learnt (λ κs a. registerOf (a .0) Read (a .1 .0))
+try-register-read-says κs a z ws p = p
+
+pub try-register-write-says : Says 0 try-register-write-kinds.ps try-register-write-kinds.r try-register-write.Learnt (λ κs a. registerOf (a .0) Write (a .1 .0))
+try-register-write-says κs a z ws p = p
+
+pub try-register-operation-manually-says : Says 0 try-register-operation-manually-kinds.ps try-register-operation-manually-kinds.r try-register-operation-manually.Learnt (λ κs a. registerOf (a .0) (a .1 .0) (a .1 .1 .0))
+try-register-operation-manually-says κs a z ws p = p
+
+pub try-register-operation-says : Says 0 try-register-operation-kinds.ps try-register-operation-kinds.r try-register-operation.Learnt (λ κs a. registerOf (a .0) (a .1 .0 .typ) (a .1 .0 .len))
+try-register-operation-says κs a z ws p = p
+
+pub try-register-operations-says : Says 0 try-register-operations-kinds.ps try-register-operations-kinds.r try-register-operations.Learnt (λ κs a. registerListOf (a .0) (a .1 .0))
+try-register-operations-says κs a z ws p = p
+
+-- ---- the two-place list
+pub ScheduledOperations-try-new-says : Says 0 ScheduledOperations-try-new-kinds.ps ScheduledOperations-try-new-kinds.r ScheduledOperations-try-new.Learnt (λ κs a. soundListOf (a .0))
+ScheduledOperations-try-new-says κs a z ws p = p
+
+pub container-says : Says 0 container-kinds.ps container-kinds.r container.Learnt (λ κs a. soundListOf (a .0))
+container-says κs a z ws p = p
+
+pub into-container-says : Says 0 into-container-kinds.ps into-container-kinds.r into-container.Learnt (λ κs a. soundListOf (a .0))
+into-container-says κs a z ws p = p
+
+pub cumulative-operation-length-says : Says 0 cumulative-operation-length-kinds.ps cumulative-operation-length-kinds.r cumulative-operation-length.Learnt (λ κs a. cumulativeLengthOf (a .0))
+cumulative-operation-length-says κs a z ws p = p
+
+pub with-cumulative-offset-says : Says 0 with-cumulative-offset-kinds.ps with-cumulative-offset-kinds.r with-cumulative-offset.Learnt (λ κs a. cumulativeOffsetsOf (a .0))
+with-cumulative-offset-says κs a z ws p = p
+
+pub with-outside-buffer-range-says : Says 0 with-outside-buffer-range-kinds.ps with-outside-buffer-range-kinds.r with-outside-buffer-range.Learnt (λ κs a. outsideRangesOf (a .0))
+with-outside-buffer-range-says κs a z ws p = p
+
+-- ---- `Diff`
+pub Diff-new-says : Says 0 Diff-new-kinds.ps Diff-new-kinds.r Diff-new.Learnt (λ κs a. diffOf (a .0) (a .1 .0))
+Diff-new-says κs a z ws p = p
+
+pub is-same-says : Says 0 is-same-kinds.ps is-same-kinds.r is-same.Learnt (λ κs a. isSameOf (a .0))
+is-same-says κs a z ws p = p
+
+pub is-different-says : Says 0 is-different-kinds.ps is-different-kinds.r is-different.Learnt (λ κs a. isDifferentOf (a .0))
+is-different-says κs a z ws p = p
+
+pub old-value-says : Says 0 old-value-kinds.ps old-value-kinds.r old-value.Learnt (λ κs a. oldValueOf (a .0))
+old-value-says κs a z ws p = p
+
+pub new-value-says : Says 0 new-value-kinds.ps new-value-kinds.r new-value.Learnt (λ κs a. newValueOf (a .0))
+new-value-says κs a z ws p = p
+
+-- ---- so each contract decides the outcome: any two that it allows are equal. Here for one of them
+schedule-reads-decided : Decides 0 schedule-reads-kinds.ps schedule-reads-kinds.r schedule-reads.Learnt
+schedule-reads-decided = says-decides 0 schedule-reads-kinds.ps schedule-reads-kinds.r schedule-reads.Learnt _ (λ κs a ws ws′. refl) schedule-reads-says

@@ -1,0 +1,167 @@
+-- The paper's table of the numbers that refuse, 1 to 8: when each is given, and with which values.
+use Prim.Native.Nat.{ℕ, _+_, _-_, _*_, _^_, _<_, _≤_}
+use mathlib.Core.Path.{_≡_}
+use mathlib.Core.List.{List, [], _∷_}
+use Rattle.sched.specs.declared.block.BlockAnswer.{BlockAnswer}
+use Rattle.sched.specs.declared.block.BlockAnswer.the-variants as block
+use Rattle.sched.specs.declared.block.BlocksAnswer.{BlocksAnswer}
+use Rattle.sched.specs.declared.block.BlocksAnswer.the-variants as blocks
+use Rattle.sched.specs.declared.block.FillStateAnswer.{FillStateAnswer}
+use Rattle.sched.specs.declared.block.FillStateAnswer.the-variants as fill
+use Rattle.sched.specs.declared.block.LayoutAnswer.{LayoutAnswer}
+use Rattle.sched.specs.declared.block.LayoutAnswer.the-variants as layout
+use Rattle.sched.specs.declared.counter.AmountAnswer.{AmountAnswer}
+use Rattle.sched.specs.declared.counter.AmountAnswer.the-variants as amount
+use Rattle.sched.specs.declared.counter.BoolAnswer.{BoolAnswer}
+use Rattle.sched.specs.declared.counter.BoolAnswer.the-variants as bool
+use Rattle.sched.specs.declared.counter.CounterAnswer.{CounterAnswer}
+use Rattle.sched.specs.declared.counter.CounterAnswer.the-variants as counter
+use Rattle.sched.specs.declared.counter.OffsetAnswer.{OffsetAnswer}
+use Rattle.sched.specs.declared.counter.OffsetAnswer.the-variants as offset
+use Rattle.sched.specs.declared.list.CumulativeOffsetsAnswer.{CumulativeOffsetsAnswer}
+use Rattle.sched.specs.declared.list.CumulativeOffsetsAnswer.the-variants as cumulatives
+use Rattle.sched.specs.declared.list.OperationsAnswer.{OperationsAnswer}
+use Rattle.sched.specs.declared.list.OperationsAnswer.the-variants as operations
+use Rattle.sched.specs.declared.list.OutsideRangesAnswer.{OutsideRangesAnswer}
+use Rattle.sched.specs.declared.list.OutsideRangesAnswer.the-variants as outsides
+use Rattle.sched.specs.declared.list.ScheduledOperations.{ScheduledOperations}
+use Rattle.sched.specs.declared.list.ScheduledOperations.the-variants as list
+use Rattle.sched.specs.declared.operation.NextOperationAnswer.{NextOperationAnswer}
+use Rattle.sched.specs.declared.operation.NextOperationAnswer.the-variants as nexts
+use Rattle.sched.specs.declared.operation.OperationType.{OperationType}
+use Rattle.sched.specs.declared.operation.OperationType.the-variants.{Read, Write}
+use Rattle.sched.specs.declared.operation.ScheduledOperation.{ScheduledOperation}
+use Rattle.sched.specs.declared.refusal.Refusal.{Refusal}
+use Rattle.sched.specs.declared.scheduler.Checked.{Checked}
+use Rattle.sched.specs.declared.scheduler.Checked.the-variants as checked
+use Rattle.sched.specs.declared.scheduler.Registered.{Registered}
+use Rattle.sched.specs.declared.scheduler.Registered.the-variants as registered
+use Rattle.sched.specs.declared.scheduler.RingBufferScheduler.{RingBufferScheduler}
+use Rattle.sched.specs.Refusal.{numberOf, valuesOf}
+use Rattle.sched.specs.Scheduler.{Sized, IsSound, dataIn, greatestIn, advancedIn}
+
+-- ---- what a caller is told
+pub data Verdict : Type 0 where
+  accepted : Verdict
+  refused : Refusal → Verdict
+
+-- 0 where nothing is refused
+abbrev pub numberIn : Verdict → ℕ
+numberIn accepted = 0
+numberIn (refused e) = numberOf e
+
+abbrev pub valuesIn : Verdict → List ℕ
+valuesIn accepted = []
+valuesIn (refused e) = valuesOf e
+
+-- `G` says when a number is given, with which values: it is given only then, and always then
+pub record Exactly (G : ℕ → List ℕ → Type 0) (v : Verdict) : Type 0 where
+  pub only : G (numberIn v) (valuesIn v)
+  pub always : (k : ℕ) (vs : List ℕ) → G k vs → (numberIn v ≡ k) × (valuesIn v ≡ vs)
+
+-- a type's number among the values
+pub data TypeNumber : OperationType → ℕ → Type 0 where
+  a-read : TypeNumber Read 0
+  a-write : TypeNumber Write 1
+
+-- ---- 1 to 5: a record, tested in this order; 0 where it is taken
+module _ (s : RingBufferScheduler) where
+  abbrev L : ℕ
+  L = s .«buf_len»
+
+  abbrev w : ℕ
+  w = s .«items_written» .0
+
+  abbrev r : ℕ
+  r = s .«items_read» .0
+
+  pub data Given : ℕ → List ℕ → Type 0 where
+    taken : IsSound s → Given 0 []
+    given-1 : L ≡ 0 → Given 1 []
+    given-2 : 2 ^ 63 < L → Given 2 (L ∷ [])
+    given-3 : Sized L → 2 * L ≤ w → Given 3 (L ∷ w ∷ [])
+    given-4 : Sized L → w < 2 * L → 2 * L ≤ r → Given 4 (L ∷ r ∷ [])
+    given-5 : Sized L → w < 2 * L → r < 2 * L → L < dataIn s → Given 5 (L ∷ w ∷ r ∷ [])
+
+  -- ---- 6: a registered length above the greatest, of a record that is taken
+  module _ (t : OperationType) (n : ℕ) where
+    pub data GivenRegister : ℕ → List ℕ → Type 0 where
+      before-6 : {k : ℕ} {vs : List ℕ} → 0 < k → Given k vs → GivenRegister k vs
+      given-6 : {no : ℕ} → IsSound s → TypeNumber t no → greatestIn s t < n → GivenRegister 6 (no ∷ n ∷ greatestIn s t ∷ [])
+      fits : IsSound s → n ≤ greatestIn s t → GivenRegister 0 []
+
+-- ---- 7, then 8: a list of two. None and one are never refused
+pub data GivenList : ScheduledOperations → ℕ → List ℕ → Type 0 where
+  list-none : GivenList list.None 0 []
+  list-one : {a : ScheduledOperation} → GivenList (list.One a) 0 []
+  list-two : {a b : ScheduledOperation} → a .len + b .len ≤ 2 ^ 64 - 1 → a .typ ≡ b .typ → GivenList (list.Two a b) 0 []
+  given-7 : {a b : ScheduledOperation} → 2 ^ 64 - 1 < a .len + b .len → GivenList (list.Two a b) 7 ((a .len + b .len - (2 ^ 64 - 1)) ∷ [])
+  given-8 : {a b : ScheduledOperation} → a .len + b .len ≤ 2 ^ 64 - 1 → (a .typ ≡ b .typ → ⊥) → GivenList (list.Two a b) 8 []
+
+-- ---- a list that is registered: the record's numbers, then the list's, then 6 operation by operation, where the second is
+-- held to what is left after the first
+module _ (s : RingBufferScheduler) where
+  pub data GivenOperations : ScheduledOperations → ℕ → List ℕ → Type 0 where
+    the-record : {ops : ScheduledOperations} {k : ℕ} {vs : List ℕ} → 0 < k → Given s k vs → GivenOperations ops k vs
+    the-list : {ops : ScheduledOperations} {k : ℕ} {vs : List ℕ} → IsSound s → 0 < k → GivenList ops k vs → GivenOperations ops k vs
+    nothing : IsSound s → GivenOperations list.None 0 []
+    alone : {a : ScheduledOperation} {k : ℕ} {vs : List ℕ} → IsSound s → GivenRegister s (a .typ) (a .len) k vs → GivenOperations (list.One a) k vs
+    at-first : {a b : ScheduledOperation} {k : ℕ} {vs : List ℕ} → IsSound s → GivenList (list.Two a b) 0 [] → 0 < k → GivenRegister s (a .typ) (a .len) k vs → GivenOperations (list.Two a b) k vs
+    at-second : {a b : ScheduledOperation} {k : ℕ} {vs : List ℕ} → IsSound s → GivenList (list.Two a b) 0 [] → a .len ≤ greatestIn s (a .typ) → GivenRegister (advancedIn s (a .typ) (a .len)) (b .typ) (b .len) k vs → GivenOperations (list.Two a b) k vs
+
+-- ---- the verdict in each kind of answer
+abbrev pub ofChecked : Checked → Verdict
+ofChecked (checked.Sound s) = accepted
+ofChecked (checked.Refused e) = refused e
+
+abbrev pub ofRegistered : Registered → Verdict
+ofRegistered (registered.Advanced s) = accepted
+ofRegistered (registered.Refused e) = refused e
+
+abbrev pub ofAmount : AmountAnswer → Verdict
+ofAmount (amount.Of n) = accepted
+ofAmount (amount.Refused e) = refused e
+
+abbrev pub ofBool : BoolAnswer → Verdict
+ofBool (bool.Of b) = accepted
+ofBool (bool.Refused e) = refused e
+
+abbrev pub ofCounter : CounterAnswer → Verdict
+ofCounter (counter.Of c) = accepted
+ofCounter (counter.Refused e) = refused e
+
+abbrev pub ofOffset : OffsetAnswer → Verdict
+ofOffset (offset.Of a) = accepted
+ofOffset (offset.Refused e) = refused e
+
+abbrev pub ofFillState : FillStateAnswer → Verdict
+ofFillState (fill.Of f) = accepted
+ofFillState (fill.Refused e) = refused e
+
+abbrev pub ofLayout : LayoutAnswer → Verdict
+ofLayout (layout.Of l) = accepted
+ofLayout (layout.Refused e) = refused e
+
+abbrev pub ofBlock : BlockAnswer → Verdict
+ofBlock (block.Of b) = accepted
+ofBlock (block.Refused e) = refused e
+
+abbrev pub ofBlocks : BlocksAnswer → Verdict
+ofBlocks (blocks.Of b) = accepted
+ofBlocks (blocks.Refused e) = refused e
+
+abbrev pub ofNext : NextOperationAnswer → Verdict
+ofNext (nexts.Of o) = accepted
+ofNext (nexts.Refused e) = refused e
+
+abbrev pub ofOperations : OperationsAnswer → Verdict
+ofOperations (operations.Of ops) = accepted
+ofOperations (operations.Refused e) = refused e
+
+abbrev pub ofCumulativeOffsets : CumulativeOffsetsAnswer → Verdict
+ofCumulativeOffsets (cumulatives.Of c) = accepted
+ofCumulativeOffsets (cumulatives.Refused e) = refused e
+
+abbrev pub ofOutsideRanges : OutsideRangesAnswer → Verdict
+ofOutsideRanges (outsides.Of o) = accepted
+ofOutsideRanges (outsides.Refused e) = refused e

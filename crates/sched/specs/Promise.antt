@@ -1,0 +1,135 @@
+-- What document 01 promises of scheduling, as it is told there.
+use Prim.Native.Nat.{ℕ, zero, suc, _+_, _-_, _*_, _%_, _<_, _≤_, min}
+use mathlib.Core.Path.{_≡_}
+use mathlib.Core.List.{List, [], _∷_, _++_}
+use mathlib.Core.Logic.{_⊎_}
+use Rattle.sched.specs.declared.list.OperationsAnswer.{OperationsAnswer}
+use Rattle.sched.specs.declared.list.OperationsAnswer.the-variants as operations
+use Rattle.sched.specs.declared.list.ScheduledOperations.{ScheduledOperations}
+use Rattle.sched.specs.declared.list.ScheduledOperations.the-variants as list
+use Rattle.sched.specs.declared.operation.NextOperation.{NextOperation}
+use Rattle.sched.specs.declared.operation.NextOperation.the-variants as next
+use Rattle.sched.specs.declared.operation.NextOperationAnswer.{NextOperationAnswer}
+use Rattle.sched.specs.declared.operation.NextOperationAnswer.the-variants as nexts
+use Rattle.sched.specs.declared.operation.OperationType.{OperationType}
+use Rattle.sched.specs.declared.operation.OperationType.the-variants.{Read, Write}
+use Rattle.sched.specs.declared.operation.ScheduledOperation.{ScheduledOperation}
+use Rattle.sched.specs.declared.scheduler.Registered.{Registered}
+use Rattle.sched.specs.declared.scheduler.Registered.the-variants as registered
+use Rattle.sched.specs.declared.scheduler.RingBufferScheduler.{RingBufferScheduler}
+use Rattle.sched.specs.List.{totalIn}
+use Rattle.sched.specs.Scheduler.{Sized, IsSound, dataIn, offsetIn, greatestIn, nextBlockIn, nextIn, advancedIn, registerListOf}
+
+-- what holds of each operation of a list
+abbrev pub Each : (ScheduledOperation → Type 0) → ScheduledOperations → Type 0
+Each P list.None = Unit {0}
+Each P (list.One a) = P a
+Each P (list.Two a b) = P a × P b
+
+abbrev pub Disjoint : ScheduledOperations → Type 0
+Disjoint list.None = Unit {0}
+Disjoint (list.One a) = Unit {0}
+Disjoint (list.Two a b) = (a .off .0 + a .len ≤ b .off .0) ⊎ (b .off .0 + b .len ≤ a .off .0)
+
+abbrev pub firstLen : ScheduledOperations → ℕ
+firstLen list.None = 0
+firstLen (list.One a) = a .len
+firstLen (list.Two a b) = a .len
+
+-- the places a, a + 1 and on, n of them; and the same round a buffer of l
+unfoldable pub upFrom : ℕ → ℕ → List ℕ
+upFrom a zero = []
+upFrom a (suc n) = a ∷ upFrom (suc a) n
+
+unfoldable pub roundFrom : ℕ → ℕ → ℕ → List ℕ
+roundFrom l a zero = []
+roundFrom l a (suc n) = a % l ∷ roundFrom l (suc a) n
+
+-- the places that the operations of a list take, in order
+abbrev pub placesOf : ScheduledOperations → List ℕ
+placesOf list.None = []
+placesOf (list.One a) = upFrom (a .off .0) (a .len)
+placesOf (list.Two a b) = upFrom (a .off .0) (a .len) ++ upFrom (b .off .0) (b .len)
+
+-- At most two operations (the list has no more places), none empty, inside the buffer, disjoint; together they cover
+-- min(m, data) or min(m, space), consecutive round the buffer from the offset; the first runs to the end of its block or
+-- to m; and registering them is not refused and advances by just that sum.
+pub record Promise (s : RingBufferScheduler) (t : OperationType) (m : ℕ) (ops : ScheduledOperations) : Type 0 where
+  pub typed : Each (λ a. a .typ ≡ t) ops
+  pub nonempty : Each (λ a. 0 < a .len) ops
+  pub inside : Each (λ a. a .off .0 + a .len ≤ s .«buf_len») ops
+  pub disjoint : Disjoint ops
+  pub total : totalIn ops ≡ min m (greatestIn s t)
+  pub places : placesOf ops ≡ roundFrom (s .«buf_len») (offsetIn s t .0) (min m (greatestIn s t))
+  pub first : firstLen ops ≡ min m (nextBlockIn s t .len)
+  pub registers : registerListOf s ops ≡ registered.Advanced (advancedIn s t (min m (greatestIn s t)))
+
+-- the next operation alone: none where nothing is to be moved; else it starts at the offset and runs to m, to the end of what
+-- there is, or to the buffer's
+pub record NextPromise (s : RingBufferScheduler) (t : OperationType) (m : ℕ) (f : ScheduledOperation) : Type 0 where
+  pub typed : f .typ ≡ t
+  pub nonempty : 0 < f .len
+  pub starts : f .off ≡ offsetIn s t
+  pub runs : f .len ≡ min m (min (greatestIn s t) (s .«buf_len» - f .off .0))
+
+abbrev pub Next : RingBufferScheduler → OperationType → ℕ → NextOperation → Type 0
+Next s t m next.None = min m (greatestIn s t) ≡ 0
+Next s t m (next.Some f) = NextPromise s t m f
+
+-- so of an answer: a sound scheduler is scheduled
+abbrev pub Schedules : RingBufferScheduler → OperationType → ℕ → OperationsAnswer → Type 0
+Schedules s t m z = IsSound s → (ops : ScheduledOperations) × (z ≡ operations.Of ops) × Promise s t m ops
+
+abbrev pub Asks : RingBufferScheduler → OperationType → ℕ → NextOperationAnswer → Type 0
+Asks s t m z = IsSound s → (o : NextOperation) × (z ≡ nexts.Of o) × Next s t m o
+
+-- asking block after block, as the Rust does: the second of the scheduler after the first, with what the first left over
+abbrev pub joined : ScheduledOperation → NextOperation → ScheduledOperations
+joined f next.None = list.One f
+joined f (next.Some g) = list.Two f g
+
+abbrev pub byBlocks : RingBufferScheduler → OperationType → ℕ → NextOperation → ScheduledOperations
+byBlocks s t m next.None = list.None
+byBlocks s t m (next.Some f) = joined f (nextIn (advancedIn s t (f .len)) t (m - f .len))
+
+-- ---- the record, in words that do not subtract
+-- d items lie between the counters, round 2L
+pub record Between (s : RingBufferScheduler) (d : ℕ) : Type 0 where
+  pub at-most : d ≤ s .«buf_len»
+  pub ahead : (s .«items_read» .0 + d) % (2 * s .«buf_len») ≡ s .«items_written» .0
+
+-- what is taken: a length, and counters with some data between them
+pub record Taken (s : RingBufferScheduler) : Type 0 where
+  pub sized : Sized (s .«buf_len»)
+  pub read : s .«items_read» .0 < 2 * s .«buf_len»
+  pub held : (d : ℕ) × Between s d
+
+-- n items registered: the counter of the type runs on by n round 2L, the other counter and the length stay, and the data is n
+-- less after a read, n more after a write
+pub record ReadBy (s : RingBufferScheduler) (n : ℕ) (u : RingBufferScheduler) : Type 0 where
+  pub sound : IsSound u
+  pub length : u .«buf_len» ≡ s .«buf_len»
+  pub written : u .«items_written» ≡ s .«items_written»
+  pub read : u .«items_read» .0 ≡ (s .«items_read» .0 + n) % (2 * s .«buf_len»)
+  pub fill : dataIn u + n ≡ dataIn s
+
+pub record WrittenBy (s : RingBufferScheduler) (n : ℕ) (u : RingBufferScheduler) : Type 0 where
+  pub sound : IsSound u
+  pub length : u .«buf_len» ≡ s .«buf_len»
+  pub read : u .«items_read» ≡ s .«items_read»
+  pub written : u .«items_written» .0 ≡ (s .«items_written» .0 + n) % (2 * s .«buf_len»)
+  pub fill : dataIn u ≡ dataIn s + n
+
+abbrev pub MovedBy : RingBufferScheduler → OperationType → ℕ → RingBufferScheduler → Type 0
+MovedBy s Read n u = ReadBy s n u
+MovedBy s Write n u = WrittenBy s n u
+
+-- so of an answer: an advanced scheduler comes of a sound one
+abbrev pub Moves : RingBufferScheduler → OperationType → ℕ → Registered → Type 0
+Moves s t n z = (u : RingBufferScheduler) → z ≡ registered.Advanced u → IsSound s × MovedBy s t n u
+
+-- a list registered: operation by operation
+pub data MovedByList (s : RingBufferScheduler) : ScheduledOperations → RingBufferScheduler → Type 0 where
+  by-none : MovedByList s list.None s
+  by-one : {a : ScheduledOperation} {u : RingBufferScheduler} → MovedBy s (a .typ) (a .len) u → MovedByList s (list.One a) u
+  by-two : {a b : ScheduledOperation} {u : RingBufferScheduler} (v : RingBufferScheduler) → MovedBy s (a .typ) (a .len) v → MovedBy v (b .typ) (b .len) u → MovedByList s (list.Two a b) u

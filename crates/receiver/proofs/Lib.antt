@@ -16,4 +16,4 @@ pub mod Keeps
 pub mod HandedSum
 pub mod Rows
 pub mod MachineRows
-pub mod Decided
+pub mod Says

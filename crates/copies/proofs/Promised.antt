@@ -133,6 +133,9 @@ module _ (s : RingBufferScheduler) (n : ℕ) where
       so {k} {vs} (by-scheduler p g) = given-refusal s e q k vs g
       so (given-9 g f) = absurd (sound-not-refused s e q g)
 
+pub ready-given : (s : RingBufferScheduler) (n : ℕ) → Exactly (GivenCopy s n) (ofReady (readyOf s n))
+ready-given s n = given s n (readyOf s n) (tested s n)
+
 -- a copy is refused just where the tests are
 same-write : (ring src : List ℕ) (z : Ready) → ofReady z ≡ ofCopied (writeFrom ring src z .answer)
 same-write ring src (ready.Sound u) = refl

@@ -16,4 +16,5 @@ pub mod Keeps
 pub mod HandedSum
 pub mod Rows
 pub mod MachineRows
+pub mod AnswerSays
 pub mod Says

@@ -6,3 +6,5 @@ pub mod Receiver
 pub mod Call
 pub mod Pending
 pub mod Handed
+pub mod Promise
+pub mod Given

@@ -1,0 +1,125 @@
+-- What the receiver promises, told again by cases and in other words than those of its rules, so that a rule that is changed in its place
+-- is seen.
+use Prim.Native.Nat.{ℕ, _+_, _*_, _%_, _^_, _<_, _≤_}
+use mathlib.Core.Path.{_≡_}
+use mathlib.Core.Logic.{_≢_}
+use mathlib.Core.List.{List, []}
+use lib.ListN.{getD}
+use Rattle.receiver.specs.declared.answer.Answer.{Answer}
+use Rattle.receiver.specs.declared.answer.Received.{Received}
+use Rattle.receiver.specs.declared.answer.Received.the-variants as received
+use Rattle.receiver.specs.declared.answer.Sent.{Sent}
+use Rattle.receiver.specs.declared.answer.Sent.the-variants as sent
+use Rattle.receiver.specs.declared.answer.Shut.{Shut}
+use Rattle.receiver.specs.declared.answer.Shut.the-variants as shut
+use Rattle.receiver.specs.declared.call.Call.{Call}
+use Rattle.receiver.specs.declared.call.Phase.{Phase}
+use Rattle.receiver.specs.declared.call.Phase.the-variants as phase
+use Rattle.receiver.specs.declared.call.Step.{Step}
+use Rattle.receiver.specs.declared.call.Step.the-variants as step
+use Rattle.receiver.specs.declared.state.Failure.{Failure}
+use Rattle.receiver.specs.declared.state.Failure.the-variants.{Io, Protocol}
+use Rattle.receiver.specs.declared.state.OperationalState.{OperationalState}
+use Rattle.receiver.specs.declared.state.OperationalState.the-variants.{Normal, Draining, Terminated}
+
+-- ---- errnos
+abbrev pub Errno : ℕ → Type 0
+Errno e = (1 ≤ e) × (e ≤ 4095)
+
+abbrev pub FailureFits : Failure → Type 0
+FailureFits (Io e) = Errno e
+FailureFits (Protocol v) = Unit {0}
+
+-- what is stored fits
+abbrev pub Stored : OperationalState → Type 0
+Stored Normal = Unit {0}
+Stored (Draining f) = FailureFits f
+Stored (Terminated f) = FailureFits f
+
+-- ---- the reason rule: of a cached failure and a new one, the reason that stays
+pub data Reason : Failure → Failure → Failure → Type 0 where
+  end-and-end : Reason (Io 32) (Io 32) (Io 32)
+  end-gives-way : {e : Failure} → e ≢ Io 32 → Reason (Io 32) e e
+  error-and-end : {c : Failure} → c ≢ Io 32 → Reason c (Io 32) c
+  error-stays : {c e : Failure} → c ≢ Io 32 → e ≢ Io 32 → Reason c e c
+
+-- ---- advancing a state: one whose failure is 11 counts as Normal
+pub data Calm : OperationalState → Type 0 where
+  normal : Calm Normal
+  blocked-draining : Calm (Draining (Io 11))
+  blocked-terminated : Calm (Terminated (Io 11))
+
+pub data Advanced : OperationalState → OperationalState → OperationalState → Type 0 where
+  calm-by-calm : {s to : OperationalState} → Calm s → Calm to → Advanced s to Normal
+  calm-by-draining : {s : OperationalState} {e : Failure} → Calm s → e ≢ Io 11 → Advanced s (Draining e) (Draining e)
+  calm-by-terminated : {s : OperationalState} {e : Failure} → Calm s → e ≢ Io 11 → Advanced s (Terminated e) (Terminated e)
+  terminated-stays : {c : Failure} {to : OperationalState} → c ≢ Io 11 → Advanced (Terminated c) to (Terminated c)
+  draining-stays : {c : Failure} {to : OperationalState} → c ≢ Io 11 → Calm to → Advanced (Draining c) to (Draining c)
+  draining-by-draining : {c e f : Failure} → c ≢ Io 11 → e ≢ Io 11 → Reason c e f → Advanced (Draining c) (Draining e) (Draining f)
+  draining-by-terminated : {c e f : Failure} → c ≢ Io 11 → e ≢ Io 11 → Reason c e f → Advanced (Draining c) (Terminated e) (Terminated f)
+
+-- ---- an answer at its place
+module _ (a : Answer) where
+  abbrev AnErrno : Type 0
+  AnErrno = (a .kind ≡ 2) × Errno (a .value)
+
+  -- a receive that takes at most `top` descriptors
+  abbrev pub AByte : ℕ → Type 0
+  AByte top = (a .kind ≡ 0) × (a .value < 256) × (a .descriptors ≤ top)
+
+  pub data SaysReceived (top : ℕ) : Received → Type 0 where
+    a-byte : AByte top → SaysReceived top (received.Byte (a .value) (a .descriptors))
+    closed : a .kind ≡ 1 → SaysReceived top (received.Failed 32)
+    receive-failed : AnErrno → SaysReceived top (received.Failed (a .value))
+    no-receive : (AByte top → ⊥) → a .kind ≢ 1 → (AnErrno → ⊥) → SaysReceived top received.Misfit
+
+  -- a send of so many
+  pub data SaysSent (batch : ℕ) : Sent → Type 0 where
+    so-many : a .kind ≡ 3 → a .value ≤ batch → SaysSent batch (sent.Sent (a .value))
+    send-failed : AnErrno → SaysSent batch (sent.Failed (a .value))
+    no-send : ((a .kind ≡ 3) × (a .value ≤ batch) → ⊥) → (AnErrno → ⊥) → SaysSent batch sent.Misfit
+
+  pub data SaysShut : Shut → Type 0 where
+    done : a .kind ≡ 4 → SaysShut shut.Done
+    shutdown-failed : AnErrno → SaysShut (shut.Failed (a .value))
+    no-shutdown : a .kind ≢ 4 → (AnErrno → ⊥) → SaysShut shut.Misfit
+
+-- ---- acknowledgements: a batch is all that is pending, or 128 of it, and never empty
+pub data Batch (pending : ℕ) : ℕ → Type 0 where
+  all : 1 ≤ pending → pending ≤ 128 → Batch pending pending
+  most : 128 ≤ pending → Batch pending 128
+
+abbrev pub BatchedIn : Phase → ℕ → Type 0
+BatchedIn (phase.Send n e) pending = Batch pending n
+BatchedIn (phase.Receive top asked) pending = Unit {0}
+BatchedIn (phase.Shutdown e) pending = Unit {0}
+BatchedIn (phase.Finished o) pending = Unit {0}
+
+-- a call that the machine answers waits to send such a batch, if it waits to send
+abbrev pub Batched : Step → Type 0
+Batched (step.Of c) = BatchedIn (c .phase) (c .receiver .«pending_ack_count»)
+Batched (step.Refused r) = Unit {0}
+
+-- ---- an announcement: what the header's number says in a ring of L bytes that holds no data
+-- the cell k of a ring of length L
+abbrev pub cell : ℕ → List ℕ → ℕ → ℕ
+cell L ring k = getD ring (k % L) 0
+
+-- the number in the eight cells from k on, most significant first
+abbrev pub headerAt : ℕ → List ℕ → ℕ → ℕ
+headerAt L ring k =
+    cell L ring k * 2 ^ 56 + cell L ring (k + 1) * 2 ^ 48 + cell L ring (k + 2) * 2 ^ 40 + cell L ring (k + 3) * 2 ^ 32
+    + cell L ring (k + 4) * 2 ^ 24 + cell L ring (k + 5) * 2 ^ 16 + cell L ring (k + 6) * 2 ^ 8 + cell L ring (k + 7)
+
+-- a body of so many bytes, or a violation by its number
+pub data Said : Type 0 where
+  body : ℕ → Said
+  violates : ℕ → Said
+
+-- the top two bits must be 0, the last 48 are the length: it and the header's 8 bytes fit into L
+pub data Announces (L h : ℕ) : Said → Type 0 where
+  no-room-for-a-header : L < 8 → Announces L h (violates 2)
+  format-unknown : 8 ≤ L → 2 ^ 62 ≤ h → Announces L h (violates 3)
+  length-0 : 8 ≤ L → h < 2 ^ 62 → h % 2 ^ 48 ≡ 0 → Announces L h (violates 4)
+  too-long : 8 ≤ L → h < 2 ^ 62 → 1 ≤ h % 2 ^ 48 → L < h % 2 ^ 48 + 8 → Announces L h (violates 2)
+  accepted : h < 2 ^ 62 → 1 ≤ h % 2 ^ 48 → h % 2 ^ 48 + 8 ≤ L → Announces L h (body (h % 2 ^ 48))

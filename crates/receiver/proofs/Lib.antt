@@ -18,3 +18,4 @@ pub mod Rows
 pub mod MachineRows
 pub mod AnswerSays
 pub mod Says
+pub mod Given

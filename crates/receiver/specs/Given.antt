@@ -42,9 +42,10 @@ module _ (q : ReceiverState) (m : Memory) where
     given-12-stored : GivenRing (q .scheduler) m 0 [] → (Stored (q .state) → ⊥) → GivenAdmission 12 (0 ∷ [])
 
 -- ---- a read gets to the test of 13 where the stream is not terminated and some bytes are asked for
-pub data Live : OperationalState → Type 0 where
-  in-normal : Live Normal
-  in-draining : {f : _} → Live (Draining f)
+abbrev pub Live : OperationalState → Type 0
+Live Normal = Unit {0}
+Live (Draining f) = Unit {0}
+Live (Terminated f) = ⊥
 
 abbrev pub Full : ReceiverState → ℕ → Type 0
 Full q asked = Live (q .state) × (asked ≢ 0) × (q .«pending_ack_count» ≡ 2 ^ 64 - 1)

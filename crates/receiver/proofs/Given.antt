@@ -2,13 +2,12 @@
 -- an attached contract allows.
 use Prim.Native.Nat.{ℕ, _-_, _^_, _<_}
 use mathlib.Core.Path.{_≡_, refl, sym, ap, subst, _∙_}
-use mathlib.Core.Bool.{Bool, cond, true, false}
+use mathlib.Core.Bool.{Bool, true, false}
 use mathlib.Core.Logic.{_⊎_, inl, inr}
 use mathlib.Core.List.{List, [], _∷_}
 use native.Mathlib.Omega.{arith}
 use lib.Dec.{eqb}
-use lib.ListN.{length}
-use borrow.Author.Tests.{eqb-true, eqb-false, eq-eqb, ne-eqb}
+use borrow.Author.Tests.{eqb-true, eqb-false}
 use Rattle.modular.proofs.Saying.{Keeps}
 use Rattle.sched.specs.declared.scheduler.Checked.{Checked}
 use Rattle.sched.specs.declared.scheduler.Checked.the-variants as checked
@@ -20,30 +19,18 @@ use Rattle.copies.specs.declared.Ready.the-variants as ready
 use Rattle.copies.specs.declared.Refusal.the-variants.{Scheduler, RingMemory}
 use Rattle.copies.specs.Given.{Verdict, verdict, Exactly, ofChecked, ofReady}
 use Rattle.copies.proofs.Promised.{checks, checked-given, ready-given}
-use Rattle.receiver.proofs.AnswerSays.{state-fits, received-says, received-only, sent-says, sent-only, shut-says, shut-only, interrupted-says}
-use Rattle.receiver.proofs.Says.{begin-read-says, begin-service-says, begin-shutdown-says, answered-says}
+use Rattle.receiver.proofs.AnswerSays.{state-fits}
+use Rattle.receiver.proofs.Says.{begin-read-says, begin-service-says, begin-shutdown-says}
 use Rattle.receiver.specs.Admission.{soundReady, readyWith, admissionFrom, admissionOf}
-use Rattle.receiver.specs.Answer.{interruptedOf, receivedOf, sentOf, shutOf}
-use Rattle.receiver.specs.Call.{call, serviceCall, advanceCall, shutdownCall, sentCall, unsentCall, handOutCall, afterShut, afterReceive, liveCall, readBy, readCall, admittedStep, beginReadOf, beginServiceOf, beginShutdownOf, looksAt, resumedBy, resumedOf, steppedBy, steppedOf, answeredFrom, answeredOf}
-use Rattle.receiver.specs.Given.{GivenRing, GivenAdmission, admits, by-ring, given-12-stored, Live, Full, GivenRead, begins, by-admission, given-13, Misfits, GivenAnswer, takes, at-the-tests, still-full, given-12, ofAdmission, ofStep}
-use Rattle.receiver.specs.Promise.{Errno, Stored, SaysReceived, a-byte, closed, receive-failed, no-receive, SaysSent, so-many, send-failed, no-send, SaysShut, done, shutdown-failed, no-shutdown}
-use Rattle.receiver.specs.Receiver.{batchIn, bySent}
+use Rattle.receiver.specs.Call.{call, liveCall, readBy, readCall, admittedStep}
+use Rattle.receiver.specs.Given.{GivenRing, GivenAdmission, admits, by-ring, given-12-stored, Live, Full, GivenRead, begins, by-admission, given-13, ofAdmission, ofStep}
 use Rattle.receiver.specs.Refusal.{numberOf, valuesOf}
 use Rattle.receiver.specs.State.{fitsState}
 use Rattle.receiver.specs.declared.admission.Admission.{Admission}
 use Rattle.receiver.specs.declared.admission.Admission.the-variants as admission
 use Rattle.receiver.specs.declared.admission.Memory.{Memory}
 use Rattle.receiver.specs.declared.admission.Memory.the-variants as memory
-use Rattle.receiver.specs.declared.answer.Answer.{Answer}
-use Rattle.receiver.specs.declared.answer.Received.{Received}
-use Rattle.receiver.specs.declared.answer.Received.the-variants as received
-use Rattle.receiver.specs.declared.answer.Sent.{Sent}
-use Rattle.receiver.specs.declared.answer.Sent.the-variants as sent
-use Rattle.receiver.specs.declared.answer.Shut.{Shut}
-use Rattle.receiver.specs.declared.answer.Shut.the-variants as shut
 use Rattle.receiver.specs.declared.call.Call.{Call}
-use Rattle.receiver.specs.declared.call.Phase.{Phase}
-use Rattle.receiver.specs.declared.call.Phase.the-variants as phase
 use Rattle.receiver.specs.declared.call.Step.{Step}
 use Rattle.receiver.specs.declared.call.Step.the-variants as step
 use Rattle.receiver.specs.declared.receiver.ReceiverState.{ReceiverState}
@@ -57,11 +44,9 @@ use Rattle.receiver.proofs.call.Call.begin_service.Kinds as begin-servi
 use Rattle.receiver.proofs.call.Call.begin_service.Reads as begin-service
 use Rattle.receiver.proofs.call.Call.begin_shutdown.Kinds as begin-shutdown-kinds
 use Rattle.receiver.proofs.call.Call.begin_shutdown.Reads as begin-shutdown
-use Rattle.receiver.proofs.call.Call.answered.Kinds as answered-kinds
-use Rattle.receiver.proofs.call.Call.answered.Reads as answered
 
 -- every number that refuses is some number
-number-of : (r : Refusal) → 0 < numberOf r
+pub number-of : (r : Refusal) → 0 < numberOf r
 number-of (Copy (Scheduler e)) = number-some e
 number-of (Copy RingMemory) = omega arith
 number-of AnswerMissing = omega arith
@@ -107,19 +92,19 @@ module _ (q : ReceiverState) (m : Memory) where
   admission-exactly = admission-by (readyWith m (q .scheduler)) (fitsState (q .state)) (ring-exactly (q .scheduler) m) refl
 
   -- so where it passed, 0 is given, and else the refusal's number
-  passed : admissionOf q m ≡ admission.Passed → GivenAdmission q m 0 []
+  pub passed : admissionOf q m ≡ admission.Passed → GivenAdmission q m 0 []
   passed e = subst (λ (x : Admission). GivenAdmission q m (ofAdmission x .number) (ofAdmission x .values)) e (admission-exactly .only)
 
-  passed-only : admissionOf q m ≡ admission.Passed → (k : ℕ) (vs : List ℕ) → GivenAdmission q m k vs → k ≡ 0
+  pub passed-only : admissionOf q m ≡ admission.Passed → (k : ℕ) (vs : List ℕ) → GivenAdmission q m k vs → k ≡ 0
   passed-only e k vs g = sym (ap (λ (x : Verdict). x .number) (ap ofAdmission (sym e) ∙ admission-exactly .always k vs g))
 
-  refused : (r : Refusal) → admissionOf q m ≡ admission.Refused r → GivenAdmission q m (numberOf r) (valuesOf r)
+  pub refused : (r : Refusal) → admissionOf q m ≡ admission.Refused r → GivenAdmission q m (numberOf r) (valuesOf r)
   refused r e = subst (λ (x : Admission). GivenAdmission q m (ofAdmission x .number) (ofAdmission x .values)) e (admission-exactly .only)
 
-  refused-always : (r : Refusal) → admissionOf q m ≡ admission.Refused r → (k : ℕ) (vs : List ℕ) → GivenAdmission q m k vs → verdict (numberOf r) (valuesOf r) ≡ verdict k vs
+  pub refused-always : (r : Refusal) → admissionOf q m ≡ admission.Refused r → (k : ℕ) (vs : List ℕ) → GivenAdmission q m k vs → verdict (numberOf r) (valuesOf r) ≡ verdict k vs
   refused-always r e k vs g = ap ofAdmission (sym e) ∙ admission-exactly .always k vs g
 
-  refused-not-0 : (r : Refusal) → admissionOf q m ≡ admission.Refused r → GivenAdmission q m 0 [] → ⊥
+  pub refused-not-0 : (r : Refusal) → admissionOf q m ≡ admission.Refused r → GivenAdmission q m 0 [] → ⊥
   refused-not-0 r e g = omega (arith, number-of r, ap (λ (x : Verdict). x .number) (refused-always r e 0 [] g))
 
   -- ---- a call that is refused by the tests alone
@@ -133,7 +118,7 @@ module _ (q : ReceiverState) (m : Memory) where
 -- ---- a read
 module _ (q : ReceiverState) (n top asked : ℕ) where
   -- the rules refuse with 13 where the count is full, and with nothing else
-  abbrev Rules : Step → Type 0
+  abbrev pub Rules : Step → Type 0
   Rules x = (Full q asked × (ofStep x ≡ verdict 13 [])) ⊎ ((Full q asked → ⊥) × (ofStep x ≡ verdict 0 []))
 
   live-told : Live (q .state) → Rules (liveCall q top asked)

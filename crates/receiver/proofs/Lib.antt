@@ -19,3 +19,4 @@ pub mod MachineRows
 pub mod AnswerSays
 pub mod Says
 pub mod Given
+pub mod GivenAnswer

@@ -1,0 +1,170 @@
+-- "Given exactly when", of an answer that is handed to a call in progress.
+use Prim.Native.Nat.{ℕ, _<_}
+use mathlib.Core.Path.{_≡_, refl, sym, ap, subst, _∙_}
+use mathlib.Core.Bool.{Bool, cond, true, false}
+use mathlib.Core.Logic.{_⊎_, inl, inr}
+use mathlib.Core.List.{List, [], _∷_}
+use native.Mathlib.Omega.{arith}
+use lib.ListN.{length}
+use Rattle.modular.proofs.Saying.{Keeps}
+use Rattle.copies.specs.Given.{Verdict, verdict, Exactly}
+use Rattle.receiver.proofs.AnswerSays.{received-says, received-only, sent-says, sent-only, shut-says, shut-only, interrupted-says}
+use Rattle.receiver.proofs.Says.{answered-says}
+use Rattle.receiver.specs.Admission.{admissionOf}
+use Rattle.receiver.specs.Answer.{interruptedOf, receivedOf, sentOf, shutOf}
+use Rattle.receiver.specs.Call.{call, sentCall, unsentCall, afterShut, afterReceive, readCall, admittedStep, looksAt, resumedBy, resumedOf, steppedBy, steppedOf, answeredFrom}
+use Rattle.receiver.specs.Given.{GivenAdmission, Full, Misfits, GivenAnswer, takes, at-the-tests, still-full, given-12, ofStep}
+use Rattle.receiver.specs.Promise.{Errno, SaysReceived, no-receive, SaysSent, no-send, SaysShut}
+use Rattle.receiver.specs.Receiver.{batchIn, bySent}
+use Rattle.receiver.specs.Refusal.{numberOf, valuesOf}
+use Rattle.receiver.specs.declared.admission.Admission.{Admission}
+use Rattle.receiver.specs.declared.admission.Admission.the-variants as admission
+use Rattle.receiver.specs.declared.admission.Memory.{Memory}
+use Rattle.receiver.specs.declared.answer.Answer.{Answer}
+use Rattle.receiver.specs.declared.answer.Received.{Received}
+use Rattle.receiver.specs.declared.answer.Received.the-variants as received
+use Rattle.receiver.specs.declared.answer.Sent.{Sent}
+use Rattle.receiver.specs.declared.answer.Sent.the-variants as sent
+use Rattle.receiver.specs.declared.answer.Shut.{Shut}
+use Rattle.receiver.specs.declared.answer.Shut.the-variants as shut
+use Rattle.receiver.specs.declared.call.Call.{Call}
+use Rattle.receiver.specs.declared.call.Phase.{Phase}
+use Rattle.receiver.specs.declared.call.Phase.the-variants as phase
+use Rattle.receiver.specs.declared.call.Step.{Step}
+use Rattle.receiver.specs.declared.call.Step.the-variants as step
+use Rattle.receiver.specs.declared.refusal.Refusal.the-variants.{Misfit}
+use Rattle.receiver.proofs.call.Call.answered.Kinds as answered-kinds
+use Rattle.receiver.proofs.call.Call.answered.Reads as answered
+use Rattle.receiver.proofs.Given.{number-of, Rules, read-told, passed, passed-only, refused, refused-always, refused-not-0}
+use Rattle.receiver.specs.declared.call.Ending.{Ending}
+
+-- what the rules say of an answer that reaches them: 12 with its place where the place cannot have it, and else nothing refuses it
+module _ (a : Answer) where
+  interrupted-fits : (a .kind ≡ 2) × (a .value ≡ 4) → Errno (a .value)
+  interrupted-fits h = (omega (arith, h .1), omega (arith, h .1))
+
+  no-misfit-received : (top : ℕ) → interruptedOf a ≡ true → SaysReceived a top received.Misfit → ⊥
+  no-misfit-received top i (no-receive f g h) = let k = interrupted-says a .0 i in h (k .0, interrupted-fits k)
+
+  no-misfit-sent : (batch : ℕ) → interruptedOf a ≡ true → SaysSent a batch sent.Misfit → ⊥
+  no-misfit-sent batch i (no-send f h) = let k = interrupted-says a .0 i in h (k .0, interrupted-fits k)
+
+  module _ (ring : List ℕ) (place : ℕ) (d : Call) where
+    abbrev Taken : Phase → Step → Type 0
+    Taken ph x = (Misfits ph (d .receiver) a × (ofStep x ≡ verdict 12 (place ∷ []))) ⊎ ((Misfits ph (d .receiver) a → ⊥) × (ofStep x ≡ verdict 0 []))
+
+    either : (ph : Phase) (b : Bool) (x y : Step) → (b ≡ true → Taken ph x) → Taken ph y → Taken ph (cond b x y)
+    either ph true x y f g = f refl
+    either ph false x y f g = g
+
+    by-received : (top asked : ℕ) (x : Received) → receivedOf top a ≡ x → Taken (phase.Receive top asked) (afterReceive (d .receiver) (d .source) ring x asked place)
+    by-received top asked (received.Byte b fds) e = inr ((λ m. let k = received-only a top m in let z : _≡_ {A = ℕ} 0 1 = cc in omega arith), refl)
+    by-received top asked (received.Failed n) e = inr ((λ m. let k = received-only a top m in let z : _≡_ {A = ℕ} 0 1 = cc in omega arith), refl)
+    by-received top asked received.Misfit e = inl (subst (SaysReceived a top) e (received-says a top), refl)
+
+    by-sent : (batch : ℕ) (e : Ending) (x : Sent) → sentOf (batchIn (d .receiver)) a ≡ x →
+        Taken (phase.Send batch e) (bySent x (λ n. step.Of (sentCall n (d .receiver) (d .source) e)) (λ n. step.Of (unsentCall n (d .receiver) (d .source) e)) (step.Refused (Misfit place)))
+    by-sent batch e (sent.Sent n) k = inr ((λ m. let l = sent-only a (batchIn (d .receiver)) m in let z : _≡_ {A = ℕ} 0 1 = cc in omega arith), refl)
+    by-sent batch e (sent.Failed n) k = inr ((λ m. let l = sent-only a (batchIn (d .receiver)) m in let z : _≡_ {A = ℕ} 0 1 = cc in omega arith), refl)
+    by-sent batch e sent.Misfit k = inl (subst (SaysSent a (batchIn (d .receiver))) k (sent-says a (batchIn (d .receiver))), refl)
+
+    by-shut : (e : Ending) (x : Shut) → shutOf a ≡ x → Taken (phase.Shutdown e) (afterShut x (d .receiver) (d .source) e place)
+    by-shut e shut.Done k = inr ((λ m. let l = shut-only a m in let z : _≡_ {A = ℕ} 0 1 = cc in omega arith), refl)
+    by-shut e (shut.Failed n) k = inr ((λ m. let l = shut-only a m in let z : _≡_ {A = ℕ} 0 1 = cc in omega arith), refl)
+    by-shut e shut.Misfit k = inl (subst (SaysShut a) k (shut-says a), refl)
+
+    stepped-told : (ph : Phase) → Taken ph (steppedBy ph d ring a place)
+    stepped-told (phase.Receive top asked) = either (phase.Receive top asked) (interruptedOf a) _ _ (λ i. inr (no-misfit-received top i, refl)) (by-received top asked (receivedOf top a) refl)
+    stepped-told (phase.Send batch e) = either (phase.Send batch e) (interruptedOf a) _ _ (λ i. inr (no-misfit-sent (batchIn (d .receiver)) i, refl)) (by-sent batch e (sentOf (batchIn (d .receiver)) a) refl)
+    stepped-told (phase.Shutdown e) = by-shut e (shutOf a) refl
+    stepped-told (phase.Finished o) = inr ((λ m. m), refl)
+
+-- what the rules make of the call: 13 where it waits for a receive with a full count, and else a call
+module _ (c : Call) where
+  abbrev Resumes : Phase → Step → Type 0
+  Resumes ph (step.Of d) = (top asked : ℕ) → ph ≡ phase.Receive top asked → Full (c .receiver) asked → ⊥
+  Resumes ph (step.Refused r) = (top : ℕ) × ((asked : ℕ) × (ph ≡ phase.Receive top asked) × Full (c .receiver) asked × (verdict (numberOf r) (valuesOf r) ≡ verdict 13 []))
+
+  asked-same : (top asked top′ asked′ : ℕ) → phase.Receive top asked ≡ phase.Receive top′ asked′ → Full (c .receiver) asked′ → Full (c .receiver) asked
+  asked-same top asked top′ asked′ e h = let k : asked ≡ asked′ = cc in subst (Full (c .receiver)) (sym k) h
+
+  by-rules : (top asked : ℕ) (x : Step) → Rules (c .receiver) 0 top asked x → Resumes (phase.Receive top asked) x
+  by-rules top asked (step.Of d) (inl h) = λ top′ asked′ e f. let z : _≡_ {A = ℕ} 0 13 = ap (λ (v : Verdict). v .number) (h .1) in omega arith
+  by-rules top asked (step.Of d) (inr h) = λ top′ asked′ e f. h .0 (asked-same top asked top′ asked′ e f)
+  by-rules top asked (step.Refused r) (inl h) = (top, (asked, refl, h .0, h .1))
+  by-rules top asked (step.Refused r) (inr h) = absurd (omega (arith, number-of r, ap (λ (v : Verdict). v .number) (h .1)))
+
+  other : (ph : Phase) (d : Call) → ((top asked : ℕ) → ph ≡ phase.Receive top asked → ⊥) → Resumes ph (step.Of d)
+  other ph d f top asked e h = f top asked e
+
+  resumed-told : (ph : Phase) → Resumes ph (resumedBy ph c)
+  resumed-told (phase.Receive top asked) = by-rules top asked (readCall (c .receiver) top asked) (read-told (c .receiver) 0 top asked (c .receiver .state) refl)
+  resumed-told (phase.Send batch e) = other (phase.Send batch e) c (λ top asked k. let z : _≡_ {A = ℕ} 0 1 = cc in omega arith)
+  resumed-told (phase.Shutdown e) = other (phase.Shutdown e) c (λ top asked k. let z : _≡_ {A = ℕ} 0 1 = cc in omega arith)
+  resumed-told (phase.Finished o) = other (phase.Finished o) c (λ top asked k. let z : _≡_ {A = ℕ} 0 1 = cc in omega arith)
+
+-- ---- an answer
+module _ (c : Call) (ring : List ℕ) (a : Answer) (place : ℕ) where
+  abbrev m : Memory
+  m = looksAt (c .phase) a (length ring)
+
+  abbrev Answers : ℕ → List ℕ → Type 0
+  Answers = GivenAnswer c (length ring) a place
+
+  module _ (e : admissionOf (c .receiver) m ≡ admission.Passed) where
+    abbrev p : GivenAdmission (c .receiver) m 0 []
+    p = passed (c .receiver) m e
+
+    of-one : (d d′ : Call) → resumedOf c ≡ step.Of d → resumedOf c ≡ step.Of d′ → d′ ≡ d
+    of-one d d′ k l = let z : step.Of d ≡ step.Of d′ = sym k ∙ l in cc
+
+    same-misfit : (d d′ : Call) → resumedOf c ≡ step.Of d → resumedOf c ≡ step.Of d′ → Misfits (d′ .phase) (d′ .receiver) a → Misfits (d .phase) (d .receiver) a
+    same-misfit d d′ k l h = subst (λ (x : Call). Misfits (x .phase) (x .receiver) a) (of-one d d′ k l) h
+
+    no-test : {X : Type 0} (k : ℕ) (vs : List ℕ) → 0 < k → GivenAdmission (c .receiver) m k vs → X
+    no-test k vs l g = absurd (omega (arith, passed-only (c .receiver) m e k vs g))
+
+    took : (d : Call) → resumedOf c ≡ step.Of d → Resumes c (c .phase) (step.Of d) → Taken a ring place d (d .phase) (steppedOf d ring a place) → Exactly Answers (ofStep (steppedOf d ring a place))
+    took d k f (inl h) = subst (Exactly Answers) (sym (h .1)) (record { only = given-12 d p k (h .0); always = λ n vs g. so g })
+      where
+        so : {n : ℕ} {vs : List ℕ} → Answers n vs → verdict 12 (place ∷ []) ≡ verdict n vs
+        so (takes d′ q l fit) = absurd (fit (same-misfit d′ d l k (h .0)))
+        so {n} {vs} (at-the-tests l g) = no-test n vs l g
+        so (still-full top asked q l g) = absurd (f top asked l g)
+        so (given-12 d′ q l g) = refl
+    took d k f (inr h) = subst (Exactly Answers) (sym (h .1)) (record { only = takes d p k (h .0); always = λ n vs g. so g })
+      where
+        so : {n : ℕ} {vs : List ℕ} → Answers n vs → verdict 0 [] ≡ verdict n vs
+        so (takes d′ q l fit) = refl
+        so {n} {vs} (at-the-tests l g) = no-test n vs l g
+        so (still-full top asked q l g) = absurd (f top asked l g)
+        so (given-12 d′ q l g) = absurd (h .0 (same-misfit d d′ k l g))
+
+    by-resumed : (x : Step) → resumedOf c ≡ x → Resumes c (c .phase) x → Exactly Answers (ofStep (answeredFrom x ring a place))
+    by-resumed (step.Of d) k f = took d k f (stepped-told a ring place d (d .phase))
+    by-resumed (step.Refused r) k f = subst (Exactly Answers) (sym (f .1 .3)) (record { only = still-full (f .0) (f .1 .0) p (f .1 .1) (f .1 .2); always = λ n vs g. so g })
+      where
+        never : {X : Type 0} (d : Call) → resumedOf c ≡ step.Of d → X
+        never d l = let y : step.Refused r ≡ step.Of d = sym k ∙ l in let z : _≡_ {A = ℕ} 0 1 = cc in absurd (omega arith)
+
+        so : {n : ℕ} {vs : List ℕ} → Answers n vs → verdict 13 [] ≡ verdict n vs
+        so (takes d′ q l fit) = never d′ l
+        so {n} {vs} (at-the-tests l g) = no-test n vs l g
+        so (still-full top asked q l g) = refl
+        so (given-12 d′ q l g) = never d′ l
+
+  by-admitted : (x : Admission) → admissionOf (c .receiver) m ≡ x → Exactly Answers (ofStep (admittedStep x (answeredFrom (resumedOf c) ring a place)))
+  by-admitted admission.Passed e = by-resumed e (resumedOf c) refl (resumed-told c (c .phase))
+  by-admitted (admission.Refused r) e = record { only = at-the-tests (number-of r) (refused (c .receiver) m r e); always = λ n vs g. so g }
+    where
+      so : {n : ℕ} {vs : List ℕ} → Answers n vs → verdict (numberOf r) (valuesOf r) ≡ verdict n vs
+      so (takes d q l fit) = absurd (refused-not-0 (c .receiver) m r e q)
+      so {n} {vs} (at-the-tests l g) = refused-always (c .receiver) m r e n vs g
+      so (still-full top asked q l g) = absurd (refused-not-0 (c .receiver) m r e q)
+      so (given-12 d q l g) = absurd (refused-not-0 (c .receiver) m r e q)
+
+-- of the call
+pub answered-given : Keeps 1 answered-kinds.ps answered-kinds.r answered.Learnt (λ κs a z. Exactly (GivenAnswer (a .0) (length (a .1 .0 .now)) (a .1 .1 .0) (a .1 .1 .1 .0)) (ofStep z))
+answered-given κs a z p =
+    subst (λ (x : Step). Exactly (GivenAnswer (a .0) (length (a .1 .0 .now)) (a .1 .1 .0) (a .1 .1 .1 .0)) (ofStep x)) (sym (answered-says κs a z (p .0) (p .1)))
+    (by-admitted (a .0) (a .1 .0 .now) (a .1 .1 .0) (a .1 .1 .1 .0) (admissionOf (a .0 .receiver) (looksAt (a .0 .phase) (a .1 .1 .0) (length (a .1 .0 .now)))) refl)

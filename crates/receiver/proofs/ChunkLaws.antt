@@ -1,6 +1,6 @@
 -- A header and a body, registered one after the other.
 use Prim.Native.Nat.{ℕ, _+_, _-_, _<_, _≤_}
-use mathlib.Core.Path.{_≡_}
+use mathlib.Core.Path.{_≡_, ap, _∙_}
 use native.Mathlib.Omega.{arith}
 use mathlib.Core.Bool.{true, false}
 use lib.Dec.{ltb}
@@ -32,9 +32,15 @@ module _ (s : RingBufferScheduler) (h : IsSound s) (g : 8 ≤ spaceIn s) where
   pub announced : (n : ℕ) → n ≤ spaceIn s - 8 → IsSound (advancedIn (advancedIn (advancedIn s Write 8) Read 8) Write n)
   announced n l = advanced-sound (advancedIn (advancedIn s Write 8) Read 8) read n Write (room n l)
 
+  -- what was there, and the body
+  pub holds : (n : ℕ) → n ≤ spaceIn s - 8 → dataIn (advancedIn (advancedIn (advancedIn s Write 8) Read 8) Write n) ≡ dataIn s + n
+  holds n l =
+      let k : dataIn (advancedIn (advancedIn (advancedIn s Write 8) Read 8) Write n) ≡ dataIn (advancedIn (advancedIn s Write 8) Read 8) + n =
+      omega (arith, advanced-greatest (advancedIn (advancedIn s Write 8) Read 8) read n Write (room n l), room n l, read .fill, announced n l .fill) in
+      k ∙ ap (λ (d : ℕ). d + n) same
+
   pub held : (n : ℕ) → n ≤ spaceIn s - 8 → n ≤ dataIn (advancedIn (advancedIn (advancedIn s Write 8) Read 8) Write n)
-  held n l =
-      omega (arith, advanced-greatest (advancedIn (advancedIn s Write 8) Read 8) read n Write (room n l), room n l, read .fill, announced n l .fill)
+  held n l = omega (arith, holds n l)
 
 -- the tests of the space, where it was asked for as `m`
 module _ (m g : ℕ) (e : m ≡ g) where

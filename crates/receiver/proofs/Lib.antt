@@ -17,6 +17,7 @@ pub mod HandedSum
 pub mod Rows
 pub mod MachineRows
 pub mod AnswerSays
+pub mod Rules
 pub mod Says
 pub mod Given
 pub mod GivenAnswer

@@ -1,10 +1,11 @@
 -- What the receiver promises, told again by cases and in other words than those of its rules, so that a rule that is changed in its place
 -- is seen.
-use Prim.Native.Nat.{ℕ, _+_, _*_, _%_, _^_, _<_, _≤_}
+use Prim.Native.Nat.{ℕ, _+_, _*_, _%_, _^_, _<_, _≤_, min}
 use mathlib.Core.Path.{_≡_}
 use mathlib.Core.Logic.{_≢_}
 use mathlib.Core.List.{List, []}
 use lib.ListN.{getD}
+use Rattle.receiver.specs.State.{violationNumber}
 use Rattle.receiver.specs.declared.answer.Answer.{Answer}
 use Rattle.receiver.specs.declared.answer.Received.{Received}
 use Rattle.receiver.specs.declared.answer.Received.the-variants as received
@@ -17,10 +18,13 @@ use Rattle.receiver.specs.declared.call.Phase.{Phase}
 use Rattle.receiver.specs.declared.call.Phase.the-variants as phase
 use Rattle.receiver.specs.declared.call.Step.{Step}
 use Rattle.receiver.specs.declared.call.Step.the-variants as step
+use Rattle.receiver.specs.declared.receiver.Outcome.{Outcome}
+use Rattle.receiver.specs.declared.receiver.Outcome.the-variants as outcome
 use Rattle.receiver.specs.declared.state.Failure.{Failure}
 use Rattle.receiver.specs.declared.state.Failure.the-variants.{Io, Protocol}
 use Rattle.receiver.specs.declared.state.OperationalState.{OperationalState}
 use Rattle.receiver.specs.declared.state.OperationalState.the-variants.{Normal, Draining, Terminated}
+use Rattle.receiver.specs.declared.state.Violation.{Violation}
 
 -- ---- errnos
 abbrev pub Errno : ℕ → Type 0
@@ -123,3 +127,8 @@ pub data Announces (L h : ℕ) : Said → Type 0 where
   length-0 : 8 ≤ L → h < 2 ^ 62 → h % 2 ^ 48 ≡ 0 → Announces L h (violates 4)
   too-long : 8 ≤ L → h < 2 ^ 62 → 1 ≤ h % 2 ^ 48 → L < h % 2 ^ 48 + 8 → Announces L h (violates 2)
   accepted : h < 2 ^ 62 → 1 ≤ h % 2 ^ 48 → h % 2 ^ 48 + 8 ≤ L → Announces L h (body (h % 2 ^ 48))
+
+-- what a read comes to that heard so: the first bytes of the body, with the announcement's descriptors, or the violation
+abbrev pub Heard : ℕ → ℕ → Said → Outcome → Type 0
+Heard asked fds (body n) o = o ≡ outcome.Read (min asked n) fds
+Heard asked fds (violates k) o = (v : Violation) × (o ≡ outcome.Failed (Protocol v)) × (violationNumber v ≡ k)

@@ -1,0 +1,139 @@
+-- The rules keep what specs/Promise.antt says of them: the reason rule, advancing a state, batches, and what a header says.
+use Prim.Native.Nat.{ℕ, suc, _+_, _-_, _*_, _/_, _%_, _^_, _<_, _≤_, min}
+use mathlib.Core.Path.{_≡_, refl, sym, ap, subst, _∙_}
+use mathlib.Core.Bool.{Bool, cond, true, false}
+use mathlib.Core.Logic.{_≢_}
+use mathlib.Core.List.{List}
+use native.Mathlib.Nat.{div-add-mod', mod-lt}
+use native.Mathlib.Omega.{arith}
+use lib.Dec.{eqb, ltb, leb}
+use lib.ListN.{getD}
+use borrow.Author.Tests.{eqb-true, eqb-false, ltb-true, ltb-false, leb-true, leb-false, eq-eqb, ne-eqb}
+use Rattle.sched.specs.declared.operation.OperationType.the-variants.{Read, Write}
+use Rattle.sched.specs.declared.scheduler.RingBufferScheduler.{RingBufferScheduler}
+use Rattle.sched.specs.Scheduler.{IsSound, dataIn, spaceIn, offsetIn, advancedIn}
+use Rattle.copies.specs.Ring.{get}
+use Rattle.receiver.proofs.ChunkLaws.{holds}
+use Rattle.receiver.specs.Promise.{Reason, end-and-end, end-gives-way, error-and-end, error-stays, Calm, normal, blocked-draining, blocked-terminated, Advanced, calm-by-calm, calm-by-draining, calm-by-terminated, terminated-stays, draining-stays, draining-by-draining, draining-by-terminated, Batch, all, most, headerAt, Said, body, violates, Announces, no-room-for-a-header, format-unknown, length-0, too-long, accepted}
+use Rattle.receiver.specs.Receiver.{numberFrom, headerIn, announcedIn, byteIn}
+use Rattle.receiver.specs.State.{violationNumber, isErrno, normalizeIn, towardsErrorIn, advanceNormal, advanceIn}
+use Rattle.receiver.specs.declared.announcement.Announced.{Announced}
+use Rattle.receiver.specs.declared.announcement.Announced.the-variants as announcement
+use Rattle.receiver.specs.declared.state.Failure.{Failure}
+use Rattle.receiver.specs.declared.state.Failure.the-variants.{Io, Protocol}
+use Rattle.receiver.specs.declared.state.OperationalState.{OperationalState}
+use Rattle.receiver.specs.declared.state.OperationalState.the-variants.{Normal, Draining, Terminated}
+use Rattle.receiver.specs.declared.state.Violation.the-variants.{InvalidChunkAnnouncement}
+
+-- ---- reasons
+is-errno : (f : Failure) (k : ℕ) → isErrno f k ≡ true → f ≡ Io k
+is-errno (Io e) k h = ap Io (eqb-true e k h)
+is-errno (Protocol v) k h = let z : _≡_ {A = ℕ} 0 1 = cc in absurd (omega arith)
+
+is-other : (f : Failure) (k : ℕ) → isErrno f k ≡ false → f ≢ Io k
+is-other (Io e) k h p = let z : e ≡ k = cc in eqb-false e k h z
+is-other (Protocol v) k h p = let z : _≡_ {A = ℕ} 0 1 = cc in omega arith
+
+pub reason-rule : (c e : Failure) → Reason c e (towardsErrorIn c e)
+unfolding towardsErrorIn
+reason-rule c e = by (isErrno c 32) refl (isErrno e 32) refl
+  where
+    by : (x : Bool) → isErrno c 32 ≡ x → (y : Bool) → isErrno e 32 ≡ y → Reason c e (cond x (cond y c e) c)
+    by true p true q = rw (is-errno c 32 p, is-errno e 32 q) end-and-end
+    by true p false q = rw (is-errno c 32 p) (end-gives-way (is-other e 32 q))
+    by false p true q = rw (is-errno e 32 q) (error-and-end (is-other c 32 p))
+    by false p false q = error-stays (is-other c 32 p) (is-other e 32 q)
+
+-- ---- states
+pub data Normalized : OperationalState → OperationalState → Type 0 where
+  calmed : {s : OperationalState} → Calm s → Normalized s Normal
+  drains : (f : Failure) → f ≢ Io 11 → Normalized (Draining f) (Draining f)
+  ends : (f : Failure) → f ≢ Io 11 → Normalized (Terminated f) (Terminated f)
+
+pub normalized : (s : OperationalState) → Normalized s (normalizeIn s)
+unfolding normalizeIn
+normalized Normal = calmed normal
+normalized (Draining f) = by (isErrno f 11) refl
+  where
+    by : (x : Bool) → isErrno f 11 ≡ x → Normalized (Draining f) (cond x Normal (Draining f))
+    by true p = rw (is-errno f 11 p) (calmed blocked-draining)
+    by false p = drains f (is-other f 11 p)
+normalized (Terminated f) = by (isErrno f 11) refl
+  where
+    by : (x : Bool) → isErrno f 11 ≡ x → Normalized (Terminated f) (cond x Normal (Terminated f))
+    by true p = rw (is-errno f 11 p) (calmed blocked-terminated)
+    by false p = ends f (is-other f 11 p)
+
+by-normalized : (s to x y : OperationalState) → Normalized s x → Normalized to y → Advanced s to (advanceNormal x y)
+by-normalized s to _ _ (calmed h) (calmed k) = calm-by-calm h k
+by-normalized s to _ _ (calmed h) (drains e k) = calm-by-draining h k
+by-normalized s to _ _ (calmed h) (ends e k) = calm-by-terminated h k
+by-normalized s to _ _ (ends c h) k = terminated-stays h
+by-normalized s to _ _ (drains c h) (calmed k) = draining-stays h k
+by-normalized s to _ _ (drains c h) (drains e k) = draining-by-draining h k (reason-rule c e)
+by-normalized s to _ _ (drains c h) (ends e k) = draining-by-terminated h k (reason-rule c e)
+
+pub advance-rule : (s to : OperationalState) → Advanced s to (advanceIn s to)
+advance-rule s to = by-normalized s to (normalizeIn s) (normalizeIn to) (normalized s) (normalized to)
+
+-- ---- batches
+pub batch-rule : (p : ℕ) → p ≢ 0 → Batch p (min 128 p)
+batch-rule p z = by (leb 128 p) refl
+  where
+    by : (b : Bool) → leb 128 p ≡ b → Batch p (min 128 p)
+    by true e = let m : min 128 p ≡ 128 = omega (arith, leb-true 128 p e) in rw m (most (leb-true 128 p e))
+    by false e = let m : min 128 p ≡ p = omega (arith, leb-false 128 p e) in rw m (all (omega (arith, z)) (omega (arith, leb-false 128 p e)))
+
+-- ---- announcements
+-- the eight cells, folded one by one, are the number
+pub header-number : (L : ℕ) (ring : List ℕ) (k : ℕ) → numberFrom 0 (get L ring k 8) ≡ headerAt L ring k
+unfolding numberFrom
+header-number L ring k =
+    let e1 : k + 1 ≡ suc k = omega arith in
+    let e2 : k + 2 ≡ suc (suc k) = omega arith in
+    let e3 : k + 3 ≡ suc (suc (suc k)) = omega arith in
+    let e4 : k + 4 ≡ suc (suc (suc (suc k))) = omega arith in
+    let e5 : k + 5 ≡ suc (suc (suc (suc (suc k)))) = omega arith in
+    let e6 : k + 6 ≡ suc (suc (suc (suc (suc (suc k))))) = omega arith in
+    let e7 : k + 7 ≡ suc (suc (suc (suc (suc (suc (suc k)))))) = omega arith in
+    rw (e1, e2, e3, e4, e5, e6, e7) (omega arith)
+
+abbrev pub saidBy : Announced → Said
+saidBy (announcement.Chunk u fds) = body (dataIn u)
+saidBy (announcement.Failed (Protocol v)) = violates (violationNumber v)
+saidBy (announcement.Failed (Io e)) = violates 0
+
+top-bits : (h : ℕ) → eqb (h / 2 ^ 62) 0 ≡ true → h < 2 ^ 62
+top-bits h e = let l : h % 2 ^ 62 < 2 ^ 62 = mod-lt h (omega arith) in omega (arith, eqb-true (h / 2 ^ 62) 0 e, div-add-mod' h (2 ^ 62), l)
+
+no-top-bits : (h : ℕ) → eqb (h / 2 ^ 62) 0 ≡ false → 2 ^ 62 ≤ h
+no-top-bits h e = omega (arith, eqb-false (h / 2 ^ 62) 0 e, div-add-mod' h (2 ^ 62))
+
+module _ (s : RingBufferScheduler) (sound : IsSound s) (empty : dataIn s ≡ 0) (fds : ℕ) where
+  abbrev L : ℕ
+  L = s .«buf_len»
+
+  free : spaceIn s ≡ L
+  free = omega (arith, empty)
+
+  -- the chunk's data is its body
+  chunk-data : (g : 8 ≤ spaceIn s) (n : ℕ) (l : n ≤ spaceIn s - 8) → dataIn (advancedIn (advancedIn (advancedIn s Write 8) Read 8) Write n) ≡ n
+  chunk-data g n l = omega (arith, holds s sound g n l, empty)
+
+  header-says : (h : ℕ) → 8 ≤ spaceIn s → Announces L h (saidBy (headerIn s fds h))
+  header-says h g = by (eqb (h / 2 ^ 62) 0) refl (eqb (h % 2 ^ 48) 0) refl (ltb (spaceIn s - 8) (h % 2 ^ 48)) refl
+    where
+      by : (x : Bool) → eqb (h / 2 ^ 62) 0 ≡ x → (y : Bool) → eqb (h % 2 ^ 48) 0 ≡ y → (z : Bool) → ltb (spaceIn s - 8) (h % 2 ^ 48) ≡ z → Announces L h (saidBy (headerIn s fds h))
+      by false p y q z r = rw p (format-unknown (omega (arith, free, g)) (no-top-bits h p))
+      by true p true q z r = rw (p, q) (length-0 (omega (arith, free, g)) (top-bits h p) (eqb-true _ _ q))
+      by true p false q true r = rw (p, q, r) (too-long (omega (arith, free, g)) (top-bits h p) (omega (arith, eqb-false (h % 2 ^ 48) 0 q)) (omega (arith, free, g, ltb-true (spaceIn s - 8) (h % 2 ^ 48) r)))
+      by true p false q false r =
+          rw (p, q, r, chunk-data g (h % 2 ^ 48) (ltb-false _ _ r))
+          (accepted (top-bits h p) (omega (arith, eqb-false (h % 2 ^ 48) 0 q)) (omega (arith, free, g, ltb-false (spaceIn s - 8) (h % 2 ^ 48) r)))
+
+  pub announcement-says : (ring : List ℕ) → Announces L (headerAt L ring (offsetIn s Read .0)) (saidBy (announcedIn ring s fds))
+  announcement-says ring = subst (λ (h : ℕ). Announces L h (saidBy (announcedIn ring s fds))) (header-number L ring (offsetIn s Read .0)) (by (ltb (spaceIn s) 8) refl)
+    where
+      by : (x : Bool) → ltb (spaceIn s) 8 ≡ x → Announces L (numberFrom 0 (get L ring (offsetIn s Read .0) 8)) (saidBy (announcedIn ring s fds))
+      by true p = rw p (no-room-for-a-header (omega (arith, free, ltb-true (spaceIn s) 8 p)))
+      by false p = rw p (header-says (numberFrom 0 (get L ring (offsetIn s Read .0) 8)) (ltb-false _ _ p))

@@ -228,14 +228,20 @@ kept (phase.Send batch e) c a (Refused r) h g = (h, refl)
 kept (phase.Shutdown e) c a (Refused r) h g = (h, refl)
 kept (phase.Finished o) c a (Refused r) h g = (h, refl)
 
-pub handed-sum : (hs : List Handed) (c : Call) → Made c → handedTo c hs .receiver .«pending_ack_count» + allSentTo c hs ≡ c .receiver .«pending_ack_count» + allWholeTo c hs
-handed-sum [] c m = refl
-handed-sum (h ∷ hs) c m =
-    let k = kept (c .phase) c (h .answer) (stepOf c h) m (answered-good c m (h .ring) (h .answer) (h .place)) in
-    omega (arith, k .1, handed-sum hs (keptBy c (stepOf c h)) (k .0))
+module _ (answers : Call → Handed → Step) (are : (c : Call) (h : Handed) → answers c h ≡ stepOf c h) where
+  taken-or-not : (c : Call) (h : Handed) → Made c →
+      Made (keptBy c (answers c h)) × (keptBy c (answers c h) .receiver .«pending_ack_count» + sentAt (c .phase) (answers c h) (h .answer) ≡ c .receiver .«pending_ack_count» + wholeAt (c .phase) (answers c h))
+  taken-or-not c h m =
+      subst (λ (x : Step). Made (keptBy c x) × (keptBy c x .receiver .«pending_ack_count» + sentAt (c .phase) x (h .answer) ≡ c .receiver .«pending_ack_count» + wholeAt (c .phase) x)) (sym (are c h))
+      (kept (c .phase) c (h .answer) (stepOf c h) m (answered-good c m (h .ring) (h .answer) (h .place)))
+
+  pub handed-sum : (hs : List Handed) (c : Call) → Made c →
+      handedTo answers c hs .receiver .«pending_ack_count» + allSentTo answers c hs ≡ c .receiver .«pending_ack_count» + allWholeTo answers c hs
+  handed-sum [] c m = refl
+  handed-sum (h ∷ hs) c m = let k = taken-or-not c h m in omega (arith, k .1, handed-sum hs (keptBy c (answers c h)) (k .0))
 
 -- ---- the calls that are begun are made by the machine
-abbrev MadeBy : Step → Type 0
+abbrev pub MadeBy : Step → Type 0
 MadeBy (Of c) = Made c
 MadeBy (Refused r) = Unit {0}
 

@@ -21,3 +21,4 @@ pub mod Rules
 pub mod Says
 pub mod Given
 pub mod GivenAnswer
+pub mod Promised

@@ -26,10 +26,6 @@ abbrev pub keptBy : Call → Step → Call
 keptBy c (Of d) = d
 keptBy c (Refused r) = c
 
-abbrev pub handedTo : Call → List Handed → Call
-handedTo c [] = c
-handedTo c (h ∷ hs) = handedTo (keptBy c (stepOf c h)) hs
-
 -- what was sent: by a call that waits to send, if it takes the answer
 abbrev pub sentAt : Phase → Step → Answer → ℕ
 sentAt (Send batch e) (Of d) a = sentBy a
@@ -37,10 +33,6 @@ sentAt (Send batch e) (Refused r) a = 0
 sentAt (Receive top asked) x a = 0
 sentAt (Shutdown e) x a = 0
 sentAt (Finished o) x a = 0
-
-abbrev pub allSentTo : Call → List Handed → ℕ
-allSentTo c [] = 0
-allSentTo c (h ∷ hs) = sentAt (c .phase) (stepOf c h) (h .answer) + allSentTo (keptBy c (stepOf c h)) hs
 
 -- the outcome that a call comes to if nothing fails; one that waits for a receive has none yet
 abbrev pub comingTo : Phase → Outcome
@@ -57,6 +49,16 @@ wholeAt (Send batch e) x = 0
 wholeAt (Shutdown e) x = 0
 wholeAt (Finished o) x = 0
 
-abbrev pub allWholeTo : Call → List Handed → ℕ
-allWholeTo c [] = 0
-allWholeTo c (h ∷ hs) = wholeAt (c .phase) (stepOf c h) + allWholeTo (keptBy c (stepOf c h)) hs
+-- ---- any answers, one after the other: `answers` is what a call of the machine comes to with one
+module _ (answers : Call → Handed → Step) where
+  abbrev pub handedTo : Call → List Handed → Call
+  handedTo c [] = c
+  handedTo c (h ∷ hs) = handedTo (keptBy c (answers c h)) hs
+
+  abbrev pub allSentTo : Call → List Handed → ℕ
+  allSentTo c [] = 0
+  allSentTo c (h ∷ hs) = sentAt (c .phase) (answers c h) (h .answer) + allSentTo (keptBy c (answers c h)) hs
+
+  abbrev pub allWholeTo : Call → List Handed → ℕ
+  allWholeTo c [] = 0
+  allWholeTo c (h ∷ hs) = wholeAt (c .phase) (answers c h) + allWholeTo (keptBy c (answers c h)) hs

@@ -22,3 +22,4 @@ pub mod Says
 pub mod Given
 pub mod GivenAnswer
 pub mod Promised
+pub mod PromisedMachine

@@ -1,55 +1,15 @@
 -- The promises of specs/Promise.antt, of the calls: whatever an attached contract allows keeps them.
-use Prim.Native.Nat.{ℕ, _+_, min}
-use mathlib.Core.Path.{_≡_, refl, sym, ap, subst, _∙_}
-use mathlib.Core.Bool.{Bool, cond, true, false}
-use mathlib.Core.Logic.{_≢_}
-use mathlib.Core.List.{List}
-use lib.Dec.{eqb}
-use lib.ListN.{length}
-use borrow.Author.Tests.{eqb-true, eqb-false, eq-eqb}
-use contract.Lifetimes.{Lfts}
-use denote.Ref.{RefT}
-use Rattle.modular.proofs.Saying.{Allows, Keeps}
-use Rattle.sched.specs.declared.operation.OperationType.the-variants.{Read}
-use Rattle.sched.specs.declared.scheduler.RingBufferScheduler.{RingBufferScheduler}
-use Rattle.sched.specs.Scheduler.{dataIn, offsetIn}
+use mathlib.Core.Path.{_≡_, refl, sym, subst, _∙_}
+use mathlib.Core.Bool.{Bool, true, false}
+use Rattle.modular.proofs.Saying.{Keeps}
 use Rattle.receiver.proofs.AnswerSays.{state-fits, received-says, sent-says, shut-says, interrupted-says}
-use Rattle.receiver.proofs.HandedSum.{handed-sum}
-use Rattle.receiver.proofs.Made.{Made}
-use Rattle.receiver.proofs.Rules.{reason-rule, advance-rule, batch-rule}
-use Rattle.receiver.proofs.Says.{advance-state-towards-termination-says, is-interruption-says, received-says as received-is, sent-says as sent-is, shut-says as shut-is, begin-read-says, begin-service-says, begin-shutdown-says, answered-says}
-use Rattle.receiver.specs.Admission.{admissionOf}
-use Rattle.receiver.specs.Answer.{interruptedOf, receivedOf, sentOf, shutOf}
-use Rattle.receiver.specs.Call.{call, finishedCall, outcomeIn, toldIn, shutOrFinishBy, shutdownBy, advanceCall, flushCall, serviceCallBy, serviceCall, sentCall, unsentCall, afterShut, handOutCall, failedCall, blockedBy, announcedCall, afterReceive, liveCall, readBy, admittedStep, beginReadOf, beginServiceOf, beginShutdownOf, looksAt, resumedBy, resumedOf, steppedBy, answeredFrom, answeredOf}
-use Rattle.receiver.specs.Handed.{Handed, stepOf, handedTo, allSentTo, allWholeTo}
-use Rattle.receiver.specs.Promise.{Stored, Advanced, SaysReceived, SaysSent, SaysShut, BatchedIn, Batched}
-use Rattle.receiver.specs.Receiver.{withState, withPending, withShutdown, batchIn, bySent, byteIn, handedOut}
-use Rattle.receiver.specs.State.{fitsState, failureIn, isErrno, advanceIn, testedState}
-use Rattle.receiver.specs.declared.admission.Admission.{Admission}
-use Rattle.receiver.specs.declared.admission.Admission.the-variants as admission
-use Rattle.receiver.specs.declared.announcement.Announced.{Announced}
-use Rattle.receiver.specs.declared.announcement.Announced.the-variants as announced
-use Rattle.receiver.specs.declared.answer.Answer.{Answer}
-use Rattle.receiver.specs.declared.answer.Received.{Received}
-use Rattle.receiver.specs.declared.answer.Received.the-variants as received
-use Rattle.receiver.specs.declared.answer.Sent.{Sent}
-use Rattle.receiver.specs.declared.answer.Sent.the-variants as sent
-use Rattle.receiver.specs.declared.answer.Shut.{Shut}
-use Rattle.receiver.specs.declared.answer.Shut.the-variants as shut
-use Rattle.receiver.specs.declared.call.Call.{Call}
-use Rattle.receiver.specs.declared.call.Ending.{Ending}
-use Rattle.receiver.specs.declared.call.Phase.{Phase}
-use Rattle.receiver.specs.declared.call.Phase.the-variants as phase
-use Rattle.receiver.specs.declared.call.Step.{Step}
+use Rattle.receiver.proofs.Rules.{advance-rule}
+use Rattle.receiver.proofs.Says.{advance-state-towards-termination-says, is-interruption-says, received-says as received-is, sent-says as sent-is, shut-says as shut-is}
+use Rattle.receiver.specs.Promise.{Stored, Advanced, SaysReceived, SaysSent, SaysShut}
+use Rattle.receiver.specs.State.{fitsState, advanceIn, testedState}
 use Rattle.receiver.specs.declared.call.Step.the-variants.{Of, Refused}
-use Rattle.receiver.specs.declared.receiver.ReceiverState.{ReceiverState}
 use Rattle.receiver.specs.declared.refusal.Refusal.the-variants.{Misfit}
-use Rattle.receiver.specs.declared.state.Failure.{Failure}
-use Rattle.receiver.specs.declared.state.Failure.the-variants.{Io}
 use Rattle.receiver.specs.declared.state.OperationalState.{OperationalState}
-use Rattle.receiver.specs.declared.state.OperationalState.the-variants.{Normal, Draining, Terminated}
-use Rattle.receiver.specs.declared.state.PotentialFailure.{PotentialFailure}
-use Rattle.receiver.specs.declared.state.PotentialFailure.the-variants.{Some, None}
 use Rattle.receiver.specs.declared.state.StateAnswer.the-variants as state
 use Rattle.receiver.proofs.answer.Answer.is_interruption.Kinds as is-interruption-kinds
 use Rattle.receiver.proofs.answer.Answer.is_interruption.Reads as is-interruption
@@ -61,14 +21,6 @@ use Rattle.receiver.proofs.answer.Answer.shut.Kinds as shut-kinds
 use Rattle.receiver.proofs.answer.Answer.shut.Reads as shut-reads
 use Rattle.receiver.proofs.state.OperationalState.advance_state_towards_termination.Kinds as advance-kinds
 use Rattle.receiver.proofs.state.OperationalState.advance_state_towards_termination.Reads as advance
-use Rattle.receiver.proofs.call.Call.begin_read.Kinds as begin-read-kinds
-use Rattle.receiver.proofs.call.Call.begin_read.Reads as begin-read
-use Rattle.receiver.proofs.call.Call.begin_service.Kinds as begin-service-kinds
-use Rattle.receiver.proofs.call.Call.begin_service.Reads as begin-service
-use Rattle.receiver.proofs.call.Call.begin_shutdown.Kinds as begin-shutdown-kinds
-use Rattle.receiver.proofs.call.Call.begin_shutdown.Reads as begin-shutdown
-use Rattle.receiver.proofs.call.Call.answered.Kinds as answered-kinds
-use Rattle.receiver.proofs.call.Call.answered.Reads as answered
 
 -- ---- answers at their place
 pub received-promised : Keeps 0 received-kinds.ps received-kinds.r received-reads.Learnt (λ κs a z. SaysReceived (a .0) (a .1 .0) z)

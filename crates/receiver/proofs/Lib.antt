@@ -23,3 +23,4 @@ pub mod Given
 pub mod GivenAnswer
 pub mod Promised
 pub mod PromisedMachine
+pub mod PromisedAnnouncement

@@ -99,7 +99,7 @@ header-number L ring k =
     rw (e1, e2, e3, e4, e5, e6, e7) (omega arith)
 
 abbrev pub saidBy : Announced → Said
-saidBy (announcement.Chunk u fds) = body (dataIn u)
+saidBy (announcement.Chunk u fds) = body (dataIn u) fds
 saidBy (announcement.Failed (Protocol v)) = violates (violationNumber v)
 saidBy (announcement.Failed (Io e)) = violates 0
 
@@ -120,10 +120,10 @@ module _ (s : RingBufferScheduler) (sound : IsSound s) (empty : dataIn s ≡ 0) 
   chunk-data : (g : 8 ≤ spaceIn s) (n : ℕ) (l : n ≤ spaceIn s - 8) → dataIn (advancedIn (advancedIn (advancedIn s Write 8) Read 8) Write n) ≡ n
   chunk-data g n l = omega (arith, holds s sound g n l, empty)
 
-  header-says : (h : ℕ) → 8 ≤ spaceIn s → Announces L h (saidBy (headerIn s fds h))
+  header-says : (h : ℕ) → 8 ≤ spaceIn s → Announces L h fds (saidBy (headerIn s fds h))
   header-says h g = by (eqb (h / 2 ^ 62) 0) refl (eqb (h % 2 ^ 48) 0) refl (ltb (spaceIn s - 8) (h % 2 ^ 48)) refl
     where
-      by : (x : Bool) → eqb (h / 2 ^ 62) 0 ≡ x → (y : Bool) → eqb (h % 2 ^ 48) 0 ≡ y → (z : Bool) → ltb (spaceIn s - 8) (h % 2 ^ 48) ≡ z → Announces L h (saidBy (headerIn s fds h))
+      by : (x : Bool) → eqb (h / 2 ^ 62) 0 ≡ x → (y : Bool) → eqb (h % 2 ^ 48) 0 ≡ y → (z : Bool) → ltb (spaceIn s - 8) (h % 2 ^ 48) ≡ z → Announces L h fds (saidBy (headerIn s fds h))
       by false p y q z r = rw p (format-unknown (omega (arith, free, g)) (no-top-bits h p))
       by true p true q z r = rw (p, q) (length-0 (omega (arith, free, g)) (top-bits h p) (eqb-true _ _ q))
       by true p false q true r = rw (p, q, r) (too-long (omega (arith, free, g)) (top-bits h p) (omega (arith, eqb-false (h % 2 ^ 48) 0 q)) (omega (arith, free, g, ltb-true (spaceIn s - 8) (h % 2 ^ 48) r)))
@@ -131,9 +131,9 @@ module _ (s : RingBufferScheduler) (sound : IsSound s) (empty : dataIn s ≡ 0) 
           rw (p, q, r, chunk-data g (h % 2 ^ 48) (ltb-false _ _ r))
           (accepted (top-bits h p) (omega (arith, eqb-false (h % 2 ^ 48) 0 q)) (omega (arith, free, g, ltb-false (spaceIn s - 8) (h % 2 ^ 48) r)))
 
-  pub announcement-says : (ring : List ℕ) → Announces L (headerAt L ring (offsetIn s Read .0)) (saidBy (announcedIn ring s fds))
-  announcement-says ring = subst (λ (h : ℕ). Announces L h (saidBy (announcedIn ring s fds))) (header-number L ring (offsetIn s Read .0)) (by (ltb (spaceIn s) 8) refl)
+  pub announcement-says : (ring : List ℕ) → Announces L (headerAt L ring (offsetIn s Read .0)) fds (saidBy (announcedIn ring s fds))
+  announcement-says ring = subst (λ (h : ℕ). Announces L h fds (saidBy (announcedIn ring s fds))) (header-number L ring (offsetIn s Read .0)) (by (ltb (spaceIn s) 8) refl)
     where
-      by : (x : Bool) → ltb (spaceIn s) 8 ≡ x → Announces L (numberFrom 0 (get L ring (offsetIn s Read .0) 8)) (saidBy (announcedIn ring s fds))
+      by : (x : Bool) → ltb (spaceIn s) 8 ≡ x → Announces L (numberFrom 0 (get L ring (offsetIn s Read .0) 8)) fds (saidBy (announcedIn ring s fds))
       by true p = rw p (no-room-for-a-header (omega (arith, free, ltb-true (spaceIn s) 8 p)))
       by false p = rw p (header-says (numberFrom 0 (get L ring (offsetIn s Read .0) 8)) (ltb-false _ _ p))

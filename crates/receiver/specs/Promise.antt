@@ -1,10 +1,11 @@
 -- What the receiver promises, told again by cases and in other words than those of its rules, so that a rule that is changed in its place
 -- is seen.
-use Prim.Native.Nat.{ℕ, _+_, _*_, _%_, _^_, _<_, _≤_, min}
+use Prim.Native.Nat.{ℕ, _+_, _-_, _*_, _%_, _^_, _<_, _≤_, min}
 use mathlib.Core.Path.{_≡_}
 use mathlib.Core.Logic.{_≢_}
 use mathlib.Core.List.{List, []}
 use lib.ListN.{getD}
+use Rattle.sched.specs.Scheduler.{IsSound, dataIn}
 use Rattle.receiver.specs.State.{violationNumber}
 use Rattle.receiver.specs.declared.answer.Answer.{Answer}
 use Rattle.receiver.specs.declared.answer.Received.{Received}
@@ -20,6 +21,7 @@ use Rattle.receiver.specs.declared.call.Step.{Step}
 use Rattle.receiver.specs.declared.call.Step.the-variants as step
 use Rattle.receiver.specs.declared.receiver.Outcome.{Outcome}
 use Rattle.receiver.specs.declared.receiver.Outcome.the-variants as outcome
+use Rattle.receiver.specs.declared.receiver.ReceiverState.{ReceiverState}
 use Rattle.receiver.specs.declared.state.Failure.{Failure}
 use Rattle.receiver.specs.declared.state.Failure.the-variants.{Io, Protocol}
 use Rattle.receiver.specs.declared.state.OperationalState.{OperationalState}
@@ -115,20 +117,30 @@ headerAt L ring k =
     cell L ring k * 2 ^ 56 + cell L ring (k + 1) * 2 ^ 48 + cell L ring (k + 2) * 2 ^ 40 + cell L ring (k + 3) * 2 ^ 32
     + cell L ring (k + 4) * 2 ^ 24 + cell L ring (k + 5) * 2 ^ 16 + cell L ring (k + 6) * 2 ^ 8 + cell L ring (k + 7)
 
--- a body of so many bytes, or a violation by its number
+-- a body of so many bytes that comes with so many descriptors, or a violation by its number
 pub data Said : Type 0 where
-  body : ℕ → Said
+  body : ℕ → ℕ → Said
   violates : ℕ → Said
 
 -- the top two bits must be 0, the last 48 are the length: it and the header's 8 bytes fit into L
-pub data Announces (L h : ℕ) : Said → Type 0 where
-  no-room-for-a-header : L < 8 → Announces L h (violates 2)
-  format-unknown : 8 ≤ L → 2 ^ 62 ≤ h → Announces L h (violates 3)
-  length-0 : 8 ≤ L → h < 2 ^ 62 → h % 2 ^ 48 ≡ 0 → Announces L h (violates 4)
-  too-long : 8 ≤ L → h < 2 ^ 62 → 1 ≤ h % 2 ^ 48 → L < h % 2 ^ 48 + 8 → Announces L h (violates 2)
-  accepted : h < 2 ^ 62 → 1 ≤ h % 2 ^ 48 → h % 2 ^ 48 + 8 ≤ L → Announces L h (body (h % 2 ^ 48))
+pub data Announces (L h fds : ℕ) : Said → Type 0 where
+  no-room-for-a-header : L < 8 → Announces L h fds (violates 2)
+  format-unknown : 8 ≤ L → 2 ^ 62 ≤ h → Announces L h fds (violates 3)
+  length-0 : 8 ≤ L → h < 2 ^ 62 → h % 2 ^ 48 ≡ 0 → Announces L h fds (violates 4)
+  too-long : 8 ≤ L → h < 2 ^ 62 → 1 ≤ h % 2 ^ 48 → L < h % 2 ^ 48 + 8 → Announces L h fds (violates 2)
+  accepted : h < 2 ^ 62 → 1 ≤ h % 2 ^ 48 → h % 2 ^ 48 + 8 ≤ L → Announces L h fds (body (h % 2 ^ 48) fds)
 
 -- what a read comes to that heard so: the first bytes of the body, with the announcement's descriptors, or the violation
-abbrev pub Heard : ℕ → ℕ → Said → Outcome → Type 0
-Heard asked fds (body n) o = o ≡ outcome.Read (min asked n) fds
-Heard asked fds (violates k) o = (v : Violation) × (o ≡ outcome.Failed (Protocol v)) × (violationNumber v ≡ k)
+abbrev pub Heard : ℕ → Said → Outcome → Type 0
+Heard asked (body n fds) o = o ≡ outcome.Read (min asked n) fds
+Heard asked (violates k) o = (v : Violation) × (o ≡ outcome.Failed (Protocol v)) × (violationNumber v ≡ k)
+
+-- a read waits for an announcement: its record passes the tests, the stream is not terminated, some bytes are asked for, one more
+-- acknowledgement can be counted, and there is no data
+pub record Awaits (q : ReceiverState) (asked : ℕ) : Type 0 where
+  pub sound : IsSound (q .scheduler)
+  pub stored : Stored (q .state)
+  pub live : (f : Failure) → q .state ≢ Terminated f
+  pub some : asked ≢ 0
+  pub counts : q .«pending_ack_count» ≢ 2 ^ 64 - 1
+  pub empty : dataIn (q .scheduler) ≡ 0

@@ -6,4 +6,5 @@ pub mod Driven
 pub mod Thin
 pub mod Begun
 pub mod Reading
-pub mod Decided
+pub mod Used
+pub mod Says

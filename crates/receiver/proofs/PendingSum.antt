@@ -1,7 +1,7 @@
 -- The pending count over any list of calls: what it was, and one for each chunk that was handed out whole, less all that was sent.
 -- Answer by answer, what is pending and what the used answers say was sent make up the same sum.
 use Prim.Native.Nat.{ℕ, zero, suc, _+_, _-_, _^_, min}
-use mathlib.Core.Path.{_≡_, refl, sym, ap, _∙_}
+use mathlib.Core.Path.{_≡_, refl, sym, ap, subst, _∙_}
 use mathlib.Core.Bool.{Bool, cond, true, false}
 use mathlib.Core.List.{List, [], _∷_}
 use native.Mathlib.Omega.{arith}
@@ -19,7 +19,7 @@ use Rattle.receiver.specs.Admission.{admissionOf}
 use Rattle.receiver.specs.Answer.{interruptedOf, receivedOf, sentOf, shutOf}
 use Rattle.receiver.specs.State.{failureIn, isErrno, advanceIn}
 use Rattle.receiver.specs.Receiver.{At, at, Went, went, refused, withScheduler, withState, withPending, withShutdown, shutBy, askShutdownOf, shutdownIn, advanceTo, batchIn, bySent, flushIn, drained, flushed, serviceBy, serviceIn, byteIn, byReceived, announceIn, dropped, handOut, answering, failedRead, blockedRead, announcedRead, readIn, endedFrom, admitted, begin, readImplOf, endOfStream, serviceOf, shutdownFrom, shutdownOf}
-use Rattle.receiver.specs.Pending.{Asked, reads, readsImpl, services, shuts, wentOf, answersOf, sentBy, sentIn, wholeIn, nextOver, sentOver, wholeOver, nextOf, after, allSent, allWhole}
+use Rattle.receiver.specs.Pending.{Asked, reads, readsImpl, services, shuts, wentOf, answersOf, sentBy, sentIn, wholeIn, nextOver, sentOver, wholeOver, endsOf, nextOf, after, allSent, allWhole}
 use Rattle.receiver.specs.declared.admission.Admission.{Admission}
 use Rattle.receiver.specs.declared.admission.Admission.the-variants.{Passed, Refused}
 use Rattle.receiver.specs.declared.admission.Memory.the-variants as memory
@@ -32,6 +32,7 @@ use Rattle.receiver.specs.declared.answer.Sent.{Sent}
 use Rattle.receiver.specs.declared.answer.Sent.the-variants as sent
 use Rattle.receiver.specs.declared.answer.Shut.{Shut}
 use Rattle.receiver.specs.declared.answer.Shut.the-variants as shut
+use Rattle.receiver.specs.declared.receiver.Ended.{Ended}
 use Rattle.receiver.specs.declared.receiver.Outcome.{Outcome}
 use Rattle.receiver.specs.declared.receiver.Outcome.the-variants as outcome
 use Rattle.receiver.specs.declared.receiver.ReceiverState.{ReceiverState}
@@ -322,6 +323,12 @@ counted q answers (went p o) h = h
 counted q answers (refused r) h = refl
 
 -- pending + all sent = pending at the start + chunks handed out whole
-pub pending-sum : (cs : List Asked) (q : ReceiverState) → after q cs .«pending_ack_count» + allSent q cs ≡ q .«pending_ack_count» + allWhole q cs
-pending-sum [] q = refl
-pending-sum (c ∷ cs) q = let h = counted q (answersOf c) (wentOf q c) (call-balanced q c) in let k = pending-sum cs (nextOf q c) in omega (arith, h, k)
+module _ (ends : ReceiverState → Asked → Ended) (are : (q : ReceiverState) (c : Asked) → ends q c ≡ endsOf q c) where
+  counted-by : (q : ReceiverState) (c : Asked) → nextOver q (ends q c) .«pending_ack_count» + sentOver (answersOf c) (ends q c) ≡ q .«pending_ack_count» + wholeOver (ends q c)
+  counted-by q c =
+      subst (λ (x : Ended). nextOver q x .«pending_ack_count» + sentOver (answersOf c) x ≡ q .«pending_ack_count» + wholeOver x) (sym (are q c))
+      (counted q (answersOf c) (wentOf q c) (call-balanced q c))
+
+  pub pending-sum : (cs : List Asked) (q : ReceiverState) → after ends q cs .«pending_ack_count» + allSent ends q cs ≡ q .«pending_ack_count» + allWhole ends q cs
+  pending-sum [] q = refl
+  pending-sum (c ∷ cs) q = let h = counted-by q c in let k = pending-sum cs (nextOf ends q c) in omega (arith, h, k)

@@ -60,24 +60,23 @@ abbrev pub nextOver : ReceiverState → Ended → ReceiverState
 nextOver q (Accepted r o used) = r
 nextOver q (Refused r) = q
 
-abbrev pub sentOf : ReceiverState → Asked → ℕ
-sentOf q c = sentOver (answersOf c) (endedFrom (wentOf q c))
+-- what a call leaves, by the rules
+abbrev pub endsOf : ReceiverState → Asked → Ended
+endsOf q c = endedFrom (wentOf q c)
 
-abbrev pub wholeOf : ReceiverState → Asked → ℕ
-wholeOf q c = wholeOver (endedFrom (wentOf q c))
+-- ---- over a list of calls: `ends` is what each leaves
+module _ (ends : ReceiverState → Asked → Ended) where
+  abbrev pub nextOf : ReceiverState → Asked → ReceiverState
+  nextOf q c = nextOver q (ends q c)
 
-abbrev pub nextOf : ReceiverState → Asked → ReceiverState
-nextOf q c = nextOver q (endedFrom (wentOf q c))
+  abbrev pub after : ReceiverState → List Asked → ReceiverState
+  after q [] = q
+  after q (c ∷ cs) = after (nextOf q c) cs
 
--- over a list of calls
-abbrev pub after : ReceiverState → List Asked → ReceiverState
-after q [] = q
-after q (c ∷ cs) = after (nextOf q c) cs
+  abbrev pub allSent : ReceiverState → List Asked → ℕ
+  allSent q [] = 0
+  allSent q (c ∷ cs) = sentOver (answersOf c) (ends q c) + allSent (nextOf q c) cs
 
-abbrev pub allSent : ReceiverState → List Asked → ℕ
-allSent q [] = 0
-allSent q (c ∷ cs) = sentOf q c + allSent (nextOf q c) cs
-
-abbrev pub allWhole : ReceiverState → List Asked → ℕ
-allWhole q [] = 0
-allWhole q (c ∷ cs) = wholeOf q c + allWhole (nextOf q c) cs
+  abbrev pub allWhole : ReceiverState → List Asked → ℕ
+  allWhole q [] = 0
+  allWhole q (c ∷ cs) = wholeOver (ends q c) + allWhole (nextOf q c) cs

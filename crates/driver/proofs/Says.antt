@@ -1,0 +1,30 @@
+-- What each call says, in the order of the paper. The toolchain reads no contract over a lent run, so each cites one predicate of its
+-- outcome, and what the predicate allows is this definition of the arguments.
+use Prim.Native.Nat.{ℕ}
+use mathlib.Core.Path.{_≡_, ap}
+use mathlib.Core.List.{List}
+use Rattle.receiver.specs.Receiver.{Delivery, endedFrom, serviceOf, shutdownOf, readImplDelivery, readDelivery}
+use Rattle.receiver.specs.declared.answer.Answer.{Answer}
+use Rattle.receiver.specs.declared.receiver.Ended.{Ended}
+use Rattle.receiver.specs.declared.receiver.ReceiverState.{ReceiverState}
+use Rattle.driver.specs.Drive.{fetchedOf}
+use Rattle.driver.specs.Run.{FetchLeaves, ServiceLeaves, ShutdownLeaves, ReadImplLeaves, ReadLeaves}
+use Rattle.driver.specs.declared.drive.Fetched.{Fetched}
+
+pub fetch-says : (answers : List Answer) (i : ℕ) (r : Fetched) → FetchLeaves answers i r → r ≡ fetchedOf answers i
+fetch-says answers i r p = p
+
+-- the receiver, the ring, the destination, the most descriptors, and the run
+pub read-says : (q : ReceiverState) (ring dst : List ℕ) (top : ℕ) (answers : List Answer) (r : Ended) (left : List ℕ) → ReadLeaves q ring dst top answers r left →
+    (r ≡ readDelivery q ring dst top answers .answer) × (left ≡ readDelivery q ring dst top answers .memory)
+read-says q ring dst top answers r left p = (ap (λ (d : Delivery). d .answer) p, ap (λ (d : Delivery). d .memory) p)
+
+pub read-impl-says : (q : ReceiverState) (ring dst : List ℕ) (top : ℕ) (answers : List Answer) (r : Ended) (left : List ℕ) → ReadImplLeaves q ring dst top answers r left →
+    (r ≡ readImplDelivery q ring dst top answers .answer) × (left ≡ readImplDelivery q ring dst top answers .memory)
+read-impl-says q ring dst top answers r left p = (ap (λ (d : Delivery). d .answer) p, ap (λ (d : Delivery). d .memory) p)
+
+pub service-says : (q : ReceiverState) (answers : List Answer) (r : Ended) → ServiceLeaves q answers r → r ≡ endedFrom (serviceOf q answers)
+service-says q answers r p = p
+
+pub shutdown-says : (q : ReceiverState) (answers : List Answer) (r : Ended) → ShutdownLeaves q answers r → r ≡ endedFrom (shutdownOf q answers)
+shutdown-says q answers r p = p

@@ -1,0 +1,42 @@
+-- What the calls over a lent run promise beside their rules: how many answers a call used, and what of the destination stays.
+use Prim.Native.Nat.{ℕ, _<_, _≤_}
+use mathlib.Core.Path.{_≡_}
+use mathlib.Core.List.{List, _++_}
+use lib.ListN.{length, take}
+use Rattle.copies.specs.Promises.{OnlyFront}
+use Rattle.receiver.specs.Pending.{Asked, reads, readsImpl, services, shuts}
+use Rattle.receiver.specs.declared.answer.Answer.{Answer}
+use Rattle.receiver.specs.declared.receiver.Ended.{Ended}
+use Rattle.receiver.specs.declared.receiver.Ended.the-variants as ended
+use Rattle.receiver.specs.declared.receiver.Outcome.{Outcome}
+use Rattle.receiver.specs.declared.receiver.Outcome.the-variants as outcome
+use Rattle.receiver.specs.declared.receiver.ReceiverState.{ReceiverState}
+use Rattle.receiver.specs.declared.refusal.Refusal.the-variants.{AnswerMissing}
+use Rattle.driver.specs.Run.{ServiceLeaves, ShutdownLeaves, ReadImplLeaves, ReadLeaves}
+
+-- A call used so many answers: whatever stands behind them it comes to the same, and with fewer of them it is refused with 11.
+-- `runs` is what the call leaves of each run.
+module _ (runs : List Answer → Ended) (answers : List Answer) where
+  abbrev pub Uses : Ended → Type 0
+  Uses (ended.Accepted q o used) =
+      (used ≤ length answers) ×
+      ((more : List Answer) → runs (take used answers ++ more) ≡ ended.Accepted q o used) ×
+      ((k : ℕ) → k < used → runs (take k answers) ≡ ended.Refused AnswerMissing)
+  Uses (ended.Refused r) = Unit {0}
+
+-- a read of n bytes changes the first n of the destination, and nothing else changes any
+abbrev pub FillsBy : Outcome → List ℕ → List ℕ → Type 0
+FillsBy (outcome.Read n fds) dst left = OnlyFront n dst left
+FillsBy outcome.Done dst left = left ≡ dst
+FillsBy (outcome.Failed f) dst left = left ≡ dst
+
+abbrev pub Fills : Ended → List ℕ → List ℕ → Type 0
+Fills (ended.Accepted q o used) dst left = FillsBy o dst left
+Fills (ended.Refused r) dst left = left ≡ dst
+
+-- what a call of this record may leave, by the predicate that its contract cites; of a read, whatever destination is lent
+abbrev pub MayLeave : ReceiverState → Asked → Ended → Type 0
+MayLeave q (services answers) r = ServiceLeaves q answers r
+MayLeave q (shuts answers) r = ShutdownLeaves q answers r
+MayLeave q (readsImpl ring asked top answers) r = (dst : List ℕ) × (length dst ≡ asked) × ((left : List ℕ) × ReadImplLeaves q ring dst top answers r left)
+MayLeave q (reads ring asked top answers) r = (dst : List ℕ) × (length dst ≡ asked) × ((left : List ℕ) × ReadLeaves q ring dst top answers r left)

@@ -62,6 +62,10 @@ module _ (q : ReceiverState) (ring : List ℕ) (answers : List Answer) where
   unfolding comes
   shutdown-ended = answered (drivenOf (beginShutdownOf q) ring answers) (shutdownOf q answers) (shutdown-driven ring q answers)
 
+  pub read-ended : (top asked : ℕ) → endedOf (drivenOf (beginReadOf q (length ring) top asked) ring answers) ≡ endedFrom (readImplOf q ring asked top answers)
+  unfolding comes
+  read-ended top asked = answered (drivenOf (beginReadOf q (length ring) top asked) ring answers) (readImplOf q ring asked top answers) (read-driven ring q answers top asked)
+
 -- ---- the destination
 module _ (ring dst : List ℕ) where
   abbrev deliveredCame : Came → Delivery

@@ -8,3 +8,4 @@ pub mod Begun
 pub mod Reading
 pub mod Used
 pub mod Says
+pub mod Promised

@@ -1,0 +1,118 @@
+-- The promises of specs/Promise.antt and the pending sum, of the calls: of whatever the predicate that a contract cites allows.
+use Prim.Native.Nat.{ℕ, _+_}
+use mathlib.Core.Path.{_≡_, refl, sym, ap, subst, _∙_}
+use mathlib.Core.Bool.{Bool, cond, true, false}
+use mathlib.Core.List.{List, []}
+use native.Mathlib.Omega.{arith}
+use lib.ListN.{length}
+use Rattle.sched.specs.declared.operation.OperationType.the-variants.{Read}
+use Rattle.sched.specs.Scheduler.{offsetIn}
+use Rattle.copies.proofs.Ring.{get-own}
+use Rattle.receiver.proofs.Moved.{Moved, read-moved}
+use Rattle.receiver.proofs.PendingSum.{pending-sum}
+use Rattle.receiver.specs.Call.{beginReadOf, beginServiceOf, beginShutdownOf}
+use Rattle.receiver.specs.Pending.{Asked, reads, readsImpl, services, shuts, endsOf, after, allSent, allWhole}
+use Rattle.receiver.specs.Receiver.{Went, went, refused, endedFrom, readImplOf, readOf, serviceOf, shutdownOf, endOfStreamFor, endOfStream, Delivery, delivery, destinationFor, deliveryFrom, readImplDelivery, readDelivery}
+use Rattle.receiver.specs.State.{isErrno}
+use Rattle.receiver.specs.declared.answer.Answer.{Answer}
+use Rattle.receiver.specs.declared.call.Step.{Step}
+use Rattle.receiver.specs.declared.receiver.Ended.{Ended}
+use Rattle.receiver.specs.declared.receiver.Ended.the-variants as ended
+use Rattle.receiver.specs.declared.receiver.Outcome.{Outcome}
+use Rattle.receiver.specs.declared.receiver.Outcome.the-variants as outcome
+use Rattle.receiver.specs.declared.receiver.ReceiverState.{ReceiverState}
+use Rattle.receiver.specs.declared.state.Failure.{Failure}
+use Rattle.driver.specs.Drive.{drivenOf, endedOf, endOfStreamIn}
+use Rattle.driver.specs.Promise.{Uses, FillsBy, Fills, MayLeave}
+use Rattle.driver.specs.Run.{ServiceLeaves, ShutdownLeaves, ReadImplLeaves, ReadLeaves}
+use Rattle.driver.proofs.Driven.{service-ended, shutdown-ended, read-ended}
+use Rattle.driver.proofs.Says.{service-says, shutdown-says, read-says, read-impl-says}
+use Rattle.driver.proofs.Used.{driven-uses}
+
+-- ---- how many answers were used
+module _ (f g : List Answer → Ended) (same : (xs : List Answer) → f xs ≡ g xs) where
+  uses-same : (answers : List Answer) (r : Ended) → Uses f answers r → Uses g answers r
+  uses-same answers (ended.Accepted q o n) h = (h .0, (λ more. sym (same _) ∙ h .1 more), (λ k l. sym (same _) ∙ h .2 k l))
+  uses-same answers (ended.Refused r) h = tt
+
+uses-driven : (x : Step) (ring : List ℕ) (runs : List Answer → Ended) → ((xs : List Answer) → endedOf (drivenOf x ring xs) ≡ runs xs) → (answers : List Answer) → Uses runs answers (runs answers)
+uses-driven x ring runs e answers = uses-same (λ xs. endedOf (drivenOf x ring xs)) runs e answers (runs answers) (driven-uses x ring answers (runs answers) (e answers))
+
+uses-turned : (f : List Answer → Ended) (answers : List Answer) (r : Ended) → Uses f answers r → Uses (λ xs. endOfStreamIn (f xs)) answers (endOfStreamIn r)
+uses-turned f answers (ended.Accepted q o n) h = (h .0, (λ more. ap endOfStreamIn (h .1 more)), (λ k l. ap endOfStreamIn (h .2 k l)))
+uses-turned f answers (ended.Refused r) h = tt
+
+delivered : (ring dst : List ℕ) (w : Went Outcome) → deliveryFrom w ring dst .answer ≡ endedFrom w
+delivered ring dst (went p o) = refl
+delivered ring dst (refused r) = refl
+
+turned : (w : Went Outcome) → endedFrom (endOfStream w) ≡ endOfStreamIn (endedFrom w)
+turned (went p o) = refl
+turned (refused r) = refl
+
+module _ (q : ReceiverState) (runs : List Answer → Ended) where
+  pub service-uses : ((xs : List Answer) → ServiceLeaves q xs (runs xs)) → (answers : List Answer) → Uses runs answers (runs answers)
+  service-uses h = uses-driven (beginServiceOf q) [] runs (λ xs. service-ended q [] xs ∙ sym (service-says q xs (runs xs) (h xs)))
+
+  pub shutdown-uses : ((xs : List Answer) → ShutdownLeaves q xs (runs xs)) → (answers : List Answer) → Uses runs answers (runs answers)
+  shutdown-uses h = uses-driven (beginShutdownOf q) [] runs (λ xs. shutdown-ended q [] xs ∙ sym (shutdown-says q xs (runs xs) (h xs)))
+
+  module _ (ring dst : List ℕ) (top : ℕ) (left : List Answer → List ℕ) where
+    abbrev impl : List Answer → Ended
+    impl xs = endedFrom (readImplOf q ring (length dst) top xs)
+
+    impl-uses : (answers : List Answer) → Uses impl answers (impl answers)
+    impl-uses = uses-driven (beginReadOf q (length ring) top (length dst)) ring impl (λ xs. read-ended q ring xs top (length dst))
+
+    pub read-impl-uses : ((xs : List Answer) → ReadImplLeaves q ring dst top xs (runs xs) (left xs)) → (answers : List Answer) → Uses runs answers (runs answers)
+    read-impl-uses h answers =
+        let e : (xs : List Answer) → impl xs ≡ runs xs = λ xs. sym (read-impl-says q ring dst top xs (runs xs) (left xs) (h xs) .0 ∙ delivered ring dst (readImplOf q ring (length dst) top xs)) in
+        subst (Uses runs answers) (e answers) (uses-same impl runs e answers (impl answers) (impl-uses answers))
+
+    pub read-uses : ((xs : List Answer) → ReadLeaves q ring dst top xs (runs xs) (left xs)) → (answers : List Answer) → Uses runs answers (runs answers)
+    read-uses h answers =
+        let e : (xs : List Answer) → endOfStreamIn (impl xs) ≡ runs xs =
+        λ xs. sym (read-says q ring dst top xs (runs xs) (left xs) (h xs) .0 ∙ delivered ring dst (readOf q ring (length dst) top xs) ∙ turned (readImplOf q ring (length dst) top xs)) in
+        subst (Uses runs answers) (e answers) (uses-same (λ xs. endOfStreamIn (impl xs)) runs e answers (endOfStreamIn (impl answers)) (uses-turned impl answers (impl answers) (impl-uses answers)))
+
+-- ---- what of the destination stays
+module _ (ring dst : List ℕ) where
+  fills-went : (w : Went Outcome) → Moved ring (length dst) w → Fills (deliveryFrom w ring dst .answer) dst (deliveryFrom w ring dst .memory)
+  fills-went (went p (outcome.Read n fds)) h = get-own (p .source .«buf_len») ring (offsetIn (p .source) Read .0) n dst (omega (arith, h .0))
+  fills-went (went p outcome.Done) h = refl
+  fills-went (went p (outcome.Failed f)) h = refl
+  fills-went (refused r) h = refl
+
+  -- the end of the stream fills nothing
+  turned-moved : (w : Went Outcome) → Moved ring (length dst) w → Fills (deliveryFrom (endOfStream w) ring dst .answer) dst (deliveryFrom (endOfStream w) ring dst .memory)
+  turned-moved (went p (outcome.Read n fds)) h = fills-went (went p (outcome.Read n fds)) h
+  turned-moved (went p outcome.Done) h = refl
+  turned-moved (went p (outcome.Failed f)) h = by (isErrno f 32)
+    where
+      by : (b : Bool) → FillsBy (cond b (outcome.Read 0 0) (outcome.Failed f)) dst (destinationFor (cond b (outcome.Read 0 0) (outcome.Failed f)) (p .source) ring dst)
+      by true = (refl, refl)
+      by false = refl
+  turned-moved (refused r) h = refl
+
+  module _ (q : ReceiverState) (top : ℕ) (answers : List Answer) (r : Ended) (left : List ℕ) where
+    by-delivery : (d : Delivery) → delivery r left ≡ d → Fills (d .answer) dst (d .memory) → Fills r dst left
+    by-delivery d e h = subst (λ (x : Delivery). Fills (x .answer) dst (x .memory)) (sym e) h
+
+    pub read-impl-fills : ReadImplLeaves q ring dst top answers r left → Fills r dst left
+    read-impl-fills p = by-delivery (readImplDelivery q ring dst top answers) p (fills-went (readImplOf q ring (length dst) top answers) (read-moved ring (length dst) top q answers))
+
+    pub read-fills : ReadLeaves q ring dst top answers r left → Fills r dst left
+    read-fills p = by-delivery (readDelivery q ring dst top answers) p (turned-moved (readImplOf q ring (length dst) top answers) (read-moved ring (length dst) top q answers))
+
+-- ---- the pending sum
+left-by : (q : ReceiverState) (c : Asked) (r : Ended) → MayLeave q c r → r ≡ endsOf q c
+left-by q (services answers) r p = service-says q answers r p
+left-by q (shuts answers) r p = shutdown-says q answers r p
+left-by q (readsImpl ring asked top answers) r (dst, l, (left, p)) =
+    read-impl-says q ring dst top answers r left p .0 ∙ delivered ring dst (readImplOf q ring (length dst) top answers) ∙ ap (λ (n : ℕ). endedFrom (readImplOf q ring n top answers)) l
+left-by q (reads ring asked top answers) r (dst, l, (left, p)) =
+    read-says q ring dst top answers r left p .0 ∙ delivered ring dst (readOf q ring (length dst) top answers) ∙ ap (λ (n : ℕ). endedFrom (readOf q ring n top answers)) l
+
+pub pending-promised : (ends : ReceiverState → Asked → Ended) → ((q : ReceiverState) (c : Asked) → MayLeave q c (ends q c)) → (cs : List Asked) (q : ReceiverState) →
+    after ends q cs .«pending_ack_count» + allSent ends q cs ≡ q .«pending_ack_count» + allWhole ends q cs
+pending-promised ends h = pending-sum ends (λ q c. left-by q c (ends q c) (h q c))

@@ -1,4 +1,7 @@
 pub mod BackLaws
 pub mod FlatRun
 pub mod FlatReading
-pub mod Decided
+pub mod SaysEnds
+pub mod SaysReceiver
+pub mod SaysScheduler
+pub mod SaysValues

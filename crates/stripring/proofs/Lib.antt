@@ -1,3 +1,4 @@
+pub mod StandsLaws
 pub mod BackLaws
 pub mod FlatRun
 pub mod FlatReading

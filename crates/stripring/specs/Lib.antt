@@ -16,3 +16,4 @@ pub mod Receiver
 pub mod Run
 pub mod Refusal
 pub mod Call
+pub mod Stands

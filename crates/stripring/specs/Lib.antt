@@ -17,3 +17,5 @@ pub mod Run
 pub mod Refusal
 pub mod Call
 pub mod Stands
+pub mod Results
+pub mod Back

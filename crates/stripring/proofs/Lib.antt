@@ -1,5 +1,6 @@
 pub mod StandsLaws
 pub mod BackLaws
+pub mod SentLaws
 pub mod FlatRun
 pub mod FlatReading
 pub mod SaysEnds

@@ -159,7 +159,7 @@ fill-back Partial = refl
 fill-back Full = refl
 
 -- ---- refusals, states, and a call in progress
-scheduler-refusal-back : (e : sched.Refusal) → schedulerRefusalAt (flatRefusal e) ≡ e
+pub scheduler-refusal-back : (e : sched.Refusal) → schedulerRefusalAt (flatRefusal e) ≡ e
 unfolding schedulerRefusalAt
 scheduler-refusal-back ZeroBufferLength = refl
 scheduler-refusal-back (BufferTooLarge n) = refl

@@ -7,3 +7,4 @@ pub mod SaysEnds
 pub mod SaysReceiver
 pub mod SaysScheduler
 pub mod SaysValues
+pub mod Hosted

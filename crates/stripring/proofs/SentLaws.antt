@@ -124,7 +124,7 @@ pub end-refusal : (e : ends.Refusal) → RefusalStands (flatEndRefusal e) (of-en
 end-refusal (end.Copy e) = copy-refusal e
 end-refusal end.RanBack = (refl, refl, refl, refl)
 
-end-refusal-some : (e : ends.Refusal) → 0 < of-ends.numberOf e
+pub end-refusal-some : (e : ends.Refusal) → 0 < of-ends.numberOf e
 end-refusal-some (end.Copy e) = copy-refusal-some e
 end-refusal-some end.RanBack = omega arith
 

@@ -19,3 +19,4 @@ pub mod Call
 pub mod Stands
 pub mod Results
 pub mod Back
+pub mod Hosted

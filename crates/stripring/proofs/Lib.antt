@@ -8,3 +8,5 @@ pub mod SaysReceiver
 pub mod SaysScheduler
 pub mod SaysValues
 pub mod Hosted
+pub mod GivenLaws
+pub mod RefusesScheduler

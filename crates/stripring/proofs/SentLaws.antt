@@ -96,7 +96,7 @@ use Rattle.stripring.proofs.BackLaws.{scheduler-back, writing-end-back,
 use Rattle.stripring.proofs.StandsLaws.{bool-stands, layout-stands, fill-stands, scheduler-stands, operation-stands, operations-stand, ranges-stand, block-stands, failure-stands, state-stands, receiver-stands, outcome-stands, outcome-zeros, call-stands, receiver-zeros, call-zeros}
 
 -- ---- the refusals: the number, and the values in order
-accepted : RefusalStands noRefusal 0 []
+pub accepted : RefusalStands noRefusal 0 []
 accepted = (refl, refl, refl, refl)
 
 pub scheduler-refusal : (e : sched.Refusal) → RefusalStands (flatRefusal e) (of-sched.numberOf e) (of-sched.valuesOf e)

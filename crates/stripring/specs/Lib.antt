@@ -20,3 +20,4 @@ pub mod Stands
 pub mod Results
 pub mod Back
 pub mod Hosted
+pub mod Given

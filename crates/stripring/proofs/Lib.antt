@@ -10,3 +10,4 @@ pub mod SaysValues
 pub mod Hosted
 pub mod GivenLaws
 pub mod RefusesScheduler
+pub mod RefusesEnds

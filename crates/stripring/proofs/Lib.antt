@@ -1,5 +1,6 @@
 pub mod StandsLaws
 pub mod BackLaws
+pub mod AnyBits
 pub mod SentLaws
 pub mod FlatRun
 pub mod FlatReading

@@ -21,3 +21,4 @@ pub mod Results
 pub mod Back
 pub mod Hosted
 pub mod Given
+pub mod AnyBits

@@ -30,9 +30,7 @@ use Rattle.sched.specs.declared.list.ScheduledOperations.{ScheduledOperations}
 use Rattle.sched.specs.declared.list.ScheduledOperations.the-variants as list
 use Rattle.sched.specs.declared.operation.ScheduledOperation.{ScheduledOperation}
 use Rattle.sched.specs.declared.scheduler.RingBufferScheduler.{RingBufferScheduler}
-use Rattle.ends.specs.declared.reading_end.ReadCounter.{ReadCounter}
 use Rattle.ends.specs.declared.reading_end.ReadingEnd.{ReadingEnd}
-use Rattle.ends.specs.declared.writing_end.WrittenCounter.{WrittenCounter}
 use Rattle.ends.specs.declared.writing_end.WritingEnd.{WritingEnd}
 use Rattle.sched.specs.declared.operation.OperationType.{OperationType}
 use Rattle.sched.specs.declared.operation.OperationType.the-variants.{Read, Write}

@@ -1,8 +1,8 @@
 -- An answer that a library gives exactly when its table says so goes out with a refusal that is given exactly then: for each kind of
 -- answer, and any table.
 use Prim.Native.Nat.{ℕ}
-use mathlib.Core.Path.{_≡_, subst}
-use mathlib.Core.List.{List, []}
+use mathlib.Core.Path.{subst}
+use mathlib.Core.List.{List}
 use Rattle.sched.specs.Given as sched
 use Rattle.copies.specs.Given.{Verdict, Exactly, ofCopied}
 use Rattle.ends.specs.Promises.{ofWritingEnd, ofReadingEnd, ofWrote, ofGot, ofWritten, ofRead}

@@ -1,6 +1,6 @@
 -- The ends at the C face. Of any six functions whose outcomes the exports' attached contracts allow, each answer is the flat form of
 -- what the world of `ends` does, and a host that reads the answers back has demand 3. No definition of a call is named in the last.
-use Prim.Native.Nat.{ℕ, _<_}
+use Prim.Native.Nat.{ℕ}
 use mathlib.Core.Path.{_≡_, refl, sym, ap, subst, _∙_}
 use mathlib.Core.List.{List, []}
 use native.Mathlib.Omega.{arith}
@@ -14,11 +14,10 @@ use Rattle.sched.specs.declared.refusal.Refusal as sched
 use Rattle.sched.specs.declared.refusal.Refusal.the-variants.{ZeroBufferLength, BufferTooLarge, ItemsWrittenOutOfBounds, ItemsReadOutofBounds, DataAvailOutOfBounds, OperationTooLarge, OperationTooLong, InconsistentOperationType}
 use Rattle.copies.specs.declared.Refusal.the-variants.{Scheduler, RingMemory}
 use Rattle.ends.specs.Ends.{numberOf, WroteLeft, wroteLeft, GotLeft, gotLeft}
-use Rattle.ends.specs.Plain.{Calls, definitions, Demand3-of}
+use Rattle.ends.specs.Plain.{definitions, Demand3-of}
 use Rattle.ends.proofs.Plain.{demand3-plain}
 use Rattle.ends.specs.declared.reading_end.Got.{Got}
 use Rattle.ends.specs.declared.reading_end.Got.the-variants as got
-use Rattle.ends.specs.declared.reading_end.ReadCounter as ends-read
 use Rattle.ends.specs.declared.reading_end.ReadCounterAnswer as ends-read-answer
 use Rattle.ends.specs.declared.reading_end.ReadCounterAnswer.the-variants as readCounter
 use Rattle.ends.specs.declared.reading_end.ReadingEnd as ends-reading
@@ -31,7 +30,6 @@ use Rattle.ends.specs.declared.writing_end.WritingEndAnswer as ends-writing-ans
 use Rattle.ends.specs.declared.writing_end.WritingEndAnswer.the-variants as writing
 use Rattle.ends.specs.declared.writing_end.Wrote.{Wrote}
 use Rattle.ends.specs.declared.writing_end.Wrote.the-variants as wrote
-use Rattle.ends.specs.declared.writing_end.WrittenCounter as ends-written
 use Rattle.ends.specs.declared.writing_end.WrittenCounterAnswer as ends-written-answer
 use Rattle.ends.specs.declared.writing_end.WrittenCounterAnswer.the-variants as writtenCounter
 use Rattle.stripring.specs.Flat.{flatRefusal, flatEndRefusal}

@@ -1,6 +1,5 @@
 -- What goes out stands for what was flattened: specs/Stands.antt, of every flat form.
-use Prim.Native.Nat.{ℕ}
-use mathlib.Core.Path.{_≡_, refl}
+use mathlib.Core.Path.{refl}
 use mathlib.Core.Bool.{Bool, true, false}
 use Rattle.modular.specs.declared.OptionModulus.{OptionModulus}
 use Rattle.modular.specs.declared.OptionModulus.the-variants as modulus
@@ -42,11 +41,11 @@ use Rattle.receiver.specs.declared.state.OperationalState.{OperationalState}
 use Rattle.receiver.specs.declared.state.OperationalState.the-variants.{Normal, Draining, Terminated}
 use Rattle.receiver.specs.declared.state.Violation.{Violation}
 use Rattle.receiver.specs.declared.state.Violation.the-variants.{InvalidChunkAnnouncement, ControlOverflow, UnknownHeader, InvalidChunkLength}
-use Rattle.stripring.specs.Block.{blockTypeNumber, bitNumber, layoutNumber, fillStateNumber, noBlock, flatBlock}
-use Rattle.stripring.specs.Call.{noEnding, noPhase, noCall, flatEnding, flatPhase, flatCall}
+use Rattle.stripring.specs.Block.{blockTypeNumber, bitNumber, layoutNumber, fillStateNumber, flatBlock}
+use Rattle.stripring.specs.Call.{noEnding, noCall, flatEnding, flatPhase, flatCall}
 use Rattle.stripring.specs.Counter.{boolNumber}
 use Rattle.stripring.specs.Diff.{flatDiff}
-use Rattle.stripring.specs.Failure.{noFailure, flatFailure}
+use Rattle.stripring.specs.Failure.{flatFailure}
 use Rattle.stripring.specs.List.{flatOperations, flatRange, flatRanges}
 use Rattle.stripring.specs.Modulus.{flatModulus, flatNumber}
 use Rattle.stripring.specs.Operation.{flatOperation}

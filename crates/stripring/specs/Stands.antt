@@ -4,7 +4,6 @@
 use Prim.Native.Nat.{ℕ}
 use mathlib.Core.Path.{_≡_}
 use mathlib.Core.Bool.{Bool, true, false}
-use Rattle.modular.specs.declared.Modulus.{Modulus}
 use Rattle.modular.specs.declared.OptionModulus.{OptionModulus}
 use Rattle.modular.specs.declared.OptionModulus.the-variants as modulus
 use Rattle.modular.specs.declared.OptionNumber.{OptionNumber}

@@ -8,6 +8,10 @@ pub mod SaysEnds
 pub mod SaysReceiver
 pub mod SaysScheduler
 pub mod SaysValues
+pub mod Thin
+pub mod ThinScheduler
+pub mod ThinBlocks
+pub mod ThinValues
 pub mod Hosted
 pub mod GivenLaws
 pub mod RefusesScheduler

@@ -1,9 +1,37 @@
--- A call that goes out flat comes back in as it was, so that a host drives it as the receiver itself would.
+-- Whatever goes out flat comes back in as it was: so a host drives a call in progress as the receiver itself would. That the fields
+-- have the right names is in StandsLaws.antt.
 use Prim.Native.Nat.{ℕ}
 use mathlib.Core.Path.{_≡_, refl, ap}
 use mathlib.Core.Bool.{Bool, true, false}
 use mathlib.Core.List.{List}
+use Rattle.modular.specs.declared.OptionModulus.{OptionModulus}
+use Rattle.modular.specs.declared.OptionModulus.the-variants as modulus
+use Rattle.modular.specs.declared.OptionNumber.{OptionNumber}
+use Rattle.modular.specs.declared.OptionNumber.the-variants as number
 use Rattle.sched.specs.Refusal.{typeNumber}
+use Rattle.sched.specs.declared.block.Bit.{Bit}
+use Rattle.sched.specs.declared.block.Bit.the-variants.{Zero, One}
+use Rattle.sched.specs.declared.block.Block.{Block}
+use Rattle.sched.specs.declared.block.BlockType.{BlockType}
+use Rattle.sched.specs.declared.block.BlockType.the-variants.{Free, Data}
+use Rattle.sched.specs.declared.block.BufferFillState.{BufferFillState}
+use Rattle.sched.specs.declared.block.BufferFillState.the-variants.{Empty, Partial, Full}
+use Rattle.sched.specs.declared.block.BufferLayout.{BufferLayout}
+use Rattle.sched.specs.declared.block.BufferLayout.the-variants.{DataFreeData, FreeDataFree}
+use Rattle.sched.specs.declared.diff.Diff.{Diff}
+use Rattle.sched.specs.declared.diff.Diff.the-variants.{Same, Different}
+use Rattle.sched.specs.declared.list.CumulativeOffset.{CumulativeOffset}
+use Rattle.sched.specs.declared.list.CumulativeOffsets.{CumulativeOffsets}
+use Rattle.sched.specs.declared.list.CumulativeOffsets.the-variants as starts
+use Rattle.sched.specs.declared.list.OutsideRange.{OutsideRange}
+use Rattle.sched.specs.declared.list.OutsideRanges.{OutsideRanges}
+use Rattle.sched.specs.declared.list.OutsideRanges.the-variants as ranges
+use Rattle.sched.specs.declared.list.ScheduledOperations.{ScheduledOperations}
+use Rattle.sched.specs.declared.list.ScheduledOperations.the-variants as list
+use Rattle.sched.specs.declared.operation.ScheduledOperation.{ScheduledOperation}
+use Rattle.sched.specs.declared.scheduler.RingBufferScheduler.{RingBufferScheduler}
+use Rattle.ends.specs.declared.reading_end.ReadingEnd.{ReadingEnd}
+use Rattle.ends.specs.declared.writing_end.WritingEnd.{WritingEnd}
 use Rattle.sched.specs.declared.operation.OperationType.{OperationType}
 use Rattle.sched.specs.declared.operation.OperationType.the-variants.{Read, Write}
 use Rattle.sched.specs.declared.refusal.Refusal as sched
@@ -28,22 +56,108 @@ use Rattle.receiver.specs.declared.state.OperationalState.the-variants.{Normal,
 use Rattle.receiver.specs.declared.state.Violation.{Violation}
 use Rattle.receiver.specs.declared.state.Violation.the-variants.{InvalidChunkAnnouncement, ControlOverflow, UnknownHeader, InvalidChunkLength}
 use Rattle.receiver.specs.State.{violationNumber}
+use Rattle.stripring.specs.Back.{layoutAt, fillAt, blockAt, rangeAt, rangesAt, startAt, startsAt, modulusBack, numberBack}
+use Rattle.stripring.specs.Block.{blockTypeNumber, blockTypeAt, bitNumber, bitAt, flatBlock, layoutNumber, fillStateNumber}
 use Rattle.stripring.specs.Call.{endingAt, flatEnding, phaseAt, flatPhase, callAt, flatCall, flatStep}
 use Rattle.stripring.specs.Counter.{boolNumber}
+use Rattle.stripring.specs.Diff.{diffAt, flatDiff}
 use Rattle.stripring.specs.Failure.{violationAt, failureAt, flatFailure}
 use Rattle.stripring.specs.Flat.{flatRefusal, flatReceiverRefusal}
-use Rattle.stripring.specs.Operation.{typeAt}
+use Rattle.stripring.specs.List.{operationsAt, flatOperations, flatStarts, flatRange, flatRanges}
+use Rattle.stripring.specs.Modulus.{flatModulus, flatNumber}
+use Rattle.stripring.specs.Operation.{typeAt, operationAt, flatOperation}
 use Rattle.stripring.specs.Outcome.{outcomeAt, flatOutcome}
+use Rattle.stripring.specs.ReadingEnd.{readingEndAt, flatReadingEnd}
 use Rattle.stripring.specs.Receiver.{issuedAt, receiverAt, flatReceiver}
 use Rattle.stripring.specs.Refusal.{schedulerRefusalAt, receiverRefusalAt}
+use Rattle.stripring.specs.Scheduler.{schedulerAt, flatScheduler}
 use Rattle.stripring.specs.State.{stateAt, flatState}
+use Rattle.stripring.specs.WritingEnd.{writingEndAt, flatWritingEnd}
 
-type-back : (t : OperationType) → typeAt (typeNumber t) ≡ t
+-- ---- moduli and differences
+pub modulus-back : (m : OptionModulus) → modulusBack (flatModulus m) ≡ m
+unfolding modulusBack
+modulus-back (modulus.Some m) = refl
+modulus-back modulus.None = refl
+
+pub number-back : (n : OptionNumber) → numberBack (flatNumber n) ≡ n
+unfolding numberBack
+number-back (number.Some n) = refl
+number-back number.None = refl
+
+pub diff-back : (d : Diff) → diffAt (flatDiff d) ≡ d
+unfolding diffAt
+diff-back (Same v) = refl
+diff-back (Different x y) = refl
+
+-- ---- the scheduler, the ends, operations, lists and blocks
+pub scheduler-back : (s : RingBufferScheduler) → schedulerAt (flatScheduler s) ≡ s
+scheduler-back s = refl
+
+pub writing-end-back : (e : WritingEnd) → writingEndAt (flatWritingEnd e) ≡ e
+writing-end-back e = refl
+
+pub reading-end-back : (e : ReadingEnd) → readingEndAt (flatReadingEnd e) ≡ e
+reading-end-back e = refl
+
+pub type-back : (t : OperationType) → typeAt (typeNumber t) ≡ t
 unfolding typeAt
 type-back Read = refl
 type-back Write = refl
 
-scheduler-refusal-back : (e : sched.Refusal) → schedulerRefusalAt (flatRefusal e) ≡ e
+pub operation-back : (o : ScheduledOperation) → operationAt (flatOperation o) ≡ o
+operation-back o = rw (type-back (o .typ))
+
+pub operations-back : (ops : ScheduledOperations) → operationsAt (flatOperations ops) ≡ ops
+unfolding operationsAt
+operations-back list.None = refl
+operations-back (list.One x) = ap list.One (operation-back x)
+operations-back (list.Two x y) = rw (operation-back x, operation-back y)
+
+start-back : (x : CumulativeOffset) → startAt (x .start) (flatOperation (x .op)) ≡ x
+start-back x = rw (operation-back (x .op))
+
+pub starts-back : (ops : CumulativeOffsets) → startsAt (flatStarts ops) ≡ ops
+unfolding startsAt
+starts-back starts.None = refl
+starts-back (starts.One x) = ap starts.One (start-back x)
+starts-back (starts.Two x y) = rw (start-back x, start-back y)
+
+range-back : (x : OutsideRange) → rangeAt (flatRange x) ≡ x
+range-back x = rw (operation-back (x .op))
+
+pub ranges-back : (ops : OutsideRanges) → rangesAt (flatRanges ops) ≡ ops
+unfolding rangesAt
+ranges-back ranges.None = refl
+ranges-back (ranges.One x) = ap ranges.One (range-back x)
+ranges-back (ranges.Two x y) = rw (range-back x, range-back y)
+
+block-type-back : (t : BlockType) → blockTypeAt (blockTypeNumber t) ≡ t
+unfolding blockTypeAt
+block-type-back Free = refl
+block-type-back Data = refl
+
+bit-back : (b : Bit) → bitAt (bitNumber b) ≡ b
+unfolding bitAt
+bit-back Zero = refl
+bit-back One = refl
+
+pub block-back : (b : Block) → blockAt (flatBlock b) ≡ b
+block-back b = rw (block-type-back (b .typ), bit-back (b .no))
+
+pub layout-back : (l : BufferLayout) → layoutAt (layoutNumber l) ≡ l
+unfolding layoutAt
+layout-back DataFreeData = refl
+layout-back FreeDataFree = refl
+
+pub fill-back : (f : BufferFillState) → fillAt (fillStateNumber f) ≡ f
+unfolding fillAt
+fill-back Empty = refl
+fill-back Partial = refl
+fill-back Full = refl
+
+-- ---- refusals, states, and a call in progress
+pub scheduler-refusal-back : (e : sched.Refusal) → schedulerRefusalAt (flatRefusal e) ≡ e
 unfolding schedulerRefusalAt
 scheduler-refusal-back ZeroBufferLength = refl
 scheduler-refusal-back (BufferTooLarge n) = refl
@@ -66,7 +180,7 @@ by-scheduler (OperationTooLarge t n top) = refl
 by-scheduler (OperationTooLong n) = refl
 by-scheduler InconsistentOperationType = refl
 
-refusal-back : (e : Refusal) → receiverRefusalAt (flatReceiverRefusal e) ≡ e
+pub refusal-back : (e : Refusal) → receiverRefusalAt (flatReceiverRefusal e) ≡ e
 unfolding receiverRefusalAt
 refusal-back (Copy (Scheduler e)) = rw (by-scheduler e, scheduler-refusal-back e)
 refusal-back (Copy RingMemory) = refl
@@ -81,18 +195,18 @@ violation-back ControlOverflow = refl
 violation-back UnknownHeader = refl
 violation-back InvalidChunkLength = refl
 
-failure-back : (f : Failure) → failureAt (flatFailure f) ≡ f
+pub failure-back : (f : Failure) → failureAt (flatFailure f) ≡ f
 unfolding failureAt
 failure-back (Io e) = refl
 failure-back (Protocol v) = ap Protocol (violation-back v)
 
-state-back : (s : OperationalState) → stateAt (flatState s) ≡ s
+pub state-back : (s : OperationalState) → stateAt (flatState s) ≡ s
 unfolding stateAt
 state-back Normal = refl
 state-back (Draining f) = ap Draining (failure-back f)
 state-back (Terminated f) = ap Terminated (failure-back f)
 
-outcome-back : (o : Outcome) → outcomeAt (flatOutcome o) ≡ o
+pub outcome-back : (o : Outcome) → outcomeAt (flatOutcome o) ≡ o
 unfolding outcomeAt
 outcome-back (outcome.Read n fds) = refl
 outcome-back outcome.Done = refl
@@ -110,7 +224,7 @@ phase-back (phase.Send batch e) = ap (phase.Send batch) (ending-back e)
 phase-back (phase.Shutdown e) = ap phase.Shutdown (ending-back e)
 phase-back (phase.Finished o) = ap phase.Finished (outcome-back o)
 
-issued-back : (b : Bool) → issuedAt (boolNumber b) ≡ b
+pub issued-back : (b : Bool) → issuedAt (boolNumber b) ≡ b
 issued-back true = refl
 issued-back false = refl
 

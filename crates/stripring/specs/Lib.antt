@@ -16,3 +16,9 @@ pub mod Receiver
 pub mod Run
 pub mod Refusal
 pub mod Call
+pub mod Stands
+pub mod Results
+pub mod Back
+pub mod Hosted
+pub mod Given
+pub mod AnyBits

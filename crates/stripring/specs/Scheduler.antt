@@ -1,4 +1,5 @@
 -- What a host's scheduler stands for, and the flat forms of the answers that are one.
+use Prim.Native.Nat.{ℕ, _^_}
 use Rattle.sched.specs.declared.refusal.Refusal.{Refusal}
 use Rattle.sched.specs.declared.scheduler.Checked.{Checked}
 use Rattle.sched.specs.declared.scheduler.Checked.the-variants as checked
@@ -9,6 +10,9 @@ use Rattle.sched.specs.Scheduler.{schedulerOf}
 use Rattle.stripring.specs.declared.flat.Scheduler.{Scheduler}
 use Rattle.stripring.specs.declared.flat.SchedulerAnswer.{SchedulerAnswer}
 use Rattle.stripring.specs.Flat.{noRefusal, flatRefusal}
+
+abbrev pub maxBufLen : ℕ
+maxBufLen = 2 ^ 63
 
 abbrev pub schedulerAt : Scheduler → RingBufferScheduler
 schedulerAt s = schedulerOf (s .«buf_len») (record { 0 = s .«items_written» }) (record { 0 = s .«items_read» })

@@ -1,0 +1,44 @@
+-- Any bits stand for something: each reader tests a few numbers for equality, and none of those is the number given.
+use Prim.Native.Nat.{ℕ, _<_}
+use mathlib.Core.Path.{_≡_, refl}
+use mathlib.Core.Bool.{false}
+use native.Mathlib.Omega.{arith}
+use lib.Dec.{eqb}
+use borrow.Author.Tests.{ne-eqb}
+use Rattle.stripring.specs.AnyBits.{AnyBits}
+use Rattle.stripring.specs.Block.{blockTypeAt, bitAt}
+use Rattle.stripring.specs.Call.{endingAt, phaseAt}
+use Rattle.stripring.specs.Diff.{diffAt}
+use Rattle.stripring.specs.Failure.{violationAt, failureAt, potentialFailureAt}
+use Rattle.stripring.specs.List.{operationsAt}
+use Rattle.stripring.specs.Operation.{typeAt}
+use Rattle.stripring.specs.Outcome.{outcomeAt}
+use Rattle.stripring.specs.State.{stateAt}
+
+past : (k n : ℕ) → k < n → eqb n k ≡ false
+past k n l = ne-eqb n k (λ q. omega arith)
+
+-- past k, so past what is below it
+far : (j k n : ℕ) → j < k → k < n → eqb n j ≡ false
+far j k n i l = ne-eqb n j (λ q. omega arith)
+
+pub any-bits : AnyBits
+unfolding typeAt blockTypeAt bitAt diffAt potentialFailureAt failureAt endingAt operationsAt violationAt stateAt outcomeAt phaseAt
+any-bits =
+    record {
+      types = λ n l. rw (past 0 n l);
+      block-types = λ n l. rw (past 0 n l);
+      bits = λ n l. rw (past 0 n l);
+      bools = λ n l. rw (past 0 n l);
+      differences = λ d l. rw (past 0 (d .different) l);
+      same = λ d z. rw z;
+      potentials = λ n f l. rw (past 0 n l);
+      failures = λ f l. rw (past 0 (f .kind) l);
+      endings = λ e l. rw (past 0 (e .told) l);
+      lists = λ ops l. rw (far 0 1 (ops .count) (omega arith) l, past 1 (ops .count) l);
+      violations = λ n l. rw (far 1 3 n (omega arith) l, far 2 3 n (omega arith) l, past 3 n l);
+      no-violation = refl;
+      states = λ s l. rw (far 0 1 (s .kind) (omega arith) l, past 1 (s .kind) l);
+      outcomes = λ o l. rw (far 0 1 (o .kind) (omega arith) l, past 1 (o .kind) l);
+      phases = λ p l. rw (far 0 2 (p .kind) (omega arith) l, far 1 2 (p .kind) (omega arith) l, past 2 (p .kind) l);
+    }

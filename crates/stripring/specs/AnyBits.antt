@@ -1,0 +1,52 @@
+-- Any bits that a host hands in stand for something. What goes out is read back by BackLaws; these are the numbers that never go out.
+use Prim.Native.Nat.{ℕ, _<_}
+use mathlib.Core.Path.{_≡_}
+use mathlib.Core.Bool.{true}
+use Rattle.sched.specs.declared.block.Bit.the-variants.{One}
+use Rattle.sched.specs.declared.block.BlockType.the-variants.{Data}
+use Rattle.sched.specs.declared.diff.Diff.the-variants.{Same, Different}
+use Rattle.sched.specs.declared.list.ScheduledOperations.the-variants.{Two}
+use Rattle.sched.specs.declared.operation.OperationType.the-variants.{Write}
+use Rattle.receiver.specs.declared.call.Ending.the-variants.{Told}
+use Rattle.receiver.specs.declared.call.Phase.the-variants.{Finished}
+use Rattle.receiver.specs.declared.receiver.Outcome.the-variants.{Failed}
+use Rattle.receiver.specs.declared.state.Failure.the-variants.{Protocol}
+use Rattle.receiver.specs.declared.state.OperationalState.the-variants.{Terminated}
+use Rattle.receiver.specs.declared.state.PotentialFailure.the-variants.{Some}
+use Rattle.receiver.specs.declared.state.Violation.the-variants.{InvalidChunkLength}
+use Rattle.stripring.specs.Block.{blockTypeAt, bitAt}
+use Rattle.stripring.specs.Call.{endingAt, phaseAt}
+use Rattle.stripring.specs.Diff.{diffAt}
+use Rattle.stripring.specs.Failure.{violationAt, failureAt, potentialFailureAt}
+use Rattle.stripring.specs.List.{operationsAt}
+use Rattle.stripring.specs.Operation.{typeAt, operationAt}
+use Rattle.stripring.specs.Outcome.{outcomeAt}
+use Rattle.stripring.specs.Receiver.{issuedAt}
+use Rattle.stripring.specs.State.{stateAt}
+use Rattle.stripring.specs.declared.flat.Diff.{Diff}
+use Rattle.stripring.specs.declared.flat.Ending.{Ending}
+use Rattle.stripring.specs.declared.flat.Failure.{Failure}
+use Rattle.stripring.specs.declared.flat.Operations.{Operations}
+use Rattle.stripring.specs.declared.flat.Outcome.{Outcome}
+use Rattle.stripring.specs.declared.flat.Phase.{Phase}
+use Rattle.stripring.specs.declared.flat.State.{State}
+
+pub record AnyBits : Type 0 where
+  -- any number but 0 is the second of two
+  pub types : (n : ℕ) → 0 < n → typeAt n ≡ Write
+  pub block-types : (n : ℕ) → 0 < n → blockTypeAt n ≡ Data
+  pub bits : (n : ℕ) → 0 < n → bitAt n ≡ One
+  pub bools : (n : ℕ) → 0 < n → issuedAt n ≡ true
+  pub differences : (d : Diff) → 0 < d .different → diffAt d ≡ Different (d .old) (d .new)
+  -- and where it is 0 `new` is not looked at
+  pub same : (d : Diff) → d .different ≡ 0 → diffAt d ≡ Same (d .old)
+  pub potentials : (n : ℕ) (f : Failure) → 0 < n → potentialFailureAt n f ≡ Some (failureAt f)
+  pub failures : (f : Failure) → 0 < f .kind → failureAt f ≡ Protocol (violationAt (f .value))
+  pub endings : (e : Ending) → 0 < e .told → endingAt e ≡ Told (outcomeAt (e .outcome))
+  -- any number past the last is the last
+  pub lists : (ops : Operations) → 1 < ops .count → operationsAt ops ≡ Two (operationAt (ops .first)) (operationAt (ops .second))
+  pub violations : (n : ℕ) → 3 < n → violationAt n ≡ InvalidChunkLength
+  pub no-violation : violationAt 0 ≡ InvalidChunkLength
+  pub states : (s : State) → 1 < s .kind → stateAt s ≡ Terminated (failureAt (s .failure))
+  pub outcomes : (o : Outcome) → 1 < o .kind → outcomeAt o ≡ Failed (failureAt (o .failure))
+  pub phases : (p : Phase) → 2 < p .kind → phaseAt p ≡ Finished (outcomeAt (p .outcome))

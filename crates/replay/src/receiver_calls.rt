@@ -1,5 +1,6 @@
 // The receiver's calls, made by the driver over the answers of a line.
 use crate::lent_run;
+use crate::lent_run::MOST;
 use crate::line::Line;
 use crate::receiver_answers;
 use receiver::Answer;
@@ -15,7 +16,7 @@ const BEFORE: u8 = 170;
 // A service or a shutdown, which looks at no ring.
 pub fn without_ring(line: Line, op: u64, receiver: ReceiverState) -> Line {
     let n = line.number(9) as usize;
-    if n > lent_run::MOST {
+    if n > MOST {
         return line.bad();
     }
     let run = answers(line, 10);
@@ -23,15 +24,7 @@ pub fn without_ring(line: Line, op: u64, receiver: ReceiverState) -> Line {
         10 => lent_run::service_chunk_acknowledgements(receiver, run, n),
         _ => lent_run::shutdown(receiver, run, n),
     };
-    let asked = asked(line, 9);
-    match ended {
-        Ended::Accepted {
-            receiver,
-            outcome,
-            used,
-        } => receiver_answers::accepted(asked, receiver, outcome, used),
-        Ended::Refused(e) => receiver_answers::refused(asked, e),
-    }
+    told(asked(line, 9), ended, &[])
 }
 
 pub fn read(line: Line, op: u64, receiver: ReceiverState) -> Line {
@@ -72,20 +65,21 @@ fn read_over(
 ) -> Line {
     let max = line.number(at);
     let n = line.number(after(at, 1)) as usize;
-    if n > lent_run::MOST {
+    if n > MOST {
         return line.bad();
     }
     let run = answers(line, after(at, 2));
     let asked = asked(line, after(at, 1));
     if op == 8 {
         let ended = lent_run::read_with_fds(receiver, ring, dst, max, run, n);
-        return read_to(asked, ended, dst);
+        return told(asked, ended, dst);
     }
     let ended = lent_run::read_with_fds_impl(receiver, ring, dst, max, run, n);
-    read_to(asked, ended, dst)
+    told(asked, ended, dst)
 }
 
-fn read_to(asked: Line, ended: Ended, dst: &[u8]) -> Line {
+// An accepted call is told with every byte of its destination.
+fn told(asked: Line, ended: Ended, dst: &[u8]) -> Line {
     match ended {
         Ended::Accepted {
             receiver,
@@ -108,10 +102,10 @@ fn asked(line: Line, at: u64) -> Line {
 }
 
 // What stands behind the answers is taken too, whatever it is, and never lent.
-fn answers(line: Line, at: u64) -> [Answer; 16] {
-    let mut run = [answer(line, at); 16];
+fn answers(line: Line, at: u64) -> [Answer; MOST] {
+    let mut run = [answer(line, at); MOST];
     let mut place = at;
-    for i in 0..16 {
+    for i in 0..MOST {
         run[i] = answer(line, place);
         place = after(place, 3);
     }

@@ -1,4 +1,5 @@
 // Replays the lists of answers that the original Rust gave: each in a file of data/, each against the Rattle code.
+mod lent_run;
 mod line;
 mod list;
 mod modular_list;

@@ -1,17 +1,11 @@
-// The receiver's calls over the answers of a line. What lends a slice of answers is proved by hand, so a call is begun here and
-// handed answer after answer, as `driver` does it.
+// The receiver's calls, made by the driver over the answers of a line.
+use crate::lent_run;
+use crate::lent_run::MOST;
 use crate::line::Line;
 use crate::receiver_answers;
-use driver::Driven;
 use receiver::Answer;
-use receiver::Call;
 use receiver::Ended;
-use receiver::Failure;
-use receiver::Outcome;
-use receiver::Phase;
 use receiver::ReceiverState;
-use receiver::Refusal;
-use receiver::Step;
 
 // The most bytes of a ring and of a destination. A line that says more is bad.
 const ROOM: usize = 64;
@@ -20,43 +14,27 @@ const ROOM: usize = 64;
 const BEFORE: u8 = 170;
 
 // A service or a shutdown, which looks at no ring.
-pub fn without_ring(line: Line, begun: Step) -> Line {
-    let none: [u8; 0] = [];
-    let driven = drive(line, 9, begun, &none);
-    let asked = asked(line, 9);
-    match ended(driven) {
-        Ended::Accepted {
-            receiver,
-            outcome,
-            used,
-        } => receiver_answers::accepted(asked, receiver, outcome, used),
-        Ended::Refused(e) => receiver_answers::refused(asked, e),
+pub fn without_ring(line: Line, op: u64, receiver: ReceiverState) -> Line {
+    let n = line.number(9) as usize;
+    if n > MOST {
+        return line.bad();
     }
+    let run = answers(line, 10);
+    let ended = match op {
+        10 => lent_run::service_chunk_acknowledgements(receiver, run, n),
+        _ => lent_run::shutdown(receiver, run, n),
+    };
+    told(asked(line, 9), ended, &[])
 }
 
-// The end of the stream, failure 32, is told as a read of 0 bytes.
-pub fn read_with_fds(line: Line, receiver: ReceiverState) -> Line {
-    read(line, receiver, true)
-}
-
-pub fn read_with_fds_impl(line: Line, receiver: ReceiverState) -> Line {
-    read(line, receiver, false)
-}
-
-fn read(line: Line, receiver: ReceiverState, end_as_read: bool) -> Line {
+pub fn read(line: Line, op: u64, receiver: ReceiverState) -> Line {
     let ring = ring_bytes(line);
     let mut dst = [BEFORE; ROOM];
-    read_in(line, receiver, end_as_read, &ring, &mut dst)
+    read_in(line, op, receiver, &ring, &mut dst)
 }
 
 // Of each memory only the front, as long as the line says, is lent to the call.
-fn read_in(
-    line: Line,
-    receiver: ReceiverState,
-    end_as_read: bool,
-    ring: &[u8],
-    dst: &mut [u8],
-) -> Line {
+fn read_in(line: Line, op: u64, receiver: ReceiverState, ring: &[u8], dst: &mut [u8]) -> Line {
     let at = after(10, line.numbers[9]);
     let ring_len = line.numbers[9] as usize;
     let dst_len = line.number(at) as usize;
@@ -69,8 +47,8 @@ fn read_in(
     read_over(
         line,
         after(at, 1),
+        op,
         receiver,
-        end_as_read,
         &ring[0..ring_len],
         &mut dst[0..dst_len],
     )
@@ -80,120 +58,58 @@ fn read_in(
 fn read_over(
     line: Line,
     at: u64,
+    op: u64,
     receiver: ReceiverState,
-    end_as_read: bool,
     ring: &[u8],
     dst: &mut [u8],
 ) -> Line {
-    let answers = after(at, 1);
-    let begun = Call::begin_read(receiver, ring.len(), line.number(at), dst.len() as u64);
-    let driven = drive(line, answers, begun, ring);
-    read_to(asked(line, answers), driven, end_as_read, ring, dst)
+    let max = line.number(at);
+    let n = line.number(after(at, 1)) as usize;
+    if n > MOST {
+        return line.bad();
+    }
+    let run = answers(line, after(at, 2));
+    let asked = asked(line, after(at, 1));
+    if op == 8 {
+        let ended = lent_run::read_with_fds(receiver, ring, dst, max, run, n);
+        return told(asked, ended, dst);
+    }
+    let ended = lent_run::read_with_fds_impl(receiver, ring, dst, max, run, n);
+    told(asked, ended, dst)
 }
 
-fn read_to(asked: Line, driven: Driven, end_as_read: bool, ring: &[u8], dst: &mut [u8]) -> Line {
-    let step = driven.step;
-    match ended(driven) {
+// An accepted call is told with every byte of its destination.
+fn told(asked: Line, ended: Ended, dst: &[u8]) -> Line {
+    match ended {
         Ended::Accepted {
             receiver,
             outcome,
             used,
         } => {
-            deliver(outcome, step, ring, dst);
-            let answer = receiver_answers::accepted(
-                asked,
-                receiver,
-                told(outcome, end_as_read),
-                used,
-            );
+            let answer = receiver_answers::accepted(asked, receiver, outcome, used);
             receiver_answers::with_bytes(answer, dst)
         }
         Ended::Refused(e) => receiver_answers::refused(asked, e),
     }
 }
 
-// The destination is written last, by a read that is accepted.
-fn deliver(outcome: Outcome, step: Step, ring: &[u8], dst: &mut [u8]) {
-    if let Outcome::Read { .. } = outcome {
-        if let Step::Of(call) = step {
-            let source = call.source;
-            copies::read(source, ring, dst);
-        }
-    }
-}
-
-fn told(outcome: Outcome, end_as_read: bool) -> Outcome {
-    if let Outcome::Failed(f) = outcome {
-        if end_as_read && is_end(f) {
-            return Outcome::Read { n: 0, fds: 0 };
-        }
-    }
-    outcome
-}
-
-fn is_end(failure: Failure) -> bool {
-    match failure {
-        Failure::Io(errno) => errno == Failure::SHUTDOWN,
-        Failure::Protocol(_) => false,
-    }
-}
-
-// `at` is the place of the answers' count.
-fn drive(line: Line, at: u64, begun: Step, ring: &[u8]) -> Driven {
-    let count = line.number(at);
-    let mut step = begun;
-    let mut used: u64 = 0;
-    let mut place = after(at, 1);
-    while used < count && !is_over(step) {
-        used += 1;
-        step = answered(step, ring, answer(line, place), used);
-        place = after(place, 3);
-    }
-    Driven { step, used }
-}
-
-fn is_over(step: Step) -> bool {
-    match step {
-        Step::Of(call) => call.is_over(),
-        Step::Refused(_) => true,
-    }
-}
-
-fn answered(step: Step, ring: &[u8], answer: Answer, place: u64) -> Step {
-    match step {
-        Step::Of(call) => call.answered(ring, answer, place),
-        Step::Refused(e) => Step::Refused(e),
-    }
-}
-
-// A call that still waits where the answers are used up is refused with 11.
-fn ended(driven: Driven) -> Ended {
-    let step = driven.step;
-    match step {
-        Step::Of(call) => ended_in(call, driven.used),
-        Step::Refused(e) => Ended::Refused(e),
-    }
-}
-
-fn ended_in(call: Call, used: u64) -> Ended {
-    let receiver = call.receiver;
-    let phase = call.phase;
-    match phase {
-        Phase::Finished(outcome) => Ended::Accepted {
-            receiver,
-            outcome,
-            used,
-        },
-        _ => Ended::Refused(Refusal::AnswerMissing),
-    }
-}
-
 // ---- what the calls take
 
-// The line up to the last answer.
+// The line up to the last answer. `at` is the place of the answers' count.
 fn asked(line: Line, at: u64) -> Line {
     let count = line.number(at);
     line.first(after(after(at, 1), after(count, after(count, count))) as usize)
+}
+
+// What stands behind the answers is taken too, whatever it is, and never lent.
+fn answers(line: Line, at: u64) -> [Answer; MOST] {
+    let mut run = [answer(line, at); MOST];
+    let mut place = at;
+    for i in 0..MOST {
+        run[i] = answer(line, place);
+        place = after(place, 3);
+    }
+    run
 }
 
 fn answer(line: Line, at: u64) -> Answer {

@@ -3,7 +3,6 @@ use crate::line::Line;
 use crate::receiver_answers;
 use crate::receiver_calls;
 use crate::sched_list::scheduler;
-use receiver::Call;
 use receiver::Failure;
 use receiver::OperationalState;
 use receiver::PotentialFailure;
@@ -16,10 +15,8 @@ pub fn by_code(line: Line) -> Line {
         0 => receiver_answers::made(line.first(4), ReceiverState::new(scheduler(line))),
         1..=5 => of_state(line, op),
         6..=7 => of_failure(line, op),
-        8 => receiver_calls::read_with_fds(line, receiver(line)),
-        9 => receiver_calls::read_with_fds_impl(line, receiver(line)),
-        10 => receiver_calls::without_ring(line, Call::begin_service(receiver(line))),
-        11 => receiver_calls::without_ring(line, Call::begin_shutdown(receiver(line))),
+        8..=9 => receiver_calls::read(line, op, receiver(line)),
+        10..=11 => receiver_calls::without_ring(line, op, receiver(line)),
         _ => line.bad(),
     }
 }

@@ -1,0 +1,3 @@
+mod Lending
+mod LentRun
+mod LentReading

@@ -15,17 +15,13 @@ use receiver::Violation;
 
 pub fn refused(asked: Line, e: Refusal) -> Line {
     match e {
-        Refusal::Copy(by_copy) => refused_copy(asked, by_copy),
+        Refusal::Copy(by_copy) => match by_copy {
+            copies::Refusal::Scheduler(by_scheduler) => sched_answers::refused(asked, by_scheduler),
+            copies::Refusal::RingMemory => asked.push(9),
+        },
         Refusal::AnswerMissing => asked.push(11),
         Refusal::Misfit { place } => asked.push(12).push(place),
         Refusal::PendingFull => asked.push(13),
-    }
-}
-
-fn refused_copy(asked: Line, e: copies::Refusal) -> Line {
-    match e {
-        copies::Refusal::Scheduler(by_scheduler) => sched_answers::refused(asked, by_scheduler),
-        copies::Refusal::RingMemory => asked.push(9),
     }
 }
 
@@ -98,16 +94,12 @@ fn with_potential_failure(line: Line, potential: PotentialFailure) -> Line {
 fn with_failure(line: Line, failure: Failure) -> Line {
     match failure {
         Failure::Io(errno) => line.push(0).push(errno),
-        Failure::Protocol(violation) => line.push(1).push(violation_number(violation)),
-    }
-}
-
-fn violation_number(violation: Violation) -> u64 {
-    match violation {
-        Violation::InvalidChunkAnnouncement => 1,
-        Violation::ControlOverflow => 2,
-        Violation::UnknownHeader => 3,
-        Violation::InvalidChunkLength => 4,
+        Failure::Protocol(violation) => match violation {
+            Violation::InvalidChunkAnnouncement => line.push(1).push(1),
+            Violation::ControlOverflow => line.push(1).push(2),
+            Violation::UnknownHeader => line.push(1).push(3),
+            Violation::InvalidChunkLength => line.push(1).push(4),
+        },
     }
 }
 

@@ -124,13 +124,10 @@ fn answer(line: Line, at: u64) -> Answer {
 fn ring_bytes(line: Line) -> [u8; ROOM] {
     let mut bytes = [0u8; ROOM];
     for i in 0..ROOM {
-        bytes[i] = byte(line.numbers[10 + i]);
+        let number = line.numbers[10 + i];
+        bytes[i] = (number % 256) as u8;
     }
     bytes
-}
-
-fn byte(number: u64) -> u8 {
-    (number % 256) as u8
 }
 
 // On a line of the list no place is above 128, so the sum does not wrap.

@@ -104,30 +104,22 @@ pub fn truth(asked: Line, answer: BoolAnswer) -> Line {
 
 pub fn fill_state(asked: Line, answer: FillStateAnswer) -> Line {
     match answer {
-        FillStateAnswer::Of(f) => number(asked, fill_number(f)),
+        FillStateAnswer::Of(fill) => match fill {
+            BufferFillState::Empty => number(asked, 0),
+            BufferFillState::Partial => number(asked, 1),
+            BufferFillState::Full => number(asked, 2),
+        },
         FillStateAnswer::Refused(e) => refused(asked, e),
-    }
-}
-
-fn fill_number(fill: BufferFillState) -> u64 {
-    match fill {
-        BufferFillState::Empty => 0,
-        BufferFillState::Partial => 1,
-        BufferFillState::Full => 2,
     }
 }
 
 pub fn layout(asked: Line, answer: LayoutAnswer) -> Line {
     match answer {
-        LayoutAnswer::Of(l) => number(asked, layout_number(l)),
+        LayoutAnswer::Of(layout) => match layout {
+            BufferLayout::DataFreeData => number(asked, 0),
+            BufferLayout::FreeDataFree => number(asked, 1),
+        },
         LayoutAnswer::Refused(e) => refused(asked, e),
-    }
-}
-
-fn layout_number(layout: BufferLayout) -> u64 {
-    match layout {
-        BufferLayout::DataFreeData => 0,
-        BufferLayout::FreeDataFree => 1,
     }
 }
 
@@ -190,15 +182,11 @@ fn bit_number(bit: Bit) -> u64 {
 
 pub fn next_operation(asked: Line, answer: NextOperationAnswer) -> Line {
     match answer {
-        NextOperationAnswer::Of(next) => with_next(asked.push(0), next),
+        NextOperationAnswer::Of(next) => match next {
+            NextOperation::Some(op) => with_operation(number(asked, 1), op),
+            NextOperation::None => number(asked, 0),
+        },
         NextOperationAnswer::Refused(e) => refused(asked, e),
-    }
-}
-
-fn with_next(line: Line, next: NextOperation) -> Line {
-    match next {
-        NextOperation::Some(op) => with_operation(line.push(1), op),
-        NextOperation::None => line.push(0),
     }
 }
 
@@ -216,31 +204,26 @@ fn with_type(line: Line, typ: OperationType) -> Line {
 
 pub fn operations(asked: Line, answer: OperationsAnswer) -> Line {
     match answer {
-        OperationsAnswer::Of(list) => with_list(asked.push(0), list),
+        OperationsAnswer::Of(list) => match list {
+            ScheduledOperations::None => number(asked, 0),
+            ScheduledOperations::One(a) => with_operation(number(asked, 1), a),
+            ScheduledOperations::Two(a, b) => with_operation(
+                with_operation(number(asked, 2), a),
+                b,
+            ),
+        },
         OperationsAnswer::Refused(e) => refused(asked, e),
-    }
-}
-
-fn with_list(line: Line, list: ScheduledOperations) -> Line {
-    match list {
-        ScheduledOperations::None => line.push(0),
-        ScheduledOperations::One(a) => with_operation(line.push(1), a),
-        ScheduledOperations::Two(a, b) => with_operation(with_operation(line.push(2), a), b),
     }
 }
 
 pub fn starts(asked: Line, answer: CumulativeOffsetsAnswer) -> Line {
     match answer {
-        CumulativeOffsetsAnswer::Of(list) => with_starts(asked.push(0), list),
+        CumulativeOffsetsAnswer::Of(list) => match list {
+            CumulativeOffsets::None => number(asked, 0),
+            CumulativeOffsets::One(a) => with_start(number(asked, 1), a),
+            CumulativeOffsets::Two(a, b) => with_start(with_start(number(asked, 2), a), b),
+        },
         CumulativeOffsetsAnswer::Refused(e) => refused(asked, e),
-    }
-}
-
-fn with_starts(line: Line, list: CumulativeOffsets) -> Line {
-    match list {
-        CumulativeOffsets::None => line.push(0),
-        CumulativeOffsets::One(a) => with_start(line.push(1), a),
-        CumulativeOffsets::Two(a, b) => with_start(with_start(line.push(2), a), b),
     }
 }
 
@@ -251,16 +234,12 @@ fn with_start(line: Line, at: CumulativeOffset) -> Line {
 
 pub fn ranges(asked: Line, answer: OutsideRangesAnswer) -> Line {
     match answer {
-        OutsideRangesAnswer::Of(list) => with_ranges(asked.push(0), list),
+        OutsideRangesAnswer::Of(list) => match list {
+            OutsideRanges::None => number(asked, 0),
+            OutsideRanges::One(a) => with_range(number(asked, 1), a),
+            OutsideRanges::Two(a, b) => with_range(with_range(number(asked, 2), a), b),
+        },
         OutsideRangesAnswer::Refused(e) => refused(asked, e),
-    }
-}
-
-fn with_ranges(line: Line, list: OutsideRanges) -> Line {
-    match list {
-        OutsideRanges::None => line.push(0),
-        OutsideRanges::One(a) => with_range(line.push(1), a),
-        OutsideRanges::Two(a, b) => with_range(with_range(line.push(2), a), b),
     }
 }
 

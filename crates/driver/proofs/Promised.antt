@@ -26,7 +26,7 @@ use Rattle.driver.specs.Drive.{drivenOf, endedOf, endOfStreamIn}
 use Rattle.driver.specs.Promise.{Uses, FillsBy, Fills, MayLeave}
 use Rattle.driver.specs.Run.{ServiceLeaves, ShutdownLeaves, ReadImplLeaves, ReadLeaves}
 use Rattle.driver.proofs.Driven.{service-ended, shutdown-ended, read-ended}
-use Rattle.driver.proofs.Says.{service-says, shutdown-says, read-says, read-impl-says}
+use Rattle.driver.proofs.Says.{service-chunk-acknowledgements-says, shutdown-says, read-with-fds-says, read-with-fds-impl-says}
 use Rattle.driver.proofs.Used.{driven-uses}
 
 -- ---- how many answers were used
@@ -52,7 +52,7 @@ turned (refused r) = refl
 
 module _ (q : ReceiverState) (runs : List Answer → Ended) where
   pub service-uses : ((xs : List Answer) → ServiceLeaves q xs (runs xs)) → (answers : List Answer) → Uses runs answers (runs answers)
-  service-uses h = uses-driven (beginServiceOf q) [] runs (λ xs. service-ended q [] xs ∙ sym (service-says q xs (runs xs) (h xs)))
+  service-uses h = uses-driven (beginServiceOf q) [] runs (λ xs. service-ended q [] xs ∙ sym (service-chunk-acknowledgements-says q xs (runs xs) (h xs)))
 
   pub shutdown-uses : ((xs : List Answer) → ShutdownLeaves q xs (runs xs)) → (answers : List Answer) → Uses runs answers (runs answers)
   shutdown-uses h = uses-driven (beginShutdownOf q) [] runs (λ xs. shutdown-ended q [] xs ∙ sym (shutdown-says q xs (runs xs) (h xs)))
@@ -66,13 +66,13 @@ module _ (q : ReceiverState) (runs : List Answer → Ended) where
 
     pub read-impl-uses : ((xs : List Answer) → ReadImplLeaves q ring dst top xs (runs xs) (left xs)) → (answers : List Answer) → Uses runs answers (runs answers)
     read-impl-uses h answers =
-        let e : (xs : List Answer) → impl xs ≡ runs xs = λ xs. sym (read-impl-says q ring dst top xs (runs xs) (left xs) (h xs) .0 ∙ delivered ring dst (readImplOf q ring (length dst) top xs)) in
+        let e : (xs : List Answer) → impl xs ≡ runs xs = λ xs. sym (read-with-fds-impl-says q ring dst top xs (runs xs) (left xs) (h xs) .0 ∙ delivered ring dst (readImplOf q ring (length dst) top xs)) in
         subst (Uses runs answers) (e answers) (uses-same impl runs e answers (impl answers) (impl-uses answers))
 
     pub read-uses : ((xs : List Answer) → ReadLeaves q ring dst top xs (runs xs) (left xs)) → (answers : List Answer) → Uses runs answers (runs answers)
     read-uses h answers =
         let e : (xs : List Answer) → endOfStreamIn (impl xs) ≡ runs xs =
-        λ xs. sym (read-says q ring dst top xs (runs xs) (left xs) (h xs) .0 ∙ delivered ring dst (readOf q ring (length dst) top xs) ∙ turned (readImplOf q ring (length dst) top xs)) in
+        λ xs. sym (read-with-fds-says q ring dst top xs (runs xs) (left xs) (h xs) .0 ∙ delivered ring dst (readOf q ring (length dst) top xs) ∙ turned (readImplOf q ring (length dst) top xs)) in
         subst (Uses runs answers) (e answers) (uses-same (λ xs. endOfStreamIn (impl xs)) runs e answers (endOfStreamIn (impl answers)) (uses-turned impl answers (impl answers) (impl-uses answers)))
 
 -- ---- what of the destination stays
@@ -106,12 +106,12 @@ module _ (ring dst : List ℕ) where
 
 -- ---- the pending sum
 left-by : (q : ReceiverState) (c : Asked) (r : Ended) → MayLeave q c r → r ≡ endsOf q c
-left-by q (services answers) r p = service-says q answers r p
+left-by q (services answers) r p = service-chunk-acknowledgements-says q answers r p
 left-by q (shuts answers) r p = shutdown-says q answers r p
 left-by q (readsImpl ring asked top answers) r (dst, l, (left, p)) =
-    read-impl-says q ring dst top answers r left p .0 ∙ delivered ring dst (readImplOf q ring (length dst) top answers) ∙ ap (λ (n : ℕ). endedFrom (readImplOf q ring n top answers)) l
+    read-with-fds-impl-says q ring dst top answers r left p .0 ∙ delivered ring dst (readImplOf q ring (length dst) top answers) ∙ ap (λ (n : ℕ). endedFrom (readImplOf q ring n top answers)) l
 left-by q (reads ring asked top answers) r (dst, l, (left, p)) =
-    read-says q ring dst top answers r left p .0 ∙ delivered ring dst (readOf q ring (length dst) top answers) ∙ ap (λ (n : ℕ). endedFrom (readOf q ring n top answers)) l
+    read-with-fds-says q ring dst top answers r left p .0 ∙ delivered ring dst (readOf q ring (length dst) top answers) ∙ ap (λ (n : ℕ). endedFrom (readOf q ring n top answers)) l
 
 pub pending-promised : (ends : ReceiverState → Asked → Ended) → ((q : ReceiverState) (c : Asked) → MayLeave q c (ends q c)) → (cs : List Asked) (q : ReceiverState) →
     after ends q cs .«pending_ack_count» + allSent ends q cs ≡ q .«pending_ack_count» + allWhole ends q cs

@@ -15,16 +15,16 @@ pub fetch-says : (answers : List Answer) (i : ℕ) (r : Fetched) → FetchLeaves
 fetch-says answers i r p = p
 
 -- the receiver, the ring, the destination, the most descriptors, and the run
-pub read-says : (q : ReceiverState) (ring dst : List ℕ) (top : ℕ) (answers : List Answer) (r : Ended) (left : List ℕ) → ReadLeaves q ring dst top answers r left →
+pub read-with-fds-says : (q : ReceiverState) (ring dst : List ℕ) (top : ℕ) (answers : List Answer) (r : Ended) (left : List ℕ) → ReadLeaves q ring dst top answers r left →
     (r ≡ readDelivery q ring dst top answers .answer) × (left ≡ readDelivery q ring dst top answers .memory)
-read-says q ring dst top answers r left p = (ap (λ (d : Delivery). d .answer) p, ap (λ (d : Delivery). d .memory) p)
+read-with-fds-says q ring dst top answers r left p = (ap (λ (d : Delivery). d .answer) p, ap (λ (d : Delivery). d .memory) p)
 
-pub read-impl-says : (q : ReceiverState) (ring dst : List ℕ) (top : ℕ) (answers : List Answer) (r : Ended) (left : List ℕ) → ReadImplLeaves q ring dst top answers r left →
+pub read-with-fds-impl-says : (q : ReceiverState) (ring dst : List ℕ) (top : ℕ) (answers : List Answer) (r : Ended) (left : List ℕ) → ReadImplLeaves q ring dst top answers r left →
     (r ≡ readImplDelivery q ring dst top answers .answer) × (left ≡ readImplDelivery q ring dst top answers .memory)
-read-impl-says q ring dst top answers r left p = (ap (λ (d : Delivery). d .answer) p, ap (λ (d : Delivery). d .memory) p)
+read-with-fds-impl-says q ring dst top answers r left p = (ap (λ (d : Delivery). d .answer) p, ap (λ (d : Delivery). d .memory) p)
 
-pub service-says : (q : ReceiverState) (answers : List Answer) (r : Ended) → ServiceLeaves q answers r → r ≡ endedFrom (serviceOf q answers)
-service-says q answers r p = p
+pub service-chunk-acknowledgements-says : (q : ReceiverState) (answers : List Answer) (r : Ended) → ServiceLeaves q answers r → r ≡ endedFrom (serviceOf q answers)
+service-chunk-acknowledgements-says q answers r p = p
 
 pub shutdown-says : (q : ReceiverState) (answers : List Answer) (r : Ended) → ShutdownLeaves q answers r → r ≡ endedFrom (shutdownOf q answers)
 shutdown-says q answers r p = p

@@ -1,7 +1,7 @@
 -- The copies keep what specs/Promises.antt and specs/Given.antt say: first of the definitions, then of the calls, which is of
 -- whatever an attached contract allows.
 use Prim.Native.Nat.{ℕ, _<_, min}
-use mathlib.Core.Path.{_≡_, refl, sym, ap}
+use mathlib.Core.Path.{_≡_, refl, sym, ap, _∙_}
 use mathlib.Core.Bool.{Bool, true, false}
 use mathlib.Core.Logic.{_≢_}
 use mathlib.Core.List.{List, []}
@@ -37,9 +37,9 @@ use Rattle.copies.specs.Ring.{get}
 use Rattle.copies.specs.Copies.{readyFrom, readyOf, writeOf, readOf, writeFrom, readFrom}
 use Rattle.copies.specs.Lent.{toldOf, recordAfter, WriteLeaves, ReadLeaves}
 use Rattle.copies.specs.Given.{Verdict, verdict, Exactly, GivenCopy, made, by-scheduler, given-9, ofChecked, ofReady, ofCopied, ofTold}
-use Rattle.copies.specs.Promises.{Writes, Reads}
+use Rattle.copies.specs.Promises.{CellsOf, Writes, Reads}
 use Rattle.copies.specs.Promises as promise
-use Rattle.copies.proofs.Ring.{length-get, put-own, get-own, get-put}
+use Rattle.copies.proofs.Ring.{length-get, getD-get, put-own, get-own, get-put}
 use Rattle.copies.proofs.Says.{demand-ring-memory-says, write-says, read-says, write-lent-says, read-lent-says}
 use Rattle.copies.proofs.demand_ring_memory.Kinds as ready-kinds
 use Rattle.copies.proofs.demand_ring_memory.Reads as ready-reads
@@ -149,6 +149,10 @@ same-told : (c : Copied) → ofCopied c ≡ ofTold (toldOf c)
 same-told (copied.Moved u n) = refl
 same-told (copied.Refused e) = refl
 
+-- ---- what is got from a ring: as many bytes, each that of its cell
+pub got-cells : (l : ℕ) (ring : List ℕ) (at n : ℕ) → (length (get l ring at n) ≡ n) × CellsOf l ring at (get l ring at n)
+got-cells l ring at n = (length-get l ring at n, λ j h. getD-get l ring at n j (rw length-get at h))
+
 -- ---- what a copy moves and leaves alone
 module _ (s : RingBufferScheduler) (ring : List ℕ) where
   writes : (src : List ℕ) (z : Ready) → Tested s (length ring) z →
@@ -201,6 +205,15 @@ KeepsLeft n ps r L P =
 
 pub demand-ring-memory-given : Keeps 0 ready-kinds.ps ready-kinds.r ready-reads.Learnt (λ κs a z. Exactly (GivenCopy (a .0) (a .1 .0)) (ofReady z))
 demand-ring-memory-given κs a z (ws, p) = rw (demand-ring-memory-says κs a z ws p) (given (a .0) (a .1 .0) _ (tested (a .0) (a .1 .0)))
+
+-- what passes the tests is the record itself
+same-record : (s u : RingBufferScheduler) (n : ℕ) (z : Ready) → Tested s n z → z ≡ ready.Sound u → u ≡ s
+same-record s u n _ (right h l) e = cc
+same-record s u n _ (wrong h l) e = let k : _≡_ {A = ℕ} 0 1 = cc in absurd (omega arith)
+same-record s u n _ (unsound r l) e = let k : _≡_ {A = ℕ} 0 1 = cc in absurd (omega arith)
+
+pub demand-ring-memory-same : Keeps 0 ready-kinds.ps ready-kinds.r ready-reads.Learnt (λ κs a z. (u : RingBufferScheduler) → z ≡ ready.Sound u → u ≡ a .0)
+demand-ring-memory-same κs a z (ws, p) u e = same-record (a .0) u (a .1 .0) _ (tested (a .0) (a .1 .0)) (sym (demand-ring-memory-says κs a z ws p) ∙ e)
 
 pub write-given : Keeps 2 write-kinds.ps write-kinds.r write.Learnt (λ κs a z. Exactly (GivenCopy (a .0) (length (a .1 .0 .now))) (ofCopied z))
 write-given κs a z (ws, p) = rw (write-says κs a z ws p .0) (written-given (a .0) (a .1 .0 .now) (a .1 .1 .0 .now))

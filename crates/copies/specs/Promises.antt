@@ -21,6 +21,10 @@ OnlyCells l at n old new = (length new ≡ length old) × ((k : ℕ) → ((j : �
 abbrev pub OnlyFront : ℕ → List ℕ → List ℕ → Type 0
 OnlyFront n old new = (length new ≡ length old) × (drop n new ≡ drop n old)
 
+-- these bytes stand in the ring of l places from `at` on, one in each cell
+abbrev pub CellsOf : ℕ → List ℕ → ℕ → List ℕ → Type 0
+CellsOf l ring at bytes = (j : ℕ) → j < length bytes → getD bytes j 0 ≡ getD ring ((at + j) % l) 0
+
 module _ (s : RingBufferScheduler) (ring : List ℕ) where
   -- A write is refused, and changes neither the scheduler nor the memory. Or it moves exactly the smaller of what is asked and
   -- the greatest length, which is what is registered; the front of the source then stands in its cells, and no other changed.

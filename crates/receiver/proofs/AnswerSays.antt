@@ -37,7 +37,7 @@ fits-errno e h = rw (ne-eqb e 0 (λ z. omega (arith, z, h .0)), le-leb e 4095 (h
 no-errno : (e : ℕ) → fitsErrno e ≡ false → Errno e → ⊥
 no-errno e f h = let k = fits-errno e h in let z : _≡_ {A = ℕ} 0 1 = cc in omega arith
 
-failure-fits : (f : Failure) (b : Bool) → fitsFailure f ≡ b → (b ≡ true → FailureFits f) × (b ≡ false → FailureFits f → ⊥)
+pub failure-fits : (f : Failure) (b : Bool) → fitsFailure f ≡ b → (b ≡ true → FailureFits f) × (b ≡ false → FailureFits f → ⊥)
 failure-fits (Io e) b h = ((λ t. errno-fits e (h ∙ t)), (λ t k. no-errno e (h ∙ t) k))
 failure-fits (Protocol v) b h = ((λ t. tt), (λ t k. let z : _≡_ {A = ℕ} 0 1 = cc in omega arith))
 

@@ -22,5 +22,6 @@ pub mod Says
 pub mod Given
 pub mod GivenAnswer
 pub mod Promised
+pub mod PromisedStates
 pub mod PromisedMachine
 pub mod PromisedAnnouncement

@@ -14,9 +14,9 @@ use Rattle.sched.specs.declared.scheduler.RingBufferScheduler.{RingBufferSchedu
 use Rattle.sched.specs.Scheduler.{IsSound, dataIn, spaceIn, offsetIn, advancedIn}
 use Rattle.copies.specs.Ring.{get}
 use Rattle.receiver.proofs.ChunkLaws.{holds}
-use Rattle.receiver.specs.Promise.{Reason, end-and-end, end-gives-way, error-and-end, error-stays, Calm, normal, blocked-draining, blocked-terminated, Advanced, calm-by-calm, calm-by-draining, calm-by-terminated, terminated-stays, draining-stays, draining-by-draining, draining-by-terminated, Batch, all, most, headerAt, Said, body, violates, Announces, no-room-for-a-header, format-unknown, length-0, too-long, accepted}
+use Rattle.receiver.specs.Promise.{Reason, end-and-end, end-gives-way, error-and-end, error-stays, Calm, normal, blocked-draining, blocked-terminated, Normalized, calmed, drains, ends, Holds, holds-none, draining-holds, terminated-holds, Carries, normal-carries-none, draining-carries, terminated-carries, Advanced, calm-by-calm, calm-by-draining, calm-by-terminated, terminated-stays, draining-stays, draining-by-draining, draining-by-terminated, Batch, all, most, headerAt, Said, body, violates, Announces, no-room-for-a-header, format-unknown, length-0, too-long, accepted}
 use Rattle.receiver.specs.Receiver.{numberFrom, headerIn, announcedIn, byteIn}
-use Rattle.receiver.specs.State.{violationNumber, isErrno, normalizeIn, towardsErrorIn, advanceNormal, advanceIn}
+use Rattle.receiver.specs.State.{violationNumber, isErrno, failureIn, withFailureIn, normalizeIn, towardsErrorIn, advanceNormal, advanceIn}
 use Rattle.receiver.specs.declared.announcement.Announced.{Announced}
 use Rattle.receiver.specs.declared.announcement.Announced.the-variants as announcement
 use Rattle.receiver.specs.declared.state.Failure.{Failure}
@@ -45,11 +45,6 @@ reason-rule c e = by (isErrno c 32) refl (isErrno e 32) refl
     by false p false q = error-stays (is-other c 32 p) (is-other e 32 q)
 
 -- ---- states
-pub data Normalized : OperationalState → OperationalState → Type 0 where
-  calmed : {s : OperationalState} → Calm s → Normalized s Normal
-  drains : (f : Failure) → f ≢ Io 11 → Normalized (Draining f) (Draining f)
-  ends : (f : Failure) → f ≢ Io 11 → Normalized (Terminated f) (Terminated f)
-
 pub normalized : (s : OperationalState) → Normalized s (normalizeIn s)
 unfolding normalizeIn
 normalized Normal = calmed normal
@@ -75,6 +70,19 @@ by-normalized s to _ _ (drains c h) (ends e k) = draining-by-terminated h k (rea
 
 pub advance-rule : (s to : OperationalState) → Advanced s to (advanceIn s to)
 advance-rule s to = by-normalized s to (normalizeIn s) (normalizeIn to) (normalized s) (normalized to)
+
+pub holds-rule : (s : OperationalState) → Holds s (failureIn s)
+holds-rule Normal = holds-none
+holds-rule (Draining f) = draining-holds
+holds-rule (Terminated f) = terminated-holds
+
+pub carries-rule : (s : OperationalState) (f : Failure) → Carries s f (withFailureIn s f)
+carries-rule Normal f = normal-carries-none
+carries-rule (Draining c) f = draining-carries
+carries-rule (Terminated c) f = terminated-carries
+
+pub errno-rule : (f : Failure) (k : ℕ) → (isErrno f k ≡ true → f ≡ Io k) × (f ≡ Io k → isErrno f k ≡ true)
+errno-rule f k = (is-errno f k, λ e. ap (λ (x : Failure). isErrno x k) e ∙ eq-eqb k k refl)
 
 -- ---- batches
 pub batch-rule : (p : ℕ) → p ≢ 0 → Batch p (min 128 p)
@@ -137,3 +145,7 @@ module _ (s : RingBufferScheduler) (sound : IsSound s) (empty : dataIn s ≡ 0) 
       by : (x : Bool) → ltb (spaceIn s) 8 ≡ x → Announces L (numberFrom 0 (get L ring (offsetIn s Read .0) 8)) fds (saidBy (announcedIn ring s fds))
       by true p = rw p (no-room-for-a-header (omega (arith, free, ltb-true (spaceIn s) 8 p)))
       by false p = rw p (header-says (numberFrom 0 (get L ring (offsetIn s Read .0) 8)) (ltb-false _ _ p))
+
+-- any other byte than 0 is violation 1
+pub byte-violates : (s : RingBufferScheduler) (fds : ℕ) (ring : List ℕ) (b : ℕ) → b ≢ 0 → saidBy (byteIn ring s b fds) ≡ violates 1
+byte-violates s fds ring b z = ap (λ (x : Bool). saidBy (cond x (announcedIn ring s fds) (announcement.Failed (Protocol InvalidChunkAnnouncement)))) (ne-eqb b 0 z)

@@ -25,6 +25,8 @@ use Rattle.receiver.specs.declared.call.Phase.{Phase}
 use Rattle.receiver.specs.declared.call.Phase.the-variants as phase
 use Rattle.receiver.specs.declared.call.Step.{Step}
 use Rattle.receiver.specs.declared.call.Step.the-variants as step
+use Rattle.receiver.specs.declared.receiver.ReceiverAnswer.{ReceiverAnswer}
+use Rattle.receiver.specs.declared.receiver.ReceiverAnswer.the-variants as made
 use Rattle.receiver.specs.declared.receiver.ReceiverState.{ReceiverState}
 use Rattle.receiver.specs.declared.state.OperationalState.{OperationalState}
 use Rattle.receiver.specs.declared.state.OperationalState.the-variants.{Normal, Draining, Terminated}
@@ -80,3 +82,7 @@ ofAdmission (admission.Refused r) = verdict (numberOf r) (valuesOf r)
 abbrev pub ofStep : Step → Verdict
 ofStep (step.Of c) = verdict 0 []
 ofStep (step.Refused r) = verdict (numberOf r) (valuesOf r)
+
+abbrev pub ofReceiver : ReceiverAnswer → Verdict
+ofReceiver (made.Of q) = verdict 0 []
+ofReceiver (made.Refused r) = verdict (numberOf r) (valuesOf r)

@@ -26,6 +26,8 @@ use Rattle.receiver.specs.declared.state.Failure.{Failure}
 use Rattle.receiver.specs.declared.state.Failure.the-variants.{Io, Protocol}
 use Rattle.receiver.specs.declared.state.OperationalState.{OperationalState}
 use Rattle.receiver.specs.declared.state.OperationalState.the-variants.{Normal, Draining, Terminated}
+use Rattle.receiver.specs.declared.state.PotentialFailure.{PotentialFailure}
+use Rattle.receiver.specs.declared.state.PotentialFailure.the-variants.{Some, None}
 use Rattle.receiver.specs.declared.state.Violation.{Violation}
 
 -- ---- errnos
@@ -54,6 +56,23 @@ pub data Calm : OperationalState → Type 0 where
   normal : Calm Normal
   blocked-draining : Calm (Draining (Io 11))
   blocked-terminated : Calm (Terminated (Io 11))
+
+-- normalised: one that counts as Normal is Normal, and any other stays
+pub data Normalized : OperationalState → OperationalState → Type 0 where
+  calmed : {s : OperationalState} → Calm s → Normalized s Normal
+  drains : (f : Failure) → f ≢ Io 11 → Normalized (Draining f) (Draining f)
+  ends : (f : Failure) → f ≢ Io 11 → Normalized (Terminated f) (Terminated f)
+
+-- the failure that a state holds, and the state with another one
+pub data Holds : OperationalState → PotentialFailure → Type 0 where
+  holds-none : Holds Normal None
+  draining-holds : {f : Failure} → Holds (Draining f) (Some f)
+  terminated-holds : {f : Failure} → Holds (Terminated f) (Some f)
+
+pub data Carries : OperationalState → Failure → OperationalState → Type 0 where
+  normal-carries-none : {f : Failure} → Carries Normal f Normal
+  draining-carries : {c f : Failure} → Carries (Draining c) f (Draining f)
+  terminated-carries : {c f : Failure} → Carries (Terminated c) f (Terminated f)
 
 pub data Advanced : OperationalState → OperationalState → OperationalState → Type 0 where
   calm-by-calm : {s to : OperationalState} → Calm s → Calm to → Advanced s to Normal

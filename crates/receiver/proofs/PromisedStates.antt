@@ -24,6 +24,7 @@ use Rattle.receiver.specs.State.{fitsFailure, fitsState, failureIn, with
 use Rattle.receiver.specs.declared.answer.Answer.{Answer}
 use Rattle.receiver.specs.declared.call.Phase.{Phase}
 use Rattle.receiver.specs.declared.call.Phase.the-variants as phase
+use Rattle.receiver.specs.declared.receiver.Outcome.{Outcome}
 use Rattle.receiver.specs.declared.receiver.ReceiverAnswer.{ReceiverAnswer}
 use Rattle.receiver.specs.declared.receiver.ReceiverAnswer.the-variants as made
 use Rattle.receiver.specs.declared.receiver.ReceiverState.{ReceiverState}
@@ -126,3 +127,71 @@ is-errno-promised κs a z p =
     let e = is-errno-says κs a z (p .0) (p .1) in
     let k = errno-rule (a .0) (a .1 .0) in
     ((λ h. k .0 (sym e ∙ h)), (λ h. e ∙ k .1 h))
+
+-- ---- a state with a failure, or with none: Normal
+module _ (s : OperationalState) where
+  potential-by : (b : Bool) → fitsState s ≡ b → (p : PotentialFailure) →
+      (Stored s → p ≡ None → testedState b (withPotentialFrom s p) ≡ state.Of Normal) × (Stored s → (f : Failure) → p ≡ Some f → testedState b (withPotentialFrom s p) ≡ withFailureOf s f) ×
+      ((Stored s → ⊥) → testedState b (withPotentialFrom s p) ≡ state.Refused (Misfit 0))
+  potential-by true e p = ((λ h n. ap (withPotentialFrom s) n), (λ h f k. ap (withPotentialFrom s) k), (λ no. absurd (no (state-fits s true e .0 refl))))
+  potential-by false e p = ((λ h n. absurd (state-fits s false e .1 refl h)), (λ h f k. absurd (state-fits s false e .1 refl h)), (λ no. refl))
+
+-- with none it is Normal, and with one what `with_failure` answers
+pub with-potential-failure-promised : Keeps 0 with-potential-kinds.ps with-potential-kinds.r with-potential.Learnt
+    (λ κs a z. (Stored (a .0) → a .1 .0 ≡ None → z ≡ state.Of Normal) × (Stored (a .0) → (f : Failure) → a .1 .0 ≡ Some f → z ≡ withFailureOf (a .0) f) × ((Stored (a .0) → ⊥) → z ≡ state.Refused (Misfit 0)))
+with-potential-failure-promised κs a z p =
+    let e = with-potential-failure-says κs a z (p .0) (p .1) in
+    let k = potential-by (a .0) (fitsState (a .0)) refl (a .1 .0) in
+    ((λ h n. e ∙ k .0 h n), (λ h f m. e ∙ k .1 h f m), (λ no. e ∙ k .2 no))
+
+-- ---- a call that is over is finished; what an interruption is waited out by
+finished-only : (ph : Phase) → isOver ph ≡ true → (o : Outcome) × (ph ≡ phase.Finished o)
+finished-only (phase.Finished o) e = (o, refl)
+finished-only (phase.Receive top asked) e = let z : _≡_ {A = ℕ} 0 1 = cc in absurd (omega arith)
+finished-only (phase.Send batch x) e = let z : _≡_ {A = ℕ} 0 1 = cc in absurd (omega arith)
+finished-only (phase.Shutdown x) e = let z : _≡_ {A = ℕ} 0 1 = cc in absurd (omega arith)
+
+pub is-over-promised : Keeps 0 is-over-kinds.ps is-over-kinds.r is-over.Learnt
+    (λ κs a z. (z ≡ true → (o : Outcome) × (a .0 .phase ≡ phase.Finished o)) × ((o : Outcome) → a .0 .phase ≡ phase.Finished o → z ≡ true))
+is-over-promised κs a z p =
+    let e = is-over-says κs a z (p .0) (p .1) in
+    ((λ h. finished-only (a .0 .phase) (sym e ∙ h)), (λ o h. e ∙ ap isOver h))
+
+abbrev Waits : Phase → Type 0
+Waits (phase.Receive top asked) = Unit {0}
+Waits (phase.Send batch e) = Unit {0}
+Waits (phase.Shutdown e) = ⊥
+Waits (phase.Finished o) = ⊥
+
+retries-by : (ph : Phase) (x : Answer) → (retriesIn ph x ≡ true → Waits ph × (x .kind ≡ 2) × (x .value ≡ 4)) × (Waits ph → (x .kind ≡ 2) × (x .value ≡ 4) → retriesIn ph x ≡ true)
+retries-by (phase.Receive top asked) x = ((λ h. let k = interrupted-says x .0 h in (tt, k .0, k .1)), (λ w h. interrupted-says x .1 h))
+retries-by (phase.Send batch e) x = ((λ h. let k = interrupted-says x .0 h in (tt, k .0, k .1)), (λ w h. interrupted-says x .1 h))
+retries-by (phase.Shutdown e) x = ((λ h. let z : _≡_ {A = ℕ} 0 1 = cc in absurd (omega arith)), (λ w h. absurd w))
+retries-by (phase.Finished o) x = ((λ h. let z : _≡_ {A = ℕ} 0 1 = cc in absurd (omega arith)), (λ w h. absurd w))
+
+-- an interruption, by a receive and by a send alone
+pub retries-promised : Keeps 0 retries-kinds.ps retries-kinds.r retries.Learnt
+    (λ κs a z. (z ≡ true → Waits (a .0 .phase) × (a .1 .0 .kind ≡ 2) × (a .1 .0 .value ≡ 4)) × (Waits (a .0 .phase) → (a .1 .0 .kind ≡ 2) × (a .1 .0 .value ≡ 4) → z ≡ true))
+retries-promised κs a z p =
+    let e = retries-says κs a z (p .0) (p .1) in
+    let k = retries-by (a .0 .phase) (a .1 .0) in
+    ((λ h. k .0 (sym e ∙ h)), (λ w h. e ∙ k .1 w h))
+
+-- ---- a new receiver: 1 to 5, then this scheduler, normal, with nothing pending, not shut down
+module _ (s : RingBufferScheduler) where
+  abbrev Fresh : ReceiverAnswer → Type 0
+  Fresh (made.Of q) = (q .scheduler ≡ s) × (q .state ≡ Normal) × (q .«pending_ack_count» ≡ 0) × (q .«notification_socket_shutdown_issued» ≡ false)
+  Fresh (made.Refused r) = Unit {0}
+
+  fresh : (c : Checked) → soundOf s ≡ c → Fresh (receiverFrom c)
+  fresh (checked.Sound u) e = (sound-both u s (sym e) .1, refl, refl, refl)
+  fresh (checked.Refused r) e = tt
+
+  same-verdict : (c : Checked) → ofChecked c ≡ ofReceiver (receiverFrom c)
+  same-verdict (checked.Sound u) = refl
+  same-verdict (checked.Refused r) = refl
+
+pub new-promised : Keeps 0 new-kinds.ps new-kinds.r new.Learnt (λ κs a z. Exactly (Given (a .0)) (ofReceiver z) × Fresh (a .0) z)
+new-promised κs a z p =
+    subst (λ (x : ReceiverAnswer). Exactly (Given (a .0)) (ofReceiver x) × Fresh (a .0) x) (sym (ReceiverState-new-says κs a z (p .0) (p .1)))
+    (subst (Exactly (Given (a .0))) (same-verdict (a .0) (soundOf (a .0))) (checked-given (a .0) (soundOf (a .0)) (checks (a .0))), fresh (a .0) (soundOf (a .0)) refl)

@@ -9,6 +9,7 @@ use borrow.Author.Tests.{eqb-true, eqb-false, ltb-true, ltb-false}
 use native.Mathlib.Nat.{mod-eq-of-lt}
 use native.Mathlib.Omega.{arith}
 use Rattle.modular.proofs.Laws.{once, lt-or-le}
+use Rattle.sched.specs.declared.block.Bit.the-variants.{Zero}
 use Rattle.sched.specs.declared.block.BufferFillState.the-variants.{Empty, Partial, Full}
 use Rattle.sched.specs.declared.block.BufferLayout.{BufferLayout}
 use Rattle.sched.specs.declared.block.BufferLayout.the-variants.{DataFreeData, FreeDataFree}
@@ -91,6 +92,8 @@ module _ (s : RingBufferScheduler) (h : IsSound s) where
         held = omega (arith, a .1);
         outer = refl;
         inner = λ p. free-data (sym p);
+        ahead = λ x. (refl, refl, refl);
+        round = λ x. absurd (⊎-elim (λ l. omega (arith, a .1)) (λ e. omega (arith, a .1, e .0, e .1)) x);
         numbers = (refl, refl, refl);
       }))
       (λ a.
@@ -104,6 +107,8 @@ module _ (s : RingBufferScheduler) (h : IsSound s) where
         held = omega (arith, a .1, offset-lt s h Read, offset-lt s h Write, h .fill);
         outer = refl;
         inner = free-data;
+        ahead = λ x. absurd (⊎-elim (λ l. omega (arith, a .1, h .fill)) (λ e. omega (arith, a .1, e .0, e .1, h .sized .some)) x);
+        round = λ x. (refl, refl, refl);
         numbers = (refl, refl, refl);
       }))
       (arranged s h)
@@ -117,11 +122,22 @@ module _ (s : RingBufferScheduler) (h : IsSound s) where
       go Write DataFreeData e = rw e
       go Write FreeDataFree e = rw e
 
+  -- neither is block 0
+  next-number : (t : OperationType) → nextBlockIn s t .no ≡ Zero
+  next-number t = go t (layoutIn s) refl
+    where
+      go : (t : OperationType) (l : BufferLayout) → layoutIn s ≡ l → nextBlockIn s t .no ≡ Zero
+      go Read DataFreeData e = rw e
+      go Read FreeDataFree e = rw e
+      go Write DataFreeData e = rw e
+      go Write FreeDataFree e = rw e
+
   pub next-block-is : (t : OperationType) → NextBlockOf s t (nextBlockIn s t)
   next-block-is t =
       let o : nextBlockIn s t .off .0 ≡ offsetIn s t .0 = ap (λ (x : Offset). x .0) (next-off s h t) in
       record {
         typed = next-typed t;
+        number = next-number t;
         starts = next-off s h t;
         ends =
             ⊎-elim

@@ -93,11 +93,14 @@ abbrev pub MaxOperationLen : RingBufferScheduler → OperationType → AmountAns
 MaxOperationLen s t z = Allows 0 max-operation-len-kinds.ps max-operation-len-kinds.r max-operation-len.Learnt tt (s, (t, tt)) z
 
 module _ (s : RingBufferScheduler) (h : IsSound s) where
-  data-is : (z : AmountAnswer) → DataAvail s z → z ≡ amount.Of (dataIn s)
+  pub data-is : (z : AmountAnswer) → DataAvail s z → z ≡ amount.Of (dataIn s)
   data-is z q = data-avail-says tt (s, tt) z (q .0) (q .1) ∙ ap (greatestFrom Read) (sym (sound-is s h))
 
-  space-is : (z : AmountAnswer) → SpaceAvail s z → z ≡ amount.Of (spaceIn s)
+  pub space-is : (z : AmountAnswer) → SpaceAvail s z → z ≡ amount.Of (spaceIn s)
   space-is z q = space-avail-says tt (s, tt) z (q .0) (q .1) ∙ ap (greatestFrom Write) (sym (sound-is s h))
+
+  pub greatest-is : (t : OperationType) (z : AmountAnswer) → MaxOperationLen s t z → z ≡ amount.Of (greatestIn s t)
+  greatest-is t z q = max-operation-len-says tt (s, (t, tt)) z (q .0) (q .1) ∙ ap (greatestFrom t) (sym (sound-is s h))
 
   pub data-between : (z : AmountAnswer) → DataAvail s z → (d : ℕ) × (z ≡ amount.Of d) × Between s d
   data-between z q = (dataIn s, data-is z q, between s h)

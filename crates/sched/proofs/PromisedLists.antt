@@ -171,6 +171,19 @@ module _ (old new : ℕ) (d : Diff) (q : DiffNew old new d) where
       go (Same y) e f g = let z : _≡_ {A = ℕ} 0 1 = cc in omega arith
       go (Different y z) e f g = e .2 (e .0 ∙ g ∙ sym (e .1))
 
+-- by the case, of any `Diff`
+pub is-same-by-case : Keeps 0 is-same-kinds.ps is-same-kinds.r is-same.Learnt (λ κs a z. ((v : ℕ) → a .0 ≡ Same v → z ≡ true) × ((x y : ℕ) → a .0 ≡ Different x y → z ≡ false))
+is-same-by-case κs a z q = (λ v e. is-same-says κs a z (q .0) (q .1) ∙ ap isSameOf e, λ x y e. is-same-says κs a z (q .0) (q .1) ∙ ap isSameOf e)
+
+pub is-different-by-case : Keeps 0 is-different-kinds.ps is-different-kinds.r is-different.Learnt (λ κs a z. ((v : ℕ) → a .0 ≡ Same v → z ≡ false) × ((x y : ℕ) → a .0 ≡ Different x y → z ≡ true))
+is-different-by-case κs a z q = (λ v e. is-different-says κs a z (q .0) (q .1) ∙ ap isDifferentOf e, λ x y e. is-different-says κs a z (q .0) (q .1) ∙ ap isDifferentOf e)
+
+pub old-value-by-case : Keeps 0 old-value-kinds.ps old-value-kinds.r old-value.Learnt (λ κs a z. ((v : ℕ) → a .0 ≡ Same v → z ≡ v) × ((x y : ℕ) → a .0 ≡ Different x y → z ≡ x))
+old-value-by-case κs a z q = (λ v e. old-value-says κs a z (q .0) (q .1) ∙ ap oldValueOf e, λ x y e. old-value-says κs a z (q .0) (q .1) ∙ ap oldValueOf e)
+
+pub new-value-by-case : Keeps 0 new-value-kinds.ps new-value-kinds.r new-value.Learnt (λ κs a z. ((v : ℕ) → a .0 ≡ Same v → z ≡ v) × ((x y : ℕ) → a .0 ≡ Different x y → z ≡ y))
+new-value-by-case κs a z q = (λ v e. new-value-says κs a z (q .0) (q .1) ∙ ap newValueOf e, λ x y e. new-value-says κs a z (q .0) (q .1) ∙ ap newValueOf e)
+
 -- ---- parts that are put together
 pub block-new-promised : Keeps 0 Block-new-kinds.ps Block-new-kinds.r Block-new.Learnt (λ κs a z. (z .typ ≡ a .0) × (z .no ≡ a .1 .0) × (z .off ≡ a .1 .1 .0) × (z .len ≡ a .1 .1 .1 .0))
 block-new-promised κs a z q = rw (Block-new-says κs a z (q .0) (q .1)) (refl, refl, refl, refl)

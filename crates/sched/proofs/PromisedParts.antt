@@ -1,6 +1,7 @@
 -- Of each call that asks something of a sound record: every outcome that its attached contract allows is what `Parts` of specs/
 -- says, in other words than the definitions.
-use mathlib.Core.Path.{_≡_, sym, ap, _∙_}
+use Prim.Native.Nat.{ℕ}
+use mathlib.Core.Path.{_≡_, refl, sym, ap, _∙_}
 use mathlib.Core.Bool.{Bool, false}
 use lib.Dec.{eqb, ltb}
 use borrow.Author.Tests.{ne-eqb}
@@ -20,11 +21,15 @@ use Rattle.sched.specs.declared.counter.Counter.{Counter}
 use Rattle.sched.specs.declared.counter.CounterAnswer.the-variants as counter-answer
 use Rattle.sched.specs.declared.counter.Offset.{Offset}
 use Rattle.sched.specs.declared.counter.OffsetAnswer.the-variants as offset-answer
+use Rattle.sched.specs.declared.operation.OperationType.{OperationType}
 use Rattle.sched.specs.declared.operation.OperationType.the-variants.{Read, Write}
+use Rattle.sched.specs.declared.refusal.Refusal.{Refusal}
 use Rattle.sched.specs.declared.scheduler.Checked.{Checked}
+use Rattle.sched.specs.declared.scheduler.Checked.the-variants as checked
+use Rattle.sched.specs.declared.scheduler.RingBufferScheduler.{RingBufferScheduler}
 use Rattle.sched.specs.Parts.{CounterOf, OffsetOf, FillOf, None, Some, LayoutOf, BlocksOf, NextBlockOf}
-use Rattle.sched.specs.Scheduler.{IsSound, dataIn, spaceIn, counterIn, offsetIn, fillStateIn, layoutIn, blocksIn, nextBlockIn, bufLenFrom, counterFrom, offsetFrom, greatestFrom, isZeroFrom, isPositiveFrom, fillStateFrom, layoutFrom, blocksFrom, block0From, block1From, block2From, offFrom, lenFrom, nextBlockFrom}
-use Rattle.sched.proofs.Laws.{sound-is}
+use Rattle.sched.specs.Scheduler.{IsSound, soundOf, dataIn, spaceIn, counterIn, offsetIn, fillStateIn, layoutIn, blocksIn, nextBlockIn, bufLenFrom, counterFrom, offsetFrom, offsetAnswerOf, greatestFrom, isZeroFrom, isPositiveFrom, fillStateFrom, layoutFrom, blocksFrom, block0From, block1From, block2From, offFrom, lenFrom, nextBlockFrom}
+use Rattle.sched.proofs.Laws.{sound-is, sound-both}
 use Rattle.sched.proofs.Parts.{counter-is, offset-is, none-is, some-is, fill-is, layout-is, blocks-are, next-block-is}
 use Rattle.sched.proofs.Says.{buf-len-says, is-zero-sized-says, items-read-says, items-written-says, operation-counter-says, read-off-says, write-off-says, operation-offset-says, fill-state-says, is-empty-says, is-full-says, is-nonempty-says, is-nonfull-says, layout-says, blocks-says, block-0-says, block-1-says, block-2-says, block-0-off-says, block-1-off-says, block-2-off-says, block-0-len-says, block-1-len-says, block-2-len-says, next-operation-block-says, next-read-block-says, next-write-block-says}
 use Rattle.sched.proofs.scheduler.RingBufferScheduler.buf_len.Kinds as buf-len-kinds
@@ -107,6 +112,29 @@ write-off-promised κs a z q h = (offsetIn (a .0) Write, write-off-says κs a z 
 
 pub operation-offset-promised : Keeps 0 operation-offset-kinds.ps operation-offset-kinds.r operation-offset.Learnt (λ κs a z. IsSound (a .0) → (o : Offset) × (z ≡ offset-answer.Of o) × OffsetOf (a .0) (a .1 .0) o)
 operation-offset-promised κs a z q h = (offsetIn (a .0) (a .1 .0), operation-offset-says κs a z (q .0) (q .1) ∙ ap (offsetFrom (a .1 .0)) (sym (sound-is (a .0) h)), offset-is (a .0) h (a .1 .0))
+
+-- the offset that the other promises name is the one that is answered
+same-offset : (o p : Offset) → offset-answer.Of o ≡ offset-answer.Of p → o ≡ p
+same-offset o p q = cc
+
+never-offset : (e : Refusal) (o : Offset) → offset-answer.Refused e ≡ offset-answer.Of o → ⊥
+never-offset e o p = let z : _≡_ {A = ℕ} 0 1 = cc in omega arith
+
+offset-of : (s : RingBufferScheduler) (t : OperationType) (o : Offset) → offsetAnswerOf s t ≡ offset-answer.Of o → o ≡ offsetIn s t
+offset-of s t o p = go (soundOf s) refl
+  where
+    go : (c : Checked) → soundOf s ≡ c → o ≡ offsetIn s t
+    go (checked.Sound v) q = same-offset o (offsetIn v t) (sym p ∙ ap (offsetFrom t) q) ∙ ap (λ (x : RingBufferScheduler). offsetIn x t) (sound-both v s (sym q) .1)
+    go (checked.Refused e) q = absurd (never-offset e o (sym (ap (offsetFrom t) q) ∙ p))
+
+pub read-off-is : Keeps 0 read-off-kinds.ps read-off-kinds.r read-off.Learnt (λ κs a z. (o : Offset) → z ≡ offset-answer.Of o → o ≡ offsetIn (a .0) Read)
+read-off-is κs a z q o e = offset-of (a .0) Read o (sym (read-off-says κs a z (q .0) (q .1)) ∙ e)
+
+pub write-off-is : Keeps 0 write-off-kinds.ps write-off-kinds.r write-off.Learnt (λ κs a z. (o : Offset) → z ≡ offset-answer.Of o → o ≡ offsetIn (a .0) Write)
+write-off-is κs a z q o e = offset-of (a .0) Write o (sym (write-off-says κs a z (q .0) (q .1)) ∙ e)
+
+pub operation-offset-is : Keeps 0 operation-offset-kinds.ps operation-offset-kinds.r operation-offset.Learnt (λ κs a z. (o : Offset) → z ≡ offset-answer.Of o → o ≡ offsetIn (a .0) (a .1 .0))
+operation-offset-is κs a z q o e = offset-of (a .0) (a .1 .0) o (sym (operation-offset-says κs a z (q .0) (q .1)) ∙ e)
 
 -- ---- fill state
 pub fill-state-promised : Keeps 0 fill-state-kinds.ps fill-state-kinds.r fill-state.Learnt (λ κs a z. IsSound (a .0) → (f : BufferFillState) × (z ≡ fill-answer.Of f) × FillOf (a .0) f)

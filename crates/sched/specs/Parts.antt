@@ -65,8 +65,18 @@ abbrev pub dataAt : BlockType → ℕ → ℕ
 dataAt Data n = n
 dataAt Free n = 0
 
+-- the read offset is below the write offset, or the buffer is empty; above it, or full
+abbrev pub AheadIn : RingBufferScheduler → Type 0
+AheadIn s = (offsetIn s Read .0 < offsetIn s Write .0) ⊎ ((offsetIn s Read .0 ≡ offsetIn s Write .0) × (dataIn s ≡ 0))
+
+abbrev pub RoundIn : RingBufferScheduler → Type 0
+RoundIn s = (offsetIn s Write .0 < offsetIn s Read .0) ⊎ ((offsetIn s Read .0 ≡ offsetIn s Write .0) × (0 < dataIn s))
+
+abbrev pub Typed : Blocks → BlockType → BlockType → Type 0
+Typed b outer inner = (b .0 .typ ≡ outer) × (b .1 .typ ≡ inner) × (b .2 .typ ≡ outer)
+
 -- the blocks lie one behind the other, are cut at the two offsets, fill the buffer, and hold the data; the outer two are of one
--- type, the inner of the other
+-- type, the inner of the other: the data is the inner where it lies ahead, and the outer two where it comes round
 pub record BlocksOf (s : RingBufferScheduler) (b : Blocks) : Type 0 where
   pub first : b .0 .off .0 ≡ 0
   pub second : b .1 .off .0 ≡ b .0 .len
@@ -76,15 +86,19 @@ pub record BlocksOf (s : RingBufferScheduler) (b : Blocks) : Type 0 where
   pub held : dataAt (b .0 .typ) (b .0 .len) + dataAt (b .1 .typ) (b .1 .len) + dataAt (b .2 .typ) (b .2 .len) ≡ dataIn s
   pub outer : b .0 .typ ≡ b .2 .typ
   pub inner : b .1 .typ ≡ b .0 .typ → ⊥
+  pub ahead : AheadIn s → Typed b Free Data
+  pub round : RoundIn s → Typed b Data Free
   pub numbers : (b .0 .no ≡ One) × (b .1 .no ≡ Zero) × (b .2 .no ≡ Zero)
 
--- the block of the next operation: data for a read, free for a write; from the offset to the end of it, or to the buffer's
+-- the block of the next operation: data for a read, free for a write, the first that is used; from the offset to the end of it,
+-- or to the buffer's
 abbrev pub typeFor : OperationType → BlockType
 typeFor Read = Data
 typeFor Write = Free
 
 pub record NextBlockOf (s : RingBufferScheduler) (t : OperationType) (b : Block) : Type 0 where
   pub typed : b .typ ≡ typeFor t
+  pub number : b .no ≡ Zero
   pub starts : b .off ≡ offsetIn s t
   pub ends : (b .off .0 + b .len ≡ s .«buf_len») ⊎ (b .len ≡ greatestIn s t)
   pub fits : (b .off .0 + b .len ≤ s .«buf_len») × (b .len ≤ greatestIn s t)

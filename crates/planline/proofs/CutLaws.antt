@@ -1,11 +1,11 @@
 -- Laws of how lines are cut, at an index of the piece.
 use Prim.Native.Nat.{ℕ, _+_, _<_, _≤_, min}
-use mathlib.Core.Path.{_≡_, sym, ap, _∙_}
+use mathlib.Core.Path.{_≡_, refl, sym, ap, _∙_}
 use mathlib.Core.Bool.{Bool, true, false, cond}
-use mathlib.Core.Logic.{⊎-elim}
+use mathlib.Core.Logic.{_⊎_, ⊎-elim}
 use mathlib.Core.List.{List, [], _∷_}
 use lib.Dec.{eqb, leb}
-use lib.ListN.{length, take, drop, getD, set, drop-of-length-le}
+use lib.ListN.{length, take, drop, getD, set, length-drop, drop-of-length-le}
 use native.Mathlib.Omega.{arith}
 use borrow.Author.Tests.{eq-eqb, ne-eqb, lt-ltb, le-ltb, le-leb, lt-leb}
 use Rattle.modular.proofs.Laws.{lt-or-le}
@@ -68,6 +68,15 @@ ready-room line o p =
     (λ long. long)
     (lt-or-le (length line) 121)
 
+pub ready-there : (line : List ℕ) (o : Filled) → 121 ≤ length line → o .at + 89 ≤ length (o .bytes) → isReady line o ≡ true
+ready-there line o h g = sym (ready-long line o h) ∙ le-leb _ _ g
+
+pub unready : (line : List ℕ) (o : Filled) → (length line < 121) ⊎ (length (o .bytes) < o .at + 89) → isReady line o ≡ false
+unready line o =
+    ⊎-elim
+    (λ short. sym (ready-short line o short))
+    (λ full. ⊎-elim (λ short. sym (ready-short line o short)) (λ long. sym (ready-long line o long) ∙ lt-leb _ _ full) (lt-or-le (length line) 121))
+
 -- ---- the last line
 module _ (n : ℕ) (line : List ℕ) (o : Filled) where
   pub last-unready : isReady line o ≡ false → o ≡ lastOf (filled n line) o
@@ -96,6 +105,35 @@ module _ (h : Filled) (i : ℕ) (piece : List ℕ) (o : Filled) where
     pub step-part : took (filled n line) k false ≡ takeOf (capped h) i (drop i piece) → step (filled n line) k o ≡ stepOf h i piece o
     unfolding stepOf stepAfter
     step-part q = rw (p, ← q)
+
+-- ---- a step goes on, and not over the piece's end
+take-moves : (xs : List ℕ) (h : Filled) (i : ℕ) → (i + min 1 (length xs) ≤ takeOf h i xs .next) × (takeOf h i xs .next ≤ i + length xs)
+unfolding takeOf
+take-moves [] h i = (omega arith, omega arith)
+take-moves (b ∷ bs) h i = go (eqb b 10) (take-moves bs (holdOf h b) (i + 1))
+  where
+    go :
+        (t : Bool) → (i + 1 + min 1 (length bs) ≤ takeOf (holdOf h b) (i + 1) bs .next) × (takeOf (holdOf h b) (i + 1) bs .next ≤ i + 1 + length bs) →
+        (i + min 1 (length (b ∷ bs)) ≤ cond t (took h (i + 1) true) (takeOf (holdOf h b) (i + 1) bs) .next) × (cond t (took h (i + 1) true) (takeOf (holdOf h b) (i + 1) bs) .next ≤ i + length (b ∷ bs))
+    go true q = (omega arith, omega arith)
+    go false q = (omega (arith, q .0), omega (arith, q .1))
+
+after-next : (t : Took) (o : Filled) → stepAfter t o .next ≡ t .next
+unfolding stepAfter
+after-next t o = go (t .whole)
+  where
+    go : (b : Bool) → cond b (step (filled 0 (t .held .bytes)) (t .next) (appendOf (lineText (take (t .held .at) (t .held .bytes))) o)) (step (t .held) (t .next) o) .next ≡ t .next
+    go true = refl
+    go false = refl
+
+step-next : (h : Filled) (i : ℕ) (piece : List ℕ) (o : Filled) → isReady (h .bytes) o ≡ true → stepOf h i piece o .next ≡ takeOf (capped h) i (drop i piece) .next
+unfolding stepOf
+step-next h i piece o p = rw p (after-next (takeOf (capped h) i (drop i piece)) o)
+
+pub step-moves : (h : Filled) (i : ℕ) (piece : List ℕ) (o : Filled) → isReady (h .bytes) o ≡ true → i < length piece → (i < stepOf h i piece o .next) × (stepOf h i piece o .next ≤ length piece)
+step-moves h i piece o p l =
+    let moves = take-moves (drop i piece) (capped h) i in
+    (omega (arith, step-next h i piece o p, moves .0, length-drop i piece), omega (arith, step-next h i piece o p, moves .1, length-drop i piece))
 
 -- ---- what was taken, from a count that is at most 121
 module _ (n k l : ℕ) (line line′ : List ℕ) (i : ℕ) (xs : List ℕ) (w : Bool) (p : took (filled n line′) k w ≡ takeOf (filled l line) i xs) where

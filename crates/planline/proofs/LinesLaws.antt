@@ -8,7 +8,9 @@ use lib.Dec.{eqb}
 use lib.ListN.{length}
 use native.Mathlib.Omega.{arith}
 use borrow.Author.Tests.{eqb-true, eqb-false}
-use Rattle.planline.specs.Input.{lastLines, linesFrom, linesOf, textsOf}
+use Rattle.planline.specs.declared.line.Plan.{Plan}
+use Rattle.planline.specs.Input.{lastLines, linesFrom, linesOf, lineText, textsOf}
+use Rattle.planline.specs.Line.{planOf}
 use Rattle.planline.specs.Lines.{together, Clean, AllClean, LastSome, LinesOf, Answered, none, more}
 use Rattle.planline.proofs.Printing.{plan-printed}
 
@@ -52,7 +54,8 @@ lines-from (b ∷ bs) line c = go (eqb b 10) refl (lines-from bs [] tt) (λ n. l
 pub lines-are : (xs : List ℕ) → LinesOf xs (linesOf xs)
 lines-are xs = lines-from xs [] tt
 
-pub answered : (lines : List (List ℕ)) → Answered lines (textsOf lines)
-unfolding textsOf
-answered [] = none
-answered (line ∷ lines) = more (plan-printed line) (answered lines)
+module _ (Plans : List ℕ → Plan → Type 0) (plans-is : (line : List ℕ) (p : Plan) → Plans line p → p ≡ planOf line) where
+  pub answered : (lines : List (List ℕ)) → Answered Plans lines (textsOf lines)
+  unfolding textsOf
+  answered [] = none
+  answered (line ∷ lines) = more {text = lineText line} (λ p h. rw (plans-is line p h) (plan-printed line)) (answered lines)

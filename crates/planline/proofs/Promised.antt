@@ -1,8 +1,8 @@
 -- What is promised of lines, texts and runs, of the calls: every outcome that an attached contract allows keeps it.
 use Prim.Native.Nat.{ℕ, _+_, _<_, _≤_}
-use mathlib.Core.Path.{_≡_, sym, ap, _∙_}
+use mathlib.Core.Path.{_≡_, refl, sym, ap, _∙_}
 use mathlib.Core.List.{List}
-use mathlib.Core.Logic.{⊎-elim}
+use mathlib.Core.Logic.{_⊎_, ⊎-elim}
 use lib.ListN.{length}
 use lib.Seq.{sets-eq}
 use borrow.Author.Tests.{le-leb, lt-leb}
@@ -13,6 +13,10 @@ use borrow.Fn.Kinds.{Dens, resT, endedOf}
 use Rattle.modular.proofs.Laws.{lt-or-le}
 use Rattle.modular.proofs.Saying.{Allows, Keeps}
 use Rattle.sched.specs.declared.list.OperationsAnswer.{OperationsAnswer}
+use Rattle.sched.specs.declared.list.OperationsAnswer.the-variants as operations
+use Rattle.sched.specs.declared.list.ScheduledOperations.{ScheduledOperations}
+use Rattle.sched.specs.declared.refusal.Refusal.{Refusal}
+use Rattle.sched.specs.Refusal.{numberOf}
 use Rattle.sched.specs.Scheduler.{schedulerOf}
 use Rattle.sched.proofs.Says.{schedule-contiguous-operations-says}
 use Rattle.sched.proofs.scheduler.RingBufferScheduler.schedule_contiguous_operations.Kinds as schedule-kinds
@@ -30,6 +34,7 @@ use Rattle.planline.specs.Numeral.{Line, Printed, Appended, there, no-ro
 use Rattle.planline.specs.Run.{Place, Run, Start}
 use Rattle.planline.specs.Text.{Filled, filled, planText, appendOf}
 use Rattle.planline.proofs.Case.{input, output, case}
+use Rattle.planline.proofs.CutLaws.{ready-there, unready, last-unready, step-unready, step-moves}
 use Rattle.planline.proofs.LinesLaws.{lines-are, answered}
 use Rattle.planline.proofs.Printing.{line-parsed, parsed-line, line-planned, else-bad, plan-printed}
 use Rattle.planline.proofs.Runs.{run-text}
@@ -55,7 +60,7 @@ parse-promised κs a z q x = (λ l. said ∙ line-parsed (a .0 .now) x l, λ e. 
     said : z ≡ parseOf (a .0 .now)
     said = parse-says κs a z (q .0) (q .1)
 
--- its answer is what the scheduler's call answers to that, and `bad` where it is no line
+-- its answer is what the scheduler's call answers to that, a refusal by the scheduler's number of it, and `bad` where it is no line
 abbrev pub Scheduled : Asked → OperationsAnswer → Type 0
 Scheduled x y =
     Allows 0 schedule-kinds.ps schedule-kinds.r schedule.Learnt tt
@@ -63,14 +68,17 @@ Scheduled x y =
 
 pub plan-line-promised :
     Keeps 1 plan-line-kinds.ps plan-line-kinds.r plan-line.Learnt
-    (λ κs a z. ((x : Asked) → Line (a .0 .now) x → (y : OperationsAnswer) → Scheduled x y → z ≡ planAfter y) × (((x : Asked) → Line (a .0 .now) x → ⊥) → z ≡ plan.Bad))
-plan-line-promised κs a z q = (
-  λ x l y r. said ∙ line-planned (a .0 .now) x l ∙ ap planAfter (sym (schedule-contiguous-operations-says tt _ y (r .0) (r .1))),
-  λ n. said ∙ else-bad (a .0 .now) n,
-)
+    (λ κs a z.
+    ((x : Asked) → Line (a .0 .now) x →
+    ((ops : ScheduledOperations) → Scheduled x (operations.Of ops) → z ≡ plan.Ok ops) × ((e : Refusal) → Scheduled x (operations.Refused e) → z ≡ plan.Refused (numberOf e)))
+    × (((x : Asked) → Line (a .0 .now) x → ⊥) → z ≡ plan.Bad))
+plan-line-promised κs a z q = (λ x l. (λ ops r. planned x l (operations.Of ops) r, λ e r. planned x l (operations.Refused e) r), λ n. said ∙ else-bad (a .0 .now) n)
   where
     said : z ≡ planOf (a .0 .now)
     said = plan-line-says κs a z (q .0) (q .1)
+
+    planned : (x : Asked) → Line (a .0 .now) x → (y : OperationsAnswer) → Scheduled x y → z ≡ planAfter y
+    planned x l y r = said ∙ line-planned (a .0 .now) x l ∙ ap planAfter (sym (schedule-contiguous-operations-says tt _ y (r .0) (r .1)))
 
 -- ---- the text of a line's answer, of which every number is worth what it says
 appended : (p : Plan) (text before : List ℕ) (at : ℕ) → Printed text p → length text ≤ 89 → Appended before at p (appendOf text (filled at before) .at) (appendOf text (filled at before) .bytes)
@@ -97,7 +105,42 @@ append-promised κs a z ws q ηs b e p r =
     rw (left .0, left .1, said)
     (appended (planOf (a .0 .now)) (planText (planOf (a .0 .now))) (a .1 .0 .now) (a .1 .1 .0) (plan-printed (a .0 .now)) (plan-text-short (planOf (a .0 .now))))
 
--- ---- a run of the calls over any pieces makes the answers to the input's lines
+-- ---- one step
+-- where there is room and a byte is left, it goes on, and not over the piece's end
+pub answer-next-moves :
+    Keeps 3 answer-next-kinds.ps answer-next-kinds.r answer-next.Learnt
+    (λ κs a z.
+    121 ≤ length (a .0 .now) → a .1 .1 .1 .1 .1 .0 + 89 ≤ length (a .1 .1 .1 .1 .0 .now) → a .1 .1 .1 .0 < length (a .1 .1 .0 .now) →
+    (a .1 .1 .1 .0 < z .next) × (z .next ≤ length (a .1 .1 .0 .now)))
+answer-next-moves κs a z q h g l =
+    rw (answer-next-says κs a z (q .0) (q .1) .0)
+    (step-moves (filled (a .1 .0) (a .0 .now)) (a .1 .1 .1 .0) (a .1 .1 .0 .now) (filled (a .1 .1 .1 .1 .1 .0) (a .1 .1 .1 .1 .0 .now)) (ready-there (a .0 .now) (filled (a .1 .1 .1 .1 .1 .0) (a .1 .1 .1 .1 .0 .now)) h g) l)
+
+-- where there is no room, nothing changes: the three numbers and both buffers
+pub answer-next-no-room :
+    (κs : Lfts 3) (a : Dens κs answer-next-kinds.ps) (z : Cut) (ws : Lasts (endedOf 3 answer-next-kinds.ps answer-next-kinds.r) κs a) →
+    answer-next.Learnt κs a z (atExit (endedOf 3 answer-next-kinds.ps answer-next-kinds.r) κs a ws) →
+    (length (a .0 .now) < 121) ⊎ (length (a .1 .1 .1 .1 .0 .now) < a .1 .1 .1 .1 .1 .0 + 89) →
+    ((z .held ≡ a .1 .0) × (z .next ≡ a .1 .1 .1 .0) × (z .at ≡ a .1 .1 .1 .1 .1 .0)) × (ws .0 ≡ a .0 .now) × (ws .1 .1 .1 .1 .0 ≡ a .1 .1 .1 .1 .0 .now)
+answer-next-no-room κs a z ws q n =
+    let h : Filled = filled (a .1 .0) (a .0 .now) in
+    let o : Filled = filled (a .1 .1 .1 .1 .1 .0) (a .1 .1 .1 .1 .0 .now) in
+    let same : stepOf h (a .1 .1 .1 .0) (a .1 .1 .0 .now) o ≡ step h (a .1 .1 .1 .0) o = sym (step-unready h (a .1 .1 .1 .0) (a .1 .1 .0 .now) o (unready (a .0 .now) o n)) in
+    let left = answer-next-says κs a z ws q in
+    rw (left .0, left .1, same) ((refl, refl, refl), refl, refl)
+
+pub answer-last-no-room :
+    (κs : Lfts 2) (a : Dens κs answer-last-kinds.ps) (z : ℕ) (ws : Lasts (endedOf 2 answer-last-kinds.ps answer-last-kinds.r) κs a) →
+    answer-last.Learnt κs a z (atExit (endedOf 2 answer-last-kinds.ps answer-last-kinds.r) κs a ws) →
+    (length (a .0 .now) < 121) ⊎ (length (a .1 .1 .0 .now) < a .1 .1 .1 .0 + 89) →
+    (z ≡ a .1 .1 .1 .0) × (ws .1 .1 .0 ≡ a .1 .1 .0 .now)
+answer-last-no-room κs a z ws q n =
+    let o : Filled = filled (a .1 .1 .1 .0) (a .1 .1 .0 .now) in
+    let same : lastOf (filled (a .1 .0) (a .0 .now)) o ≡ o = sym (last-unready (a .1 .0) (a .0 .now) o (unready (a .0 .now) o n)) in
+    let left = answer-last-says κs a z ws q in
+    rw (left .0, left .1, same) (refl, refl)
+
+-- ---- a run of the calls over any pieces makes the answers to the input's lines, each the text of what `plan_line` answers to it
 -- `answer_next` may leave x on what stands at s, from an index of a piece
 pub record NextCall (piece : List ℕ) (s : Place) (i : ℕ) (x : Step) : Type 0 where
   pub κs : Lfts 3
@@ -121,6 +164,16 @@ pub record LastCall (s : Place) (o : Filled) : Type 0 where
   pub lent-out : filled (a .1 .1 .1 .0) (a .1 .1 .0 .now) ≡ s .out
   pub leaves : o ≡ filled z (ws .1 .1 .0)
 
+-- `plan_line` may answer p to a line
+pub record PlanCall (line : List ℕ) (p : Plan) : Type 0 where
+  pub κs : Lfts 1
+  pub a : Dens κs plan-line-kinds.ps
+  pub allowed : Allows 1 plan-line-kinds.ps plan-line-kinds.r plan-line.Learnt κs a p
+  pub lent : a .0 .now ≡ line
+
+plan-is : (line : List ℕ) (p : Plan) → PlanCall line p → p ≡ planOf line
+plan-is line p c = plan-line-says (c .κs) (c .a) p (c .allowed .0) (c .allowed .1) ∙ ap planOf (c .lent)
+
 next-is : (piece : List ℕ) (s : Place) (i : ℕ) (x : Step) → NextCall piece s i x → x ≡ stepOf (s .held) i piece (s .out)
 next-is piece s i x c =
     let left = answer-next-says (c .κs) (c .a) (c .z) (c .ws) (c .allowed) in
@@ -134,8 +187,8 @@ last-is s o c =
 run-is : (pieces : List (List ℕ)) (s : Place) (text : List ℕ) → Start s → Run NextCall LastCall pieces s text → text ≡ textsOf (linesOf (joined pieces))
 run-is = run-text NextCall LastCall next-is last-is
 
-pub run-promised : (pieces : List (List ℕ)) (s : Place) (text : List ℕ) → Start s → Run NextCall LastCall pieces s text → (lines : List (List ℕ)) × LinesOf (joined pieces) lines × Answered lines text
-run-promised pieces s text b r = (linesOf (joined pieces), lines-are (joined pieces), rw (run-is pieces s text b r) (answered (linesOf (joined pieces))))
+pub run-promised : (pieces : List (List ℕ)) (s : Place) (text : List ℕ) → Start s → Run NextCall LastCall pieces s text → (lines : List (List ℕ)) × LinesOf (joined pieces) lines × Answered PlanCall lines text
+run-promised pieces s text b r = (linesOf (joined pieces), lines-are (joined pieces), rw (run-is pieces s text b r) (answered PlanCall plan-is (linesOf (joined pieces))))
 
 -- the paper's whole case, in whatever pieces
 pub case-promised : (pieces : List (List ℕ)) (s : Place) (text : List ℕ) → Start s → joined pieces ≡ input → Run NextCall LastCall pieces s text → text ≡ output

@@ -9,6 +9,7 @@ use Rattle.planline.specs.Cut.{Step, heldLine, stepOf, lastOf}
 use Rattle.planline.specs.Input.{linesOf, textsOf, Eaten, eaten, eatAll, eatPieces, joined, endText}
 use Rattle.planline.specs.Run.{Place, Moves, ends, steps, writes, Run, last, next, Start}
 use Rattle.planline.specs.Text.{Filled}
+use Rattle.planline.proofs.CutLaws.{ready-there}
 use Rattle.planline.proofs.Pieces.{any-pieces}
 use Rattle.planline.proofs.Steps.{Held, stateOf, Stepped, stepped, finished}
 
@@ -38,7 +39,7 @@ module _
     moved : {piece : List ℕ} {s t : Place} {i : ℕ} → Moves Next Last piece s i t → Held (s .held) → Moved (drop i piece) s t
     moved {piece} {s} {t} {i} (ends h) k = record { same = eat-none (stateAt s) (drop i piece) (drop-of-length-le piece h); held = k }
     moved {piece} {s} {t} {i} (steps {x} p q m) k =
-        let g : Stepped (s .held) i piece (s .out) (s .written) x = rw (next-is piece s i x q) (stepped (s .held) i piece (s .out) (s .written) k p) in
+        let g : Stepped (s .held) i piece (s .out) (s .written) x = rw (next-is piece s i x q) (stepped (s .held) i piece (s .out) (s .written) k (ready-there (s .held .bytes) (s .out) (p .0) (p .1))) in
         let r = moved m (g .held) in
         record { same = g .same ∙ r .same; held = r .held }
     moved {piece} {s} {t} {i} (writes m) k =
@@ -50,7 +51,7 @@ module _
 
     ran : {pieces : List (List ℕ)} {s : Place} {text : List ℕ} → Run Next Last pieces s text → Held (s .held) → text ≡ endText (eatPieces (stateAt s) pieces)
     unfolding eatPieces
-    ran {s} (last {o} p q) k = ap (λ (x : Filled). s .written ++ heldLine x) (last-is s o q) ∙ sym (finished (s .held) (s .out) (s .written) k p)
+    ran {s} (last {o} p q) k = ap (λ (x : Filled). s .written ++ heldLine x) (last-is s o q) ∙ sym (finished (s .held) (s .out) (s .written) k (ready-there (s .held .bytes) (s .out) (p .0) (p .1)))
     ran (next {pieces} m r) k =
         let g = moved m k in
         ran r (g .held) ∙ ap (λ (x : Eaten). endText (eatPieces x pieces)) (sym (g .same))

@@ -4,7 +4,7 @@ use mathlib.Core.Path.{_≡_}
 use mathlib.Core.List.{List, [], _∷_, _++_}
 use mathlib.Core.Logic.{_⊎_}
 use lib.ListN.{length}
-use Rattle.planline.specs.Line.{planOf}
+use Rattle.planline.specs.declared.line.Plan.{Plan}
 use Rattle.planline.specs.Numeral.{Printed}
 
 -- a line feed behind each line
@@ -32,7 +32,8 @@ pub record LinesOf (xs : List ℕ) (lines : List (List ℕ)) : Type 0 where
   pub clean : AllClean lines
   pub again : (together lines ≡ xs) ⊎ ((together lines ≡ xs ++ (10 ∷ [])) × LastSome lines)
 
--- one line's answer behind the other's
-pub data Answered : List (List ℕ) → List ℕ → Type 0 where
-  none : Answered [] []
-  more : {line : List ℕ} {lines : List (List ℕ)} {text rest : List ℕ} → Printed text (planOf line) → Answered lines rest → Answered (line ∷ lines) (text ++ rest)
+-- one line's answer behind the other's, each the text of every plan that may be answered to the line
+module _ (Plans : List ℕ → Plan → Type 0) where
+  pub data Answered : List (List ℕ) → List ℕ → Type 0 where
+    none : Answered [] []
+    more : {line : List ℕ} {lines : List (List ℕ)} {text rest : List ℕ} → ((p : Plan) → Plans line p → Printed text p) → Answered lines rest → Answered (line ∷ lines) (text ++ rest)

@@ -1,11 +1,10 @@
 -- The runs of a program over two calls, a step and the input's end: each piece of the input is used up by steps, and between any
 -- two of them the text so far may be written out. Whatever the pieces are, and whenever text is written.
-use Prim.Native.Nat.{ℕ, _≤_}
+use Prim.Native.Nat.{ℕ, _+_, _≤_}
 use mathlib.Core.Path.{_≡_}
-use mathlib.Core.Bool.{true}
 use mathlib.Core.List.{List, [], _∷_, _++_}
 use lib.ListN.{length}
-use Rattle.planline.specs.Cut.{Step, heldLine, isReady}
+use Rattle.planline.specs.Cut.{Step, heldLine}
 use Rattle.planline.specs.Text.{Filled, filled}
 
 -- what is held of a line, the buffer of the text, and what was written before
@@ -17,8 +16,9 @@ pub record Place : Type 0 where
 abbrev pub place : Filled → Filled → List ℕ → Place
 place h o w = record { held = h; out = o; written = w }
 
+-- room for the longest line that is held, and for the longest answer
 abbrev pub readyAt : Place → Type 0
-readyAt s = isReady (s .held .bytes) (s .out) ≡ true
+readyAt s = (121 ≤ length (s .held .bytes)) × (s .out .at + 89 ≤ length (s .out .bytes))
 
 -- `Next` and `Last` are what the calls may answer: a step from an index of a piece, and what the text's buffer holds at the end
 module _ (Next : List ℕ → Place → ℕ → Step → Type 0) (Last : Place → Filled → Type 0) where

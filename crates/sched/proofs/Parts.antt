@@ -1,7 +1,7 @@
 -- The definitions of counters, offsets, fill, layout and blocks keep what `Parts` of specs/ says; `PromisedParts` states it of
 -- the calls.
 use Prim.Native.Nat.{ℕ, _+_, _-_, _*_, _%_, _<_}
-use mathlib.Core.Path.{_≡_, refl, sym, ap}
+use mathlib.Core.Path.{_≡_, refl, sym, ap, _∙_}
 use mathlib.Core.Bool.{Bool, true, false, cond}
 use mathlib.Core.Logic.{_⊎_, inl, inr, ⊎-elim}
 use lib.Dec.{eqb, ltb}
@@ -9,18 +9,23 @@ use borrow.Author.Tests.{eqb-true, eqb-false, ltb-true, ltb-false}
 use native.Mathlib.Nat.{mod-eq-of-lt}
 use native.Mathlib.Omega.{arith}
 use Rattle.modular.proofs.Laws.{once, lt-or-le}
+use Rattle.sched.specs.declared.block.Bit.{Bit}
 use Rattle.sched.specs.declared.block.Bit.the-variants.{Zero}
+use Rattle.sched.specs.declared.block.Block.{Block}
+use Rattle.sched.specs.declared.block.Blocks.{Blocks}
 use Rattle.sched.specs.declared.block.BufferFillState.the-variants.{Empty, Partial, Full}
 use Rattle.sched.specs.declared.block.BufferLayout.{BufferLayout}
 use Rattle.sched.specs.declared.block.BufferLayout.the-variants.{DataFreeData, FreeDataFree}
+use Rattle.sched.specs.declared.block.BlockType.{BlockType}
 use Rattle.sched.specs.declared.block.BlockType.the-variants.{Free, Data}
 use Rattle.sched.specs.declared.counter.Counter.{Counter}
 use Rattle.sched.specs.declared.counter.Offset.{Offset}
 use Rattle.sched.specs.declared.operation.OperationType.{OperationType}
 use Rattle.sched.specs.declared.operation.OperationType.the-variants.{Read, Write}
 use Rattle.sched.specs.declared.scheduler.RingBufferScheduler.{RingBufferScheduler}
-use Rattle.sched.specs.Parts.{CounterOf, OffsetOf, FillOf, None, Some, LayoutOf, BlocksOf, typeFor, NextBlockOf}
-use Rattle.sched.specs.Scheduler.{IsSound, dataIn, greatestIn, counterIn, offsetIn, fillStateIn, layoutIn, blocksIn, nextBlockIn}
+use Rattle.sched.specs.Block.{blockOf, outerOf, innerOf}
+use Rattle.sched.specs.Parts.{CounterOf, OffsetOf, FillOf, None, Some, LayoutOf, Typed, BlocksOf, typeFor, NextBlockOf}
+use Rattle.sched.specs.Scheduler.{IsSound, dataIn, greatestIn, counterIn, offsetIn, fillStateIn, layoutIn, lowIn, highIn, blocksIn, nextBlockIn}
 use Rattle.sched.proofs.Laws.{offset-lt, counter-lt, arranged, next-off, next-len}
 
 pub counter-is : (s : RingBufferScheduler) (t : OperationType) → CounterOf s t (counterIn s t)
@@ -52,6 +57,14 @@ some-is n = go (ltb 0 n) refl
     go : (b : Bool) → ltb 0 n ≡ b → Some n b
     go true e = ltb-true 0 n e
     go false e = omega (arith, ltb-false 0 n e)
+
+abbrev three : Block → Block → Block → Blocks
+three x y z = record { 0 = x; 1 = y; 2 = z }
+
+same-block : (b c : Block) → b .typ ≡ c .typ → b .no ≡ c .no → b .off .0 ≡ c .off .0 → b .len ≡ c .len → b ≡ c
+same-block b c t n o l =
+    ap (λ (x : BlockType). blockOf x (b .no) (b .off) (b .len)) t ∙ ap (λ (x : Bit). blockOf (c .typ) x (b .off) (b .len)) n
+    ∙ ap (λ (x : ℕ). blockOf (c .typ) (c .no) (record { 0 = x }) (b .len)) o ∙ ap (λ (x : ℕ). blockOf (c .typ) (c .no) (c .off) x) l
 
 module _ (s : RingBufferScheduler) (h : IsSound s) where
   pub offset-is : (t : OperationType) → OffsetOf s t (offsetIn s t)
@@ -112,6 +125,38 @@ module _ (s : RingBufferScheduler) (h : IsSound s) where
         numbers = (refl, refl, refl);
       }))
       (arranged s h)
+
+  -- and no other blocks are: so what is said of one block alone is said of that of `blocks`
+  module _ (b : Blocks) (p : BlocksOf s b) where
+    lens : (b .0 .len ≡ lowIn s) × (b .1 .len ≡ highIn s - lowIn s) × (b .2 .len ≡ s .«buf_len» - highIn s)
+    lens =
+        ⊎-elim
+        (λ e.
+        let x : b .1 .off .0 ≡ offsetIn s Read .0 = ap (λ (o : Offset). o .0) (e .0) in
+        let y : b .2 .off .0 ≡ offsetIn s Write .0 = ap (λ (o : Offset). o .0) (e .1) in
+        (omega (arith, p .second, p .third), omega (arith, p .second, p .third), omega (arith, p .second, p .third, p .whole)))
+        (λ e.
+        let x : b .1 .off .0 ≡ offsetIn s Write .0 = ap (λ (o : Offset). o .0) (e .0) in
+        let y : b .2 .off .0 ≡ offsetIn s Read .0 = ap (λ (o : Offset). o .0) (e .1) in
+        (omega (arith, p .second, p .third), omega (arith, p .second, p .third), omega (arith, p .second, p .third, p .whole)))
+        (p .cut)
+
+    types : Typed b (outerOf (layoutIn s)) (innerOf (layoutIn s))
+    types =
+        ⊎-elim
+        (λ a. rw (a .0) (p .ahead (⊎-elim (λ l. inl l) (λ l. inr (omega (arith, a .1), omega (arith, a .1))) (lt-or-le (offsetIn s Read .0) (offsetIn s Write .0)))))
+        (λ a. rw (a .0) (p .round (⊎-elim (λ l. inl l) (λ l. inr (omega (arith, a .1, h .fill), omega (arith, a .1, h .sized .some))) (lt-or-le (offsetIn s Write .0) (offsetIn s Read .0)))))
+        (arranged s h)
+
+    blocks-are-these : b ≡ blocksIn s
+    blocks-are-these =
+        let x : b .0 ≡ blocksIn s .0 = same-block (b .0) (blocksIn s .0) (types .0) (p .numbers .0) (p .first) (lens .0) in
+        let y : b .1 ≡ blocksIn s .1 = same-block (b .1) (blocksIn s .1) (types .1) (p .numbers .1) (p .second ∙ lens .0) (lens .1) in
+        let z : b .2 ≡ blocksIn s .2 = same-block (b .2) (blocksIn s .2) (types .2) (p .numbers .2) (omega (arith, p .third, lens .0, lens .1)) (lens .2) in
+        ap (λ (k : Block). three k (b .1) (b .2)) x ∙ ap (λ (k : Block). three (blocksIn s .0) k (b .2)) y ∙ ap (λ (k : Block). three (blocksIn s .0) (blocksIn s .1) k) z
+
+  pub blocks-only : (b c : Blocks) → BlocksOf s b → BlocksOf s c → b ≡ c
+  blocks-only b c p q = blocks-are-these b p ∙ sym (blocks-are-these c q)
 
   next-typed : (t : OperationType) → nextBlockIn s t .typ ≡ typeFor t
   next-typed t = go t (layoutIn s) refl

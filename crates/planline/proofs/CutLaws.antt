@@ -107,7 +107,7 @@ module _ (h : Filled) (i : ℕ) (piece : List ℕ) (o : Filled) where
     step-part q = rw (p, ← q)
 
 -- ---- a step goes on, and not over the piece's end
-take-moves : (xs : List ℕ) (h : Filled) (i : ℕ) → (i + min 1 (length xs) ≤ takeOf h i xs .next) × (takeOf h i xs .next ≤ i + length xs)
+pub take-moves : (xs : List ℕ) (h : Filled) (i : ℕ) → (i + min 1 (length xs) ≤ takeOf h i xs .next) × (takeOf h i xs .next ≤ i + length xs)
 unfolding takeOf
 take-moves [] h i = (omega arith, omega arith)
 take-moves (b ∷ bs) h i = go (eqb b 10) (take-moves bs (holdOf h b) (i + 1))

@@ -1,5 +1,6 @@
 pub mod Case
 pub mod CutLaws
+pub mod FrameLaws
 pub mod DecimalLaws
 pub mod Says
 pub mod DecimalForm

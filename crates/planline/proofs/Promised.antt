@@ -1,9 +1,9 @@
 -- What is promised of lines, texts and runs, of the calls: every outcome that an attached contract allows keeps it.
-use Prim.Native.Nat.{ℕ, _+_, _<_, _≤_}
+use Prim.Native.Nat.{ℕ, _+_, _-_, _<_, _≤_}
 use mathlib.Core.Path.{_≡_, refl, sym, ap, _∙_}
 use mathlib.Core.List.{List}
 use mathlib.Core.Logic.{_⊎_, ⊎-elim}
-use lib.ListN.{length}
+use lib.ListN.{length, getD}
 use lib.Seq.{sets-eq}
 use borrow.Author.Tests.{le-leb, lt-leb}
 use native.Mathlib.Omega.{arith}
@@ -35,6 +35,7 @@ use Rattle.planline.specs.Run.{Place, Run, Start}
 use Rattle.planline.specs.Text.{Filled, filled, planText, appendOf}
 use Rattle.planline.proofs.Case.{input, output, case}
 use Rattle.planline.proofs.CutLaws.{ready-there, unready, last-unready, step-unready, step-moves}
+use Rattle.planline.proofs.FrameLaws.{step-other}
 use Rattle.planline.proofs.LinesLaws.{lines-are, answered}
 use Rattle.planline.proofs.Printing.{line-parsed, parsed-line, line-planned, else-bad, plan-printed}
 use Rattle.planline.proofs.Runs.{run-text}
@@ -128,6 +129,17 @@ answer-next-no-room κs a z ws q n =
     let same : stepOf h (a .1 .1 .1 .0) (a .1 .1 .0 .now) o ≡ step h (a .1 .1 .1 .0) o = sym (step-unready h (a .1 .1 .1 .0) (a .1 .1 .0 .now) o (unready (a .0 .now) o n)) in
     let left = answer-next-says κs a z ws q in
     rw (left .0, left .1, same) ((refl, refl, refl), refl, refl)
+
+-- of the text's buffer no byte changes but those from `at` up to the new index, of the held line's none but as many as were taken
+pub answer-next-else-same :
+    (κs : Lfts 3) (a : Dens κs answer-next-kinds.ps) (z : Cut) (ws : Lasts (endedOf 3 answer-next-kinds.ps answer-next-kinds.r) κs a) →
+    answer-next.Learnt κs a z (atExit (endedOf 3 answer-next-kinds.ps answer-next-kinds.r) κs a ws) →
+    (j : ℕ) →
+    ((j < a .1 .1 .1 .1 .1 .0) ⊎ (z .at ≤ j) → getD (ws .1 .1 .1 .1 .0) j 0 ≡ getD (a .1 .1 .1 .1 .0 .now) j 0)
+    × ((j < a .1 .0) ⊎ (a .1 .0 + (z .next - a .1 .1 .1 .0) ≤ j) → getD (ws .0) j 0 ≡ getD (a .0 .now) j 0)
+answer-next-else-same κs a z ws q j =
+    let left = answer-next-says κs a z ws q in
+    rw (left .0, left .1) (step-other (filled (a .1 .0) (a .0 .now)) (a .1 .1 .1 .0) (a .1 .1 .0 .now) (filled (a .1 .1 .1 .1 .1 .0) (a .1 .1 .1 .1 .0 .now)) j)
 
 pub answer-last-no-room :
     (κs : Lfts 2) (a : Dens κs answer-last-kinds.ps) (z : ℕ) (ws : Lasts (endedOf 2 answer-last-kinds.ps answer-last-kinds.r) κs a) →

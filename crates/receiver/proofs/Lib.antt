@@ -18,10 +18,10 @@ pub mod Rows
 pub mod MachineRows
 pub mod AnswerSays
 pub mod Rules
+pub mod CaseLaws
 pub mod Says
 pub mod Given
 pub mod GivenAnswer
 pub mod Promised
 pub mod PromisedStates
 pub mod PromisedMachine
-pub mod PromisedAnnouncement

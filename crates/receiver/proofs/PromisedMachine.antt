@@ -1,35 +1,35 @@
--- Promises of the machine, of its calls: batches, and the pending count over any answers that a host hands in.
-use Prim.Native.Nat.{ℕ, _+_, _-_, min}
+-- Promises of the machine, of its calls: what each comes to, by the cases of specs/Cases.antt, and the pending count over any answers that
+-- a host hands in.
+use Prim.Native.Nat.{ℕ, _+_, _≤_, min}
 use mathlib.Core.Path.{_≡_, refl, sym, ap, subst, _∙_}
 use mathlib.Core.Bool.{Bool, cond, true, false}
 use mathlib.Core.List.{List}
-use lib.Dec.{eqb}
+use mathlib.Core.Logic.{inl, inr}
+use native.Mathlib.Omega.{arith}
 use lib.ListN.{length}
-use borrow.Author.Tests.{eqb-false}
 use contract.Lifetimes.{Lfts}
 use denote.Ref.{RefT}
 use Rattle.modular.proofs.Saying.{Allows, Keeps}
 use Rattle.sched.specs.declared.scheduler.RingBufferScheduler.{RingBufferScheduler}
-use Rattle.sched.specs.Scheduler.{dataIn}
+use Rattle.sched.specs.Scheduler.{IsSound, dataIn}
+use Rattle.receiver.proofs.AdmissionLaws.{passed-sound}
+use Rattle.receiver.proofs.AnswerSays.{received-says, sent-says, shut-says, interrupted-says}
+use Rattle.receiver.proofs.CaseLaws.{comes, meets, closes-by, serves, advances, takes-sent, takes-unsent, takes-received, begins-read}
 use Rattle.receiver.proofs.HandedSum.{handed-sum}
 use Rattle.receiver.proofs.Made.{Made}
-use Rattle.receiver.proofs.Rules.{batch-rule}
 use Rattle.receiver.proofs.Says.{begin-read-says, begin-service-says, begin-shutdown-says, answered-says}
 use Rattle.receiver.specs.Admission.{admissionOf}
 use Rattle.receiver.specs.Answer.{interruptedOf, receivedOf, sentOf, shutOf}
-use Rattle.receiver.specs.Call.{call, finishedCall, outcomeIn, toldIn, shutOrFinishBy, shutdownBy, advanceCall, flushCall, serviceCallBy, serviceCall, sentCall, unsentCall, afterShut, handOutCall, failedCall, blockedBy, announcedCall, afterReceive, liveCall, readBy, admittedStep, looksAt, resumedBy, resumedOf, steppedBy, answeredFrom, answeredOf}
+use Rattle.receiver.specs.Call.{serviceCall, advanceCall, sentCall, unsentCall, afterSend, afterShut, afterReceive, readCall, admittedStep, looksBy, looksAt, resumedBy, resumedOf, steppedBy, answeredFrom, answeredOf}
+use Rattle.receiver.specs.Cases.{none-met, Closes, is-normal, shut-before, asks, Flushes, none-pending, sends, Serves, failed-before, flushes, TakesSent, TakesReceived, TakesShut, is-shut, is-not, HandsOut, a-part, all-of-it, BeginsRead, is-terminated, none-asked, awaits, holds-data, BeginsService, BeginsShutdown, Looks, at-a-byte, at-no-byte, at-a-send, at-a-shutdown, at-the-end, ResumesIn, Resumes, Interrupts, TakesIn, Takes, Answered, Goes}
 use Rattle.receiver.specs.Handed.{Handed, stepOf, handedTo, allSentTo, allWholeTo}
-use Rattle.receiver.specs.Promise.{BatchedIn, Batched}
-use Rattle.receiver.specs.Receiver.{withScheduler, withState, withPending, batchIn, bySent, byteIn, handedOut}
-use Rattle.receiver.specs.State.{failureIn, isErrno, advanceIn}
+use Rattle.receiver.specs.Promise.{AByte, SaysReceived, a-byte, closed, receive-failed, no-receive, SaysSent, so-many, Batch, all, most}
+use Rattle.receiver.specs.Receiver.{batchIn, bySent}
 use Rattle.receiver.specs.declared.admission.Admission.{Admission}
 use Rattle.receiver.specs.declared.admission.Admission.the-variants as admission
 use Rattle.receiver.specs.declared.admission.Memory.the-variants as memory
-use Rattle.receiver.specs.declared.announcement.Announced.{Announced}
-use Rattle.receiver.specs.declared.announcement.Announced.the-variants as announced
 use Rattle.receiver.specs.declared.answer.Answer.{Answer}
 use Rattle.receiver.specs.declared.answer.Received.{Received}
-use Rattle.receiver.specs.declared.answer.Received.the-variants as received
 use Rattle.receiver.specs.declared.answer.Sent.{Sent}
 use Rattle.receiver.specs.declared.answer.Sent.the-variants as sent
 use Rattle.receiver.specs.declared.answer.Shut.{Shut}
@@ -46,10 +46,8 @@ use Rattle.receiver.specs.declared.receiver.ReceiverState.{ReceiverState
 use Rattle.receiver.specs.declared.refusal.Refusal.the-variants.{Misfit}
 use Rattle.receiver.specs.declared.state.Failure.{Failure}
 use Rattle.receiver.specs.declared.state.Failure.the-variants.{Io}
-use Rattle.receiver.specs.declared.state.OperationalState.{OperationalState}
-use Rattle.receiver.specs.declared.state.OperationalState.the-variants.{Normal, Draining, Terminated}
-use Rattle.receiver.specs.declared.state.PotentialFailure.{PotentialFailure}
-use Rattle.receiver.specs.declared.state.PotentialFailure.the-variants.{Some, None}
+use Rattle.receiver.specs.declared.state.OperationalState.the-variants.{Draining, Terminated}
+use Rattle.receiver.specs.declared.state.PotentialFailure.the-variants.{None}
 use Rattle.receiver.proofs.call.Call.begin_read.Kinds as begin-read-kinds
 use Rattle.receiver.proofs.call.Call.begin_read.Reads as begin-read
 use Rattle.receiver.proofs.call.Call.begin_service.Kinds as begin-service-kinds
@@ -59,130 +57,150 @@ use Rattle.receiver.proofs.call.Call.begin_shutdown.Reads as begin-shut
 use Rattle.receiver.proofs.call.Call.answered.Kinds as answered-kinds
 use Rattle.receiver.proofs.call.Call.answered.Reads as answered
 
--- ---- batches: a call that waits to send waits to send all that is pending, or 128 of it
-either : (b : Bool) (x y : Step) → Batched x → Batched y → Batched (cond b x y)
-either true x y f g = f
-either false x y f g = g
+-- ---- where the tests were passed, the rules
+passing : (P : Call → Type 0) (x : Admission) (y : Step) → (admission.Passed ≡ x → Goes P y) → Goes P (admittedStep x y)
+passing P admission.Passed y h = h refl
+passing P (admission.Refused r) y h = tt
+
+then-goes : (P Q : Call → Type 0) (y : Step) → ((c : Call) → P c → Q c) → Goes P y → Goes Q y
+then-goes P Q (Of c) f h = f c h
+then-goes P Q (Refused r) f h = tt
+
+-- ---- what a call waits for that the rules made
+abbrev WaitsIn : Phase → ReceiverState → Type 0
+WaitsIn (phase.Receive top asked) q = IsSound (q .scheduler) × (dataIn (q .scheduler) ≡ 0) × ((f : Failure) → q .state ≡ Terminated f → ⊥)
+WaitsIn (phase.Send batch e) q = Batch (q .«pending_ack_count») batch
+WaitsIn (phase.Shutdown e) q = Unit {0}
+WaitsIn (phase.Finished o) q = Unit {0}
+
+abbrev Waits : Call → Type 0
+Waits c = WaitsIn (c .phase) (c .receiver)
 
 module _ (q : ReceiverState) (s : RingBufferScheduler) (e : Ending) where
-  flush-batched : Batched (Of (flushCall q s e))
-  unfolding flushCall
-  flush-batched = by (eqb (q .«pending_ack_count») 0) refl
-    where
-      by : (b : Bool) → eqb (q .«pending_ack_count») 0 ≡ b → Batched (Of (cond b (finishedCall q s (outcomeIn e)) (call q s (phase.Send (batchIn q) e))))
-      by true z = tt
-      by false z = batch-rule (q .«pending_ack_count») (eqb-false _ _ z)
+  flush-waits : (c : Call) → Flushes q s e c → Waits c
+  flush-waits _ (none-pending p t) = tt
+  flush-waits _ (sends b) = b
 
-  service-batched : (x : PotentialFailure) → Batched (Of (serviceCallBy x q s e))
-  service-batched (Some f) = tt
-  service-batched None = flush-batched
+  service-waits : (c : Call) → Serves q s e c → Waits c
+  service-waits _ (failed-before h m t) = tt
+  service-waits c (flushes h f) = flush-waits c f
 
-  shut-batched : (b : Bool) → Batched (Of (shutOrFinishBy b q s e))
-  shut-batched true = tt
-  shut-batched false = tt
+  shutdown-waits : (c : Call) → Closes q s e c → Waits c
+  shutdown-waits _ (is-normal p t) = tt
+  shutdown-waits _ (shut-before p t) = tt
+  shutdown-waits _ (asks n p) = tt
 
-  shutdown-batched : (st : OperationalState) → Batched (Of (shutdownBy st q s e))
-  shutdown-batched Normal = tt
-  shutdown-batched (Draining f) = shut-batched (q .«notification_socket_shutdown_issued»)
-  shutdown-batched (Terminated f) = shut-batched (q .«notification_socket_shutdown_issued»)
+hand-out-waits : (q : ReceiverState) (asked fds : ℕ) (c : Call) → HandsOut q asked fds c → Waits c
+hand-out-waits q asked fds c (a-part l r h) = service-waits _ _ _ c h
+hand-out-waits q asked fds c (all-of-it l r h) = service-waits _ _ _ c h
 
-advance-batched : (to : OperationalState) (q : ReceiverState) (s : RingBufferScheduler) (e : Ending) → Batched (Of (advanceCall to q s e))
-advance-batched to q s e = shutdown-batched (withState q (advanceIn (q .state) to)) s e (advanceIn (q .state) to)
+read-waits : (q : ReceiverState) → IsSound (q .scheduler) → (top asked : ℕ) (c : Call) → BeginsRead q top asked c → Waits c
+read-waits q sound top asked _ (is-terminated p) = tt
+read-waits q sound top asked _ (none-asked l z) = tt
+read-waits q sound top asked _ (awaits r z) = (sound, z, r .live)
+read-waits q sound top asked c (holds-data r l h) = hand-out-waits q asked 0 c h
 
-admitted-batched : (x : Admission) (y : Step) → Batched y → Batched (admittedStep x y)
-admitted-batched admission.Passed y h = h
-admitted-batched (admission.Refused r) y h = tt
+-- ---- what the rules make of a call, and of an answer to it
+module _ (c : Call) (sound : IsSound (c .receiver .scheduler)) where
+  resumes-by : (ph : Phase) → Goes (ResumesIn ph c) (resumedBy ph c)
+  resumes-by (phase.Receive top asked) = begins-read (c .receiver) sound top asked
+  resumes-by (phase.Send batch e) = serves (c .receiver) (c .source) e
+  resumes-by (phase.Shutdown e) = closes-by (c .receiver) (c .source) e (c .receiver .state) refl
+  resumes-by (phase.Finished o) = refl
 
-module _ (q : ReceiverState) where
-  hand-out-batched : (asked fds : ℕ) → Batched (Of (handOutCall asked fds q))
-  hand-out-batched asked fds =
-      let r = handedOut q (min asked (dataIn (q .scheduler))) in
-      service-batched r (q .scheduler) _ (failureIn (r .state))
+  resumed-waits : (ph : Phase) → c .phase ≡ ph → (d : Call) → ResumesIn ph c d → Waits d
+  resumed-waits (phase.Receive top asked) p d h = read-waits (c .receiver) sound top asked d h
+  resumed-waits (phase.Send batch e) p d h = service-waits (c .receiver) (c .source) e d h
+  resumed-waits (phase.Shutdown e) p d h = shutdown-waits (c .receiver) (c .source) e d h
+  resumed-waits (phase.Finished o) p d h = subst Waits (sym h) (subst (λ (ph : Phase). WaitsIn ph (c .receiver)) (sym p) tt)
 
-  live-batched : (top asked : ℕ) → Batched (liveCall q top asked)
-  live-batched top asked = either (eqb asked 0) _ _ tt (either (eqb (q .«pending_ack_count») _) _ _ tt (either (eqb (dataIn (q .scheduler)) 0) _ _ tt (hand-out-batched asked 0)))
+-- the batch is the smaller of 128 and what is pending
+batch-is : (n batch : ℕ) → Batch n batch → batch ≡ min 128 n
+batch-is n _ (all l m) = omega (arith, m)
+batch-is n _ (most l) = omega (arith, l)
 
-  read-batched : (top asked : ℕ) (st : OperationalState) → Batched (readBy st q top asked)
-  read-batched top asked Normal = live-batched top asked
-  read-batched top asked (Draining f) = live-batched top asked
-  read-batched top asked (Terminated f) = tt
-
-  module _ (s : RingBufferScheduler) where
-    failed-batched : (f : Failure) → Batched (Of (failedCall f q s))
-    failed-batched f = advance-batched (Terminated f) q s _
-
-    blocked-batched : (st : OperationalState) → Batched (Of (blockedBy st q s))
-    blocked-batched Normal = tt
-    blocked-batched (Draining f) = failed-batched f
-    blocked-batched (Terminated f) = failed-batched (Io 11)
-
-    failure-batched : (f : Failure) (b : Bool) → Batched (Of (cond b (blockedBy (q .state) q s) (failedCall f q s)))
-    failure-batched f true = blocked-batched (q .state)
-    failure-batched f false = failed-batched f
-
-announced-batched : (q : ReceiverState) (s : RingBufferScheduler) (asked : ℕ) (x : Announced) → Batched (Of (announcedCall x asked q s))
-announced-batched q s asked (announced.Chunk u fds) = hand-out-batched (withScheduler q u) asked fds
-announced-batched q s asked (announced.Failed f) = failure-batched q s f (isErrno f 11)
+-- no more is sent than the batch
+sent-below : (a : Answer) (batch n : ℕ) → SaysSent a batch (sent.Sent n) → n ≤ batch
+sent-below a batch _ (so-many k l) = l
 
 module _ (d : Call) (ring : List ℕ) (a : Answer) (place : ℕ) where
-  received-batched : (asked : ℕ) (x : Received) → Batched (afterReceive (d .receiver) (d .source) ring x asked place)
-  received-batched asked (received.Byte b fds) = announced-batched (d .receiver) (d .source) asked (byteIn ring (d .receiver .scheduler) b fds)
-  received-batched asked (received.Failed n) = announced-batched (d .receiver) (d .source) asked (announced.Failed (Io n))
-  received-batched asked received.Misfit = tt
-
-  sent-batched : (e : Ending) (x : Sent) → Batched (bySent x (λ n. Of (sentCall n (d .receiver) (d .source) e)) (λ n. Of (unsentCall n (d .receiver) (d .source) e)) (Refused (Misfit place)))
-  sent-batched e (sent.Sent n) = by (eqb n 0)
+  -- an interruption leaves it waiting
+  waited-out : (ph : Phase) (y : Step) → (Interrupts a × (d ≡ d) → TakesIn ph d ring a d) → ((Interrupts a → ⊥) → Goes (TakesIn ph d ring a) y) →
+      Goes (TakesIn ph d ring a) (cond (interruptedOf a) (Of d) y)
+  waited-out ph y f g = by (interruptedOf a) refl
     where
-      by : (b : Bool) → Batched (Of (cond b (advanceCall (Draining (Io 5)) (d .receiver) (d .source) (toldIn (Io 5) e)) (flushCall (withPending (d .receiver) (d .receiver .«pending_ack_count» - n)) (d .source) e)))
-      by true = advance-batched (Draining (Io 5)) (d .receiver) (d .source) (toldIn (Io 5) e)
-      by false = flush-batched (withPending (d .receiver) (d .receiver .«pending_ack_count» - n)) (d .source) e
-  sent-batched e (sent.Failed n) = by (eqb n 11)
-    where
-      by : (b : Bool) → Batched (Of (cond b (finishedCall (d .receiver) (d .source) (outcomeIn e)) (advanceCall (Draining (Io n)) (d .receiver) (d .source) (toldIn (Io n) e))))
-      by true = tt
-      by false = advance-batched (Draining (Io n)) (d .receiver) (d .source) (toldIn (Io n) e)
-  sent-batched e sent.Misfit = tt
+      by : (b : Bool) → interruptedOf a ≡ b → Goes (TakesIn ph d ring a) (cond b (Of d) y)
+      by true z = f (interrupted-says a .0 z, refl)
+      by false z = g (λ h. let k = interrupted-says a .1 h in let w : _≡_ {A = ℕ} 0 1 = cc in omega arith)
 
-  shut-answered-batched : (e : Ending) (x : Shut) → Batched (afterShut x (d .receiver) (d .source) e place)
-  shut-answered-batched e shut.Done = tt
-  shut-answered-batched e (shut.Failed n) = tt
-  shut-answered-batched e shut.Misfit = tt
+  takes-sends : (batch : ℕ) (e : Ending) → Batch (d .receiver .«pending_ack_count») batch → (x : Sent) → SaysSent a batch x →
+      Goes (TakesSent (d .receiver) (d .source) e x) (bySent x (λ n. Of (sentCall n (d .receiver) (d .source) e)) (λ n. Of (unsentCall n (d .receiver) (d .source) e)) (Refused (Misfit place)))
+  takes-sends batch e b (sent.Sent n) h = takes-sent (d .receiver) (d .source) e n (omega (arith, sent-below a batch n h, batch-is (d .receiver .«pending_ack_count») batch b))
+  takes-sends batch e b (sent.Failed n) h = takes-unsent (d .receiver) (d .source) e n
+  takes-sends batch e b sent.Misfit h = tt
 
-  stepped-batched : (ph : Phase) → Batched (Of d) → Batched (steppedBy ph d ring a place)
-  stepped-batched (phase.Receive top asked) h = either (interruptedOf a) _ _ h (received-batched asked (receivedOf top a))
-  stepped-batched (phase.Send batch e) h = either (interruptedOf a) _ _ h (sent-batched e (sentOf (batchIn (d .receiver)) a))
-  stepped-batched (phase.Shutdown e) h = shut-answered-batched e (shutOf a)
-  stepped-batched (phase.Finished o) h = h
+  takes-shuts : (e : Ending) (x : Shut) → Goes (TakesShut (d .receiver) (d .source) e x) (afterShut x (d .receiver) (d .source) e place)
+  takes-shuts e shut.Done = is-shut (comes e)
+  takes-shuts e (shut.Failed n) = is-not (meets (Io n) e) (comes _)
+  takes-shuts e shut.Misfit = tt
+
+  takes-by : (ph : Phase) → WaitsIn ph (d .receiver) → Goes (TakesIn ph d ring a) (steppedBy ph d ring a place)
+  takes-by (phase.Receive top asked) (sound, empty, live) =
+      waited-out (phase.Receive top asked) _ inl
+      (λ no. then-goes (TakesReceived (d .receiver) (d .source) ring asked (receivedOf top a)) (TakesIn (phase.Receive top asked) d ring a) (afterReceive (d .receiver) (d .source) ring (receivedOf top a) asked place) (λ c h. inr (no, (receivedOf top a, received-says a top, h)))
+      (takes-received (d .receiver) (d .source) sound empty ring asked live place (receivedOf top a)))
+  takes-by (phase.Send batch e) b =
+      let same : batch ≡ batchIn (d .receiver) = batch-is (d .receiver .«pending_ack_count») batch b in
+      let x = sentOf (batchIn (d .receiver)) a in
+      let says : SaysSent a batch x = subst (λ (n : ℕ). SaysSent a n x) (sym same) (sent-says a (batchIn (d .receiver))) in
+      waited-out (phase.Send batch e) _ inl (λ no. then-goes (TakesSent (d .receiver) (d .source) e x) (TakesIn (phase.Send batch e) d ring a) (afterSend (d .receiver) (d .source) e a place) (λ c h. inr (no, (x, says, h))) (takes-sends batch e b x says))
+  takes-by (phase.Shutdown e) h = then-goes (TakesShut (d .receiver) (d .source) e (shutOf a)) (TakesIn (phase.Shutdown e) d ring a) (afterShut (shutOf a) (d .receiver) (d .source) e place) (λ c k. (shutOf a, shut-says a, k)) (takes-shuts e (shutOf a))
+  takes-by (phase.Finished o) h = refl
 
 module _ (c : Call) (ring : List ℕ) (a : Answer) (place : ℕ) where
-  resumed-batched : (ph : Phase) → c .phase ≡ ph → Batched (resumedBy ph c)
-  resumed-batched (phase.Receive top asked) e = read-batched (c .receiver) top asked (c .receiver .state)
-  resumed-batched (phase.Send batch x) e = service-batched (c .receiver) (c .source) x (failureIn (c .receiver .state))
-  resumed-batched (phase.Shutdown x) e = shutdown-batched (c .receiver) (c .source) x (c .receiver .state)
-  resumed-batched (phase.Finished o) e = subst (λ (ph : Phase). BatchedIn ph (c .receiver .«pending_ack_count»)) (sym e) tt
+  answers-by : (x : Step) → Goes (Resumes c) x → IsSound (c .receiver .scheduler) → Goes (Answered c ring a) (answeredFrom x ring a place)
+  answers-by (Of d) h sound = then-goes (Takes d ring a) (Answered c ring a) (steppedBy (d .phase) d ring a place) (λ z k. (d, h, k)) (takes-by d ring a place (d .phase) (resumed-waits c sound (c .phase) refl d h))
+  answers-by (Refused r) h sound = tt
 
-  from-batched : (x : Step) → Batched x → Batched (answeredFrom x ring a place)
-  from-batched (Of d) h = stepped-batched d ring a place (d .phase) h
-  from-batched (Refused r) h = tt
+  answers : Goes (Answered c ring a) (answeredOf c ring a place)
+  answers =
+      let m = looksAt (c .phase) a (length ring) in
+      passing (Answered c ring a) (admissionOf (c .receiver) m) _
+      (λ p. let sound = passed-sound (c .receiver) m p in answers-by (resumedOf c) (resumes-by c sound (c .phase)) sound)
 
-  answered-batched : Batched (answeredOf c ring a place)
-  answered-batched = admitted-batched (admissionOf (c .receiver) (looksAt (c .phase) a (length ring))) _ (from-batched (resumedOf c) (resumed-batched (c .phase) refl))
+-- ---- of the calls
+pub begin-read-promised : Keeps 0 begin-read-kinds.ps begin-read-kinds.r begin-read.Learnt (λ κs a z. Goes (BeginsRead (a .0) (a .1 .1 .0) (a .1 .1 .1 .0)) z)
+begin-read-promised κs a z p =
+    subst (Goes (BeginsRead (a .0) (a .1 .1 .0) (a .1 .1 .1 .0))) (sym (begin-read-says κs a z (p .0) (p .1)))
+    (passing _ (admissionOf (a .0) (memory.Of (a .1 .0))) (readCall (a .0) (a .1 .1 .0) (a .1 .1 .1 .0)) (λ k. begins-read (a .0) (passed-sound (a .0) (memory.Of (a .1 .0)) k) (a .1 .1 .0) (a .1 .1 .1 .0)))
 
--- of the calls
-pub begin-read-batched : Keeps 0 begin-read-kinds.ps begin-read-kinds.r begin-read.Learnt (λ κs a z. Batched z)
-begin-read-batched κs a z p =
-    subst Batched (sym (begin-read-says κs a z (p .0) (p .1))) (admitted-batched (admissionOf (a .0) (memory.Of (a .1 .0))) (readBy (a .0 .state) (a .0) (a .1 .1 .0) (a .1 .1 .1 .0)) (read-batched (a .0) (a .1 .1 .0) (a .1 .1 .1 .0) (a .0 .state)))
+pub begin-service-promised : Keeps 0 begin-service-kinds.ps begin-service-kinds.r begin-service.Learnt (λ κs a z. Goes (BeginsService (a .0)) z)
+begin-service-promised κs a z p =
+    subst (Goes (BeginsService (a .0))) (sym (begin-service-says κs a z (p .0) (p .1)))
+    (passing _ (admissionOf (a .0) memory.None) (Of (serviceCall (a .0) (a .0 .scheduler) (Told outcome.Done))) (λ k. serves (a .0) (a .0 .scheduler) (Told outcome.Done)))
 
-pub begin-service-batched : Keeps 0 begin-service-kinds.ps begin-service-kinds.r begin-service.Learnt (λ κs a z. Batched z)
-begin-service-batched κs a z p =
-    subst Batched (sym (begin-service-says κs a z (p .0) (p .1))) (admitted-batched (admissionOf (a .0) memory.None) (Of (serviceCall (a .0) (a .0 .scheduler) (Told outcome.Done))) (service-batched (a .0) (a .0 .scheduler) (Told outcome.Done) (failureIn (a .0 .state))))
+pub begin-shutdown-promised : Keeps 0 begin-shutdown-kinds.ps begin-shutdown-kinds.r begin-shutdown.Learnt (λ κs a z. Goes (BeginsShutdown (a .0)) z)
+begin-shutdown-promised κs a z p =
+    subst (Goes (BeginsShutdown (a .0))) (sym (begin-shutdown-says κs a z (p .0) (p .1)))
+    (passing _ (admissionOf (a .0) memory.None) (Of (advanceCall (Draining (Io 32)) (a .0) (a .0 .scheduler) (Told outcome.Done)))
+    (λ k. advances (Draining (Io 32)) None (a .0) (a .0 .scheduler) (Told outcome.Done) (Told outcome.Done) none-met))
 
-pub begin-shutdown-batched : Keeps 0 begin-shutdown-kinds.ps begin-shutdown-kinds.r begin-shutdown.Learnt (λ κs a z. Batched z)
-begin-shutdown-batched κs a z p =
-    subst Batched (sym (begin-shutdown-says κs a z (p .0) (p .1))) (admitted-batched (admissionOf (a .0) memory.None) (Of (advanceCall (Draining (Io 32)) (a .0) (a .0 .scheduler) (Told outcome.Done))) (advance-batched (Draining (Io 32)) (a .0) (a .0 .scheduler) (Told outcome.Done)))
+pub answered-promised : Keeps 1 answered-kinds.ps answered-kinds.r answered.Learnt (λ κs a z. Goes (Answered (a .0) (a .1 .0 .now) (a .1 .1 .0)) z)
+answered-promised κs a z p =
+    subst (Goes (Answered (a .0) (a .1 .0 .now) (a .1 .1 .0))) (sym (answered-says κs a z (p .0) (p .1))) (answers (a .0) (a .1 .0 .now) (a .1 .1 .0) (a .1 .1 .1 .0))
 
-pub answered-keeps-batches : Keeps 1 answered-kinds.ps answered-kinds.r answered.Learnt (λ κs a z. Batched z)
-answered-keeps-batches κs a z p = subst Batched (sym (answered-says κs a z (p .0) (p .1))) (answered-batched (a .0) (a .1 .0 .now) (a .1 .1 .0) (a .1 .1 .1 .0))
+-- where the ring is looked at, which the table of the numbers cites
+looks-by : (a : Answer) (n top asked : ℕ) (x : Received) → SaysReceived a top x → Looks a n (phase.Receive top asked) (looksBy x n)
+looks-by a n top asked _ (a-byte h) = at-a-byte h
+looks-by a n top asked _ (closed k) = at-no-byte (λ (h : AByte a top). omega (arith, k, h .0))
+looks-by a n top asked _ (receive-failed k) = at-no-byte (λ (h : AByte a top). omega (arith, k .0, h .0))
+looks-by a n top asked _ (no-receive f g h) = at-no-byte f
+
+pub looks-rule : (a : Answer) (n : ℕ) (ph : Phase) → Looks a n ph (looksAt ph a n)
+looks-rule a n (phase.Receive top asked) = looks-by a n top asked (receivedOf top a) (received-says a top)
+looks-rule a n (phase.Send batch e) = at-a-send
+looks-rule a n (phase.Shutdown e) = at-a-shutdown
+looks-rule a n (phase.Finished o) = at-the-end
 
 -- ---- the pending sum, of the call: whatever function of a host's answers its contract allows, somewhere in memory
 abbrev Answers : Call → Handed → Step → Type 0

@@ -1,21 +1,20 @@
 -- The rules keep what specs/Promise.antt says of them: the reason rule, advancing a state, batches, and what a header says.
-use Prim.Native.Nat.{ℕ, suc, _+_, _-_, _*_, _/_, _%_, _^_, _<_, _≤_, min}
-use mathlib.Core.Path.{_≡_, refl, sym, ap, subst, _∙_}
+use Prim.Native.Nat.{ℕ, suc, _+_, _-_, _/_, _%_, _^_, _<_, _≤_, min}
+use mathlib.Core.Path.{_≡_, refl, ap, subst, _∙_}
 use mathlib.Core.Bool.{Bool, cond, true, false}
 use mathlib.Core.Logic.{_≢_}
 use mathlib.Core.List.{List}
 use native.Mathlib.Nat.{div-add-mod', mod-lt}
 use native.Mathlib.Omega.{arith}
 use lib.Dec.{eqb, ltb, leb}
-use lib.ListN.{getD}
-use borrow.Author.Tests.{eqb-true, eqb-false, ltb-true, ltb-false, leb-true, leb-false, eq-eqb, ne-eqb}
+use borrow.Author.Tests.{eqb-true, eqb-false, ltb-true, ltb-false, leb-true, leb-false, eq-eqb}
 use Rattle.sched.specs.declared.operation.OperationType.the-variants.{Read, Write}
 use Rattle.sched.specs.declared.scheduler.RingBufferScheduler.{RingBufferScheduler}
 use Rattle.sched.specs.Scheduler.{IsSound, dataIn, spaceIn, offsetIn, advancedIn}
 use Rattle.copies.specs.Ring.{get}
 use Rattle.receiver.proofs.ChunkLaws.{holds}
-use Rattle.receiver.specs.Promise.{Reason, end-and-end, end-gives-way, error-and-end, error-stays, Calm, normal, blocked-draining, blocked-terminated, Normalized, calmed, drains, ends, Holds, holds-none, draining-holds, terminated-holds, Carries, normal-carries-none, draining-carries, terminated-carries, Advanced, calm-by-calm, calm-by-draining, calm-by-terminated, terminated-stays, draining-stays, draining-by-draining, draining-by-terminated, Batch, all, most, headerAt, Said, body, violates, Announces, no-room-for-a-header, format-unknown, length-0, too-long, accepted}
-use Rattle.receiver.specs.Receiver.{numberFrom, headerIn, announcedIn, byteIn}
+use Rattle.receiver.specs.Promise.{Reason, end-and-end, end-gives-way, error-and-end, error-stays, normal, blocked-draining, blocked-terminated, Normalized, calmed, drains, ends, Holds, holds-none, draining-holds, terminated-holds, Carries, normal-carries-none, draining-carries, terminated-carries, Advanced, calm-by-calm, calm-by-draining, calm-by-terminated, terminated-stays, draining-stays, draining-by-draining, draining-by-terminated, Batch, all, most, headerAt, Said, body, violates, Announces, no-room-for-a-header, format-unknown, length-0, too-long, accepted}
+use Rattle.receiver.specs.Receiver.{numberFrom, headerIn, announcedIn}
 use Rattle.receiver.specs.State.{violationNumber, isErrno, failureIn, withFailureIn, normalizeIn, towardsErrorIn, advanceNormal, advanceIn}
 use Rattle.receiver.specs.declared.announcement.Announced.{Announced}
 use Rattle.receiver.specs.declared.announcement.Announced.the-variants as announcement
@@ -23,7 +22,6 @@ use Rattle.receiver.specs.declared.state.Failure.{Failure}
 use Rattle.receiver.specs.declared.state.Failure.the-variants.{Io, Protocol}
 use Rattle.receiver.specs.declared.state.OperationalState.{OperationalState}
 use Rattle.receiver.specs.declared.state.OperationalState.the-variants.{Normal, Draining, Terminated}
-use Rattle.receiver.specs.declared.state.Violation.the-variants.{InvalidChunkAnnouncement}
 
 -- ---- reasons
 is-errno : (f : Failure) (k : ℕ) → isErrno f k ≡ true → f ≡ Io k
@@ -145,7 +143,3 @@ module _ (s : RingBufferScheduler) (sound : IsSound s) (empty : dataIn s ≡ 0) 
       by : (x : Bool) → ltb (spaceIn s) 8 ≡ x → Announces L (numberFrom 0 (get L ring (offsetIn s Read .0) 8)) fds (saidBy (announcedIn ring s fds))
       by true p = rw p (no-room-for-a-header (omega (arith, free, ltb-true (spaceIn s) 8 p)))
       by false p = rw p (header-says (numberFrom 0 (get L ring (offsetIn s Read .0) 8)) (ltb-false _ _ p))
-
--- any other byte than 0 is violation 1
-pub byte-violates : (s : RingBufferScheduler) (fds : ℕ) (ring : List ℕ) (b : ℕ) → b ≢ 0 → saidBy (byteIn ring s b fds) ≡ violates 1
-byte-violates s fds ring b z = ap (λ (x : Bool). saidBy (cond x (announcedIn ring s fds) (announcement.Failed (Protocol InvalidChunkAnnouncement)))) (ne-eqb b 0 z)

@@ -7,4 +7,5 @@ pub mod Call
 pub mod Pending
 pub mod Handed
 pub mod Promise
+pub mod Cases
 pub mod Given

@@ -1,12 +1,10 @@
 -- What the receiver promises, told again by cases and in other words than those of its rules, so that a rule that is changed in its place
 -- is seen.
-use Prim.Native.Nat.{ℕ, _+_, _-_, _*_, _%_, _^_, _<_, _≤_, min}
+use Prim.Native.Nat.{ℕ, _+_, _*_, _%_, _^_, _<_, _≤_}
 use mathlib.Core.Path.{_≡_}
 use mathlib.Core.Logic.{_≢_}
-use mathlib.Core.List.{List, []}
+use mathlib.Core.List.{List}
 use lib.ListN.{getD}
-use Rattle.sched.specs.Scheduler.{IsSound, dataIn}
-use Rattle.receiver.specs.State.{violationNumber}
 use Rattle.receiver.specs.declared.answer.Answer.{Answer}
 use Rattle.receiver.specs.declared.answer.Received.{Received}
 use Rattle.receiver.specs.declared.answer.Received.the-variants as received
@@ -14,21 +12,12 @@ use Rattle.receiver.specs.declared.answer.Sent.{Sent}
 use Rattle.receiver.specs.declared.answer.Sent.the-variants as sent
 use Rattle.receiver.specs.declared.answer.Shut.{Shut}
 use Rattle.receiver.specs.declared.answer.Shut.the-variants as shut
-use Rattle.receiver.specs.declared.call.Call.{Call}
-use Rattle.receiver.specs.declared.call.Phase.{Phase}
-use Rattle.receiver.specs.declared.call.Phase.the-variants as phase
-use Rattle.receiver.specs.declared.call.Step.{Step}
-use Rattle.receiver.specs.declared.call.Step.the-variants as step
-use Rattle.receiver.specs.declared.receiver.Outcome.{Outcome}
-use Rattle.receiver.specs.declared.receiver.Outcome.the-variants as outcome
-use Rattle.receiver.specs.declared.receiver.ReceiverState.{ReceiverState}
 use Rattle.receiver.specs.declared.state.Failure.{Failure}
 use Rattle.receiver.specs.declared.state.Failure.the-variants.{Io, Protocol}
 use Rattle.receiver.specs.declared.state.OperationalState.{OperationalState}
 use Rattle.receiver.specs.declared.state.OperationalState.the-variants.{Normal, Draining, Terminated}
 use Rattle.receiver.specs.declared.state.PotentialFailure.{PotentialFailure}
 use Rattle.receiver.specs.declared.state.PotentialFailure.the-variants.{Some, None}
-use Rattle.receiver.specs.declared.state.Violation.{Violation}
 
 -- ---- errnos
 abbrev pub Errno : ℕ → Type 0
@@ -114,17 +103,6 @@ pub data Batch (pending : ℕ) : ℕ → Type 0 where
   all : 1 ≤ pending → pending ≤ 128 → Batch pending pending
   most : 128 ≤ pending → Batch pending 128
 
-abbrev pub BatchedIn : Phase → ℕ → Type 0
-BatchedIn (phase.Send n e) pending = Batch pending n
-BatchedIn (phase.Receive top asked) pending = Unit {0}
-BatchedIn (phase.Shutdown e) pending = Unit {0}
-BatchedIn (phase.Finished o) pending = Unit {0}
-
--- a call that the machine answers waits to send such a batch, if it waits to send
-abbrev pub Batched : Step → Type 0
-Batched (step.Of c) = BatchedIn (c .phase) (c .receiver .«pending_ack_count»)
-Batched (step.Refused r) = Unit {0}
-
 -- ---- an announcement: what the header's number says in a ring of L bytes that holds no data
 -- the cell k of a ring of length L
 abbrev pub cell : ℕ → List ℕ → ℕ → ℕ
@@ -148,18 +126,3 @@ pub data Announces (L h fds : ℕ) : Said → Type 0 where
   length-0 : 8 ≤ L → h < 2 ^ 62 → h % 2 ^ 48 ≡ 0 → Announces L h fds (violates 4)
   too-long : 8 ≤ L → h < 2 ^ 62 → 1 ≤ h % 2 ^ 48 → L < h % 2 ^ 48 + 8 → Announces L h fds (violates 2)
   accepted : h < 2 ^ 62 → 1 ≤ h % 2 ^ 48 → h % 2 ^ 48 + 8 ≤ L → Announces L h fds (body (h % 2 ^ 48) fds)
-
--- what a read comes to that heard so: the first bytes of the body, with the announcement's descriptors, or the violation
-abbrev pub Heard : ℕ → Said → Outcome → Type 0
-Heard asked (body n fds) o = o ≡ outcome.Read (min asked n) fds
-Heard asked (violates k) o = (v : Violation) × (o ≡ outcome.Failed (Protocol v)) × (violationNumber v ≡ k)
-
--- a read waits for an announcement: its record passes the tests, the stream is not terminated, some bytes are asked for, one more
--- acknowledgement can be counted, and there is no data
-pub record Awaits (q : ReceiverState) (asked : ℕ) : Type 0 where
-  pub sound : IsSound (q .scheduler)
-  pub stored : Stored (q .state)
-  pub live : (f : Failure) → q .state ≢ Terminated f
-  pub some : asked ≢ 0
-  pub counts : q .«pending_ack_count» ≢ 2 ^ 64 - 1
-  pub empty : dataIn (q .scheduler) ≡ 0

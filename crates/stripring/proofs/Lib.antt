@@ -16,3 +16,4 @@ pub mod Hosted
 pub mod GivenLaws
 pub mod RefusesScheduler
 pub mod RefusesEnds
+pub mod RefusesReceiver

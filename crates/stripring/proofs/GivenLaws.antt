@@ -56,6 +56,8 @@ use Rattle.receiver.specs.Promise.{FailureFits, Stored}
 use Rattle.receiver.specs.State.{fitsFailure, fitsState}
 use Rattle.receiver.specs.declared.call.Step.{Step}
 use Rattle.receiver.specs.declared.call.Step.the-variants as step
+use Rattle.receiver.specs.declared.receiver.Ended.{Ended}
+use Rattle.receiver.specs.declared.receiver.Ended.the-variants as ended
 use Rattle.receiver.specs.declared.receiver.ReceiverAnswer.{ReceiverAnswer}
 use Rattle.receiver.specs.declared.receiver.ReceiverAnswer.the-variants as made
 use Rattle.receiver.specs.declared.refusal.Refusal.the-variants.{Misfit}
@@ -77,11 +79,11 @@ use Rattle.stripring.specs.Copy.{flatCopied}
 use Rattle.stripring.specs.Counter.{flatCounter, flatOffset, flatAmount, flatBool}
 use Rattle.stripring.specs.Failure.{flatFailureAnswer, flatPotentialFailure}
 use Rattle.stripring.specs.Flat.{noRefusal, flatReceiverRefusal}
-use Rattle.stripring.specs.Given.{GivenAt, GivenStored, fits, given-12-stored}
+use Rattle.stripring.specs.Given.{GivenAt, GivenStored, fits, given-12-stored, GivenBy}
 use Rattle.stripring.specs.List.{flatOperationsAnswer, flatStartsAnswer, flatRangesAnswer}
 use Rattle.stripring.specs.Operation.{flatNext}
 use Rattle.stripring.specs.ReadingEnd.{flatReadingEndAnswer, flatGot, flatReadCounter}
-use Rattle.stripring.specs.Receiver.{flatReceiverAnswer}
+use Rattle.stripring.specs.Receiver.{flatReceiverAnswer, flatEnded}
 use Rattle.stripring.specs.Scheduler.{flatChecked, flatRegistered}
 use Rattle.stripring.specs.State.{flatStateAnswer}
 use Rattle.stripring.specs.WritingEnd.{flatWritingEndAnswer, flatWrote, flatWrittenCounter}
@@ -201,6 +203,10 @@ module _ {G : ℕ → List ℕ → Type 0} where
   pub step-given : (x : Step) → Exactly G (ofStep x) → GivenAt G (flatStep x .refusal)
   step-given (step.Of c) g = given-to _ (ofStep (step.Of c)) accepted g
   step-given (step.Refused e) g = given-to _ (ofStep (step.Refused e)) (receiver-refusal e) g
+
+pub ended-given : (x : Ended) → GivenBy x (flatEnded x .refusal)
+ended-given (ended.Accepted q o used) = accepted
+ended-given (ended.Refused e) = receiver-refusal e
 
 -- ---- of states and failures: an errno fits or not, so a call that is promised both ways tells 12 exactly where it does not
 pub failure-decided : (f : Failure) → Dec (FailureFits f)

@@ -1,7 +1,9 @@
 -- "Given exactly when", 1 to 5, 9, 12 and 13, of the exports of the receiver, of a call in progress, and of states and failures: whatever
 -- an attached contract allows carries a refusal exactly when the table gives it, of what the host's numbers stand for. Over a run of
--- answers the refusal is the library's: Thin.antt.
+-- answers, where 11 is given too, it is told exactly as the library's call refuses.
+use Prim.Native.Nat.{ℕ}
 use mathlib.Core.Path.{refl, _∙_}
+use mathlib.Core.List.{List}
 use mathlib.Core.Logic.{Dec·and, by-cases}
 use lib.ListN.{length}
 use Rattle.modular.proofs.Saying.{Keeps}
@@ -12,6 +14,8 @@ use Rattle.receiver.specs.Promise.{FailureFits, Stored}
 use Rattle.receiver.specs.Receiver.{receiverOf}
 use Rattle.receiver.specs.State.{advanceOf, failureOf, normalizeFailureOf, normalizeOf, towardsErrorOf, withFailureOf, withPotentialFailureOf}
 use Rattle.receiver.specs.declared.admission.Memory.the-variants as memory
+use Rattle.receiver.specs.declared.answer.Answer.{Answer}
+use Rattle.receiver.specs.declared.receiver.Ended.{Ended}
 use Rattle.receiver.specs.declared.state.OperationalState.{OperationalState}
 use Rattle.receiver.specs.declared.state.OperationalState.the-variants.{Normal}
 use Rattle.receiver.specs.declared.state.PotentialFailure.{PotentialFailure}
@@ -20,14 +24,19 @@ use Rattle.receiver.proofs.Given as given
 use Rattle.receiver.proofs.GivenAnswer as answer
 use Rattle.receiver.proofs.Promised as promised
 use Rattle.receiver.proofs.PromisedStates as states
+use Rattle.driver.specs.Run.{ReadImplLeaves, ReadLeaves, ServiceLeaves, ShutdownLeaves}
 use Rattle.stripring.specs.Call.{callAt}
 use Rattle.stripring.specs.Failure.{failureAt, potentialFailureAt}
-use Rattle.stripring.specs.Given.{GivenAt, GivenStored, PotentialFits}
+use Rattle.stripring.specs.Given.{GivenAt, GivenBy, GivenStored, PotentialFits}
 use Rattle.stripring.specs.Receiver.{receiverAt}
+use Rattle.stripring.specs.Run.{FlatReadImplLeaves, FlatReadLeaves, FlatServiceLeaves, FlatShutdownLeaves}
 use Rattle.stripring.specs.Scheduler.{schedulerAt}
 use Rattle.stripring.specs.State.{flatStateAnswer, stateAt}
-use Rattle.stripring.proofs.GivenLaws.{made-given, step-given, failure-decided, state-decided, failure-given, potential-given, state-given}
+use Rattle.stripring.specs.declared.flat.EndedAnswer.{EndedAnswer}
+use Rattle.stripring.specs.declared.flat.Receiver.{Receiver}
+use Rattle.stripring.proofs.GivenLaws.{made-given, step-given, failure-decided, state-decided, ended-given, failure-given, potential-given, state-given}
 use Rattle.stripring.proofs.SaysReceiver.{receiver-new-says, call-begin-read-says, call-begin-service-says, call-begin-shutdown-says, call-answered-says, state-failure-says, state-with-failure-says, state-with-potential-failure-says, state-normalize-says, state-advance-state-towards-termination-says, failure-normalize-says, failure-advance-failure-towards-error-says}
+use Rattle.stripring.proofs.Thin.{read-impl-thin, read-thin, service-thin, shutdown-thin}
 use Rattle.stripring.proofs.receiver_record.stripring_receiver_new.Kinds as receiver-new-kinds
 use Rattle.stripring.proofs.receiver_record.stripring_receiver_new.Reads as receiver-new
 use Rattle.stripring.proofs.call.stripring_call_begin_read.Kinds as call-begin-read-kinds
@@ -113,3 +122,18 @@ pub failure-advance-failure-towards-error-refuses : Keeps 0 failure-advance-fail
 failure-advance-failure-towards-error-refuses κs a z (ws, p) =
     let k = states.towards-error-promised tt (failureAt (a .0), (failureAt (a .1 .0), tt)) (towardsErrorOf (failureAt (a .0)) (failureAt (a .1 .0))) ((tt, (tt, tt)), refl) in
     rw (failure-advance-failure-towards-error-says κs a z ws p) (failure-given (Dec·and (failure-decided (failureAt (a .0))) (failure-decided (failureAt (a .1 .0)))) (towardsErrorOf (failureAt (a .0)) (failureAt (a .1 .0))) (λ h. let y = k .0 (h .0) (h .1) in (y .0, y .1)) (k .1))
+
+-- ---- over a run: by the predicates that the exports and the driver's calls cite
+module _ (r : Receiver) (answers : List Answer) (z : EndedAnswer) (x : Ended) where
+  pub receiver-service-chunk-acknowledgements-refuses : FlatServiceLeaves r answers z → ServiceLeaves (receiverAt r) answers x → GivenBy x (z .refusal)
+  receiver-service-chunk-acknowledgements-refuses p q = rw (service-thin r answers z x p q) (ended-given x)
+
+  pub receiver-shutdown-refuses : FlatShutdownLeaves r answers z → ShutdownLeaves (receiverAt r) answers x → GivenBy x (z .refusal)
+  receiver-shutdown-refuses p q = rw (shutdown-thin r answers z x p q) (ended-given x)
+
+module _ (r : Receiver) (ring dst : List ℕ) (top : ℕ) (answers : List Answer) (z : EndedAnswer) (left : List ℕ) (x : Ended) (lent : List ℕ) where
+  pub receiver-read-with-fds-refuses : FlatReadLeaves r ring dst top answers z left → ReadLeaves (receiverAt r) ring dst top answers x lent → GivenBy x (z .refusal)
+  receiver-read-with-fds-refuses p q = rw (read-thin r ring dst top answers z left x lent p q .0) (ended-given x)
+
+  pub receiver-read-with-fds-impl-refuses : FlatReadImplLeaves r ring dst top answers z left → ReadImplLeaves (receiverAt r) ring dst top answers x lent → GivenBy x (z .refusal)
+  receiver-read-with-fds-impl-refuses p q = rw (read-impl-thin r ring dst top answers z left x lent p q .0) (ended-given x)

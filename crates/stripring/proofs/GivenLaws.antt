@@ -79,7 +79,8 @@ use Rattle.stripring.specs.Copy.{flatCopied}
 use Rattle.stripring.specs.Counter.{flatCounter, flatOffset, flatAmount, flatBool}
 use Rattle.stripring.specs.Failure.{flatFailureAnswer, flatPotentialFailure}
 use Rattle.stripring.specs.Flat.{noRefusal, flatReceiverRefusal}
-use Rattle.stripring.specs.Given.{GivenAt, GivenStored, fits, given-12-stored, GivenBy}
+use Rattle.stripring.specs.Given.{GivenAt, GivenStored, fits, given-12-stored}
+use Rattle.stripring.specs.GivenRun.{ofEnded}
 use Rattle.stripring.specs.List.{flatOperationsAnswer, flatStartsAnswer, flatRangesAnswer}
 use Rattle.stripring.specs.Operation.{flatNext}
 use Rattle.stripring.specs.ReadingEnd.{flatReadingEndAnswer, flatGot, flatReadCounter}
@@ -204,9 +205,9 @@ module _ {G : ℕ → List ℕ → Type 0} where
   step-given (step.Of c) g = given-to _ (ofStep (step.Of c)) accepted g
   step-given (step.Refused e) g = given-to _ (ofStep (step.Refused e)) (receiver-refusal e) g
 
-pub ended-given : (x : Ended) → GivenBy x (flatEnded x .refusal)
-ended-given (ended.Accepted q o used) = accepted
-ended-given (ended.Refused e) = receiver-refusal e
+  pub ended-given : (x : Ended) → Exactly G (ofEnded x) → GivenAt G (flatEnded x .refusal)
+  ended-given (ended.Accepted q o used) g = given-to _ (ofEnded (ended.Accepted q o used)) accepted g
+  ended-given (ended.Refused e) g = given-to _ (ofEnded (ended.Refused e)) (receiver-refusal e) g
 
 -- ---- of states and failures: an errno fits or not, so a call that is promised both ways tells 12 exactly where it does not
 pub failure-decided : (f : Failure) → Dec (FailureFits f)

@@ -3,9 +3,6 @@
 use Prim.Native.Nat.{ℕ}
 use mathlib.Core.List.{List, [], _∷_}
 use Rattle.receiver.specs.Promise.{FailureFits}
-use Rattle.receiver.specs.Refusal.{numberOf, valuesOf}
-use Rattle.receiver.specs.declared.receiver.Ended.{Ended}
-use Rattle.receiver.specs.declared.receiver.Ended.the-variants as ended
 use Rattle.receiver.specs.declared.state.PotentialFailure.{PotentialFailure}
 use Rattle.receiver.specs.declared.state.PotentialFailure.the-variants.{Some, None}
 use Rattle.stripring.specs.Back.{RefusalStands}
@@ -24,8 +21,3 @@ pub data GivenStored (Fits : Type 0) : ℕ → List ℕ → Type 0 where
 abbrev pub PotentialFits : PotentialFailure → Type 0
 PotentialFits (Some f) = FailureFits f
 PotentialFits None = Unit {0}
-
--- ---- of a call over a run: 0 where the library accepts, and else the library's number and values, 11 among them
-abbrev pub GivenBy : Ended → Refusal → Type 0
-GivenBy (ended.Accepted q o used) r = RefusalStands r 0 []
-GivenBy (ended.Refused e) r = RefusalStands r (numberOf e) (valuesOf e)

@@ -1,8 +1,9 @@
 -- An answer that a library gives exactly when its table says so goes out with a refusal that is given exactly then: for each kind of
 -- answer, and any table.
 use Prim.Native.Nat.{ℕ}
-use mathlib.Core.Path.{subst}
-use mathlib.Core.List.{List}
+use mathlib.Core.Path.{_≡_, refl, subst}
+use mathlib.Core.Bool.{Bool, true, false}
+use mathlib.Core.List.{List, [], _∷_}
 use Rattle.sched.specs.Given as sched
 use Rattle.copies.specs.Given.{Verdict, Exactly, ofCopied}
 use Rattle.ends.specs.Promises.{ofWritingEnd, ofReadingEnd, ofWrote, ofGot, ofWritten, ofRead}
@@ -50,18 +51,45 @@ use Rattle.ends.specs.declared.reading_end.Got.{Got}
 use Rattle.ends.specs.declared.reading_end.Got.the-variants as got
 use Rattle.ends.specs.declared.reading_end.ReadCounterAnswer.{ReadCounterAnswer}
 use Rattle.ends.specs.declared.reading_end.ReadCounterAnswer.the-variants as read
+use Rattle.receiver.specs.Given.{ofReceiver, ofStep}
+use Rattle.receiver.specs.Promise.{FailureFits, Stored}
+use Rattle.receiver.specs.State.{fitsFailure, fitsState}
+use Rattle.receiver.specs.declared.call.Step.{Step}
+use Rattle.receiver.specs.declared.call.Step.the-variants as step
+use Rattle.receiver.specs.declared.receiver.Ended.{Ended}
+use Rattle.receiver.specs.declared.receiver.Ended.the-variants as ended
+use Rattle.receiver.specs.declared.receiver.ReceiverAnswer.{ReceiverAnswer}
+use Rattle.receiver.specs.declared.receiver.ReceiverAnswer.the-variants as made
+use Rattle.receiver.specs.declared.refusal.Refusal.the-variants.{Misfit}
+use Rattle.receiver.specs.declared.state.Failure.{Failure}
+use Rattle.receiver.specs.declared.state.FailureAnswer.{FailureAnswer}
+use Rattle.receiver.specs.declared.state.FailureAnswer.the-variants as failure
+use Rattle.receiver.specs.declared.state.OperationalState.{OperationalState}
+use Rattle.receiver.specs.declared.state.PotentialFailure.{PotentialFailure}
+use Rattle.receiver.specs.declared.state.PotentialFailure.the-variants.{Some, None}
+use Rattle.receiver.specs.declared.state.PotentialFailureAnswer.{PotentialFailureAnswer}
+use Rattle.receiver.specs.declared.state.PotentialFailureAnswer.the-variants as potential
+use Rattle.receiver.specs.declared.state.StateAnswer.{StateAnswer}
+use Rattle.receiver.specs.declared.state.StateAnswer.the-variants as state
+use Rattle.receiver.proofs.AnswerSays.{failure-fits, state-fits}
 use Rattle.stripring.specs.Back.{RefusalStands}
 use Rattle.stripring.specs.Block.{flatLayout, flatFillState, flatBlockAnswer, flatBlocks}
+use Rattle.stripring.specs.Call.{flatStep}
 use Rattle.stripring.specs.Copy.{flatCopied}
 use Rattle.stripring.specs.Counter.{flatCounter, flatOffset, flatAmount, flatBool}
-use Rattle.stripring.specs.Given.{GivenAt}
+use Rattle.stripring.specs.Failure.{flatFailureAnswer, flatPotentialFailure}
+use Rattle.stripring.specs.Flat.{noRefusal, flatReceiverRefusal}
+use Rattle.stripring.specs.Given.{GivenAt, GivenStored, fits, given-12-stored}
+use Rattle.stripring.specs.GivenRun.{ofEnded}
 use Rattle.stripring.specs.List.{flatOperationsAnswer, flatStartsAnswer, flatRangesAnswer}
 use Rattle.stripring.specs.Operation.{flatNext}
 use Rattle.stripring.specs.ReadingEnd.{flatReadingEndAnswer, flatGot, flatReadCounter}
+use Rattle.stripring.specs.Receiver.{flatReceiverAnswer, flatEnded}
 use Rattle.stripring.specs.Scheduler.{flatChecked, flatRegistered}
+use Rattle.stripring.specs.State.{flatStateAnswer}
 use Rattle.stripring.specs.WritingEnd.{flatWritingEndAnswer, flatWrote, flatWrittenCounter}
 use Rattle.stripring.specs.declared.flat.Refusal.{Refusal}
-use Rattle.stripring.proofs.SentLaws.{accepted, scheduler-refusal, copy-refusal, end-refusal}
+use Rattle.stripring.proofs.SentLaws.{accepted, scheduler-refusal, copy-refusal, end-refusal, receiver-refusal}
 
 module _ {G : ℕ → List ℕ → Type 0} where
   -- the scheduler's verdict, and that of the copies and the ends
@@ -167,3 +195,64 @@ module _ {G : ℕ → List ℕ → Type 0} where
   pub read-given : (x : ReadCounterAnswer) → Exactly G (ofRead x) → GivenAt G (flatReadCounter x .refusal)
   read-given (read.Of c) g = given-to _ (ofRead (read.Of c)) accepted g
   read-given (read.Refused e) g = given-to _ (ofRead (read.Refused e)) (end-refusal e) g
+
+  -- ---- of the receiver
+  pub made-given : (x : ReceiverAnswer) → Exactly G (ofReceiver x) → GivenAt G (flatReceiverAnswer x .refusal)
+  made-given (made.Of q) g = given-to _ (ofReceiver (made.Of q)) accepted g
+  made-given (made.Refused e) g = given-to _ (ofReceiver (made.Refused e)) (receiver-refusal e) g
+
+  pub step-given : (x : Step) → Exactly G (ofStep x) → GivenAt G (flatStep x .refusal)
+  step-given (step.Of c) g = given-to _ (ofStep (step.Of c)) accepted g
+  step-given (step.Refused e) g = given-to _ (ofStep (step.Refused e)) (receiver-refusal e) g
+
+  pub ended-given : (x : Ended) → Exactly G (ofEnded x) → GivenAt G (flatEnded x .refusal)
+  ended-given (ended.Accepted q o used) g = given-to _ (ofEnded (ended.Accepted q o used)) accepted g
+  ended-given (ended.Refused e) g = given-to _ (ofEnded (ended.Refused e)) (receiver-refusal e) g
+
+-- ---- of states and failures: an errno fits or not, so a call that is promised both ways tells 12 exactly where it does not
+pub failure-decided : (f : Failure) → Dec (FailureFits f)
+failure-decided f = by (fitsFailure f) refl
+  where
+    by : (b : Bool) → fitsFailure f ≡ b → Dec (FailureFits f)
+    by true e = yes (failure-fits f true e .0 refl)
+    by false e = no (failure-fits f false e .1 refl)
+
+pub state-decided : (s : OperationalState) → Dec (Stored s)
+state-decided s = by (fitsState s) refl
+  where
+    by : (b : Bool) → fitsState s ≡ b → Dec (Stored s)
+    by true e = yes (state-fits s true e .0 refl)
+    by false e = no (state-fits s false e .1 refl)
+
+module _ {Fits : Type 0} (d : Dec Fits) where
+  -- `told` is the refusal in the flat form of an answer, `of` is one that refuses nothing
+  tested : {A B : Type 0} (told : A → Refusal) (of : B → A) (refused : A) (x : A) → ((y : B) → told (of y) ≡ noRefusal) → told refused ≡ flatReceiverRefusal (Misfit 0) →
+      (Fits → (y : B) × (x ≡ of y)) → ((Fits → ⊥) → x ≡ refused) → GivenAt (GivenStored Fits) (told x)
+  tested told of refused x e n f g = record { only = by d; always = λ k vs h. so h }
+    where
+      accepts : Fits → RefusalStands (told x) 0 []
+      accepts h = rw (f h .1, e (f h .0)) accepted
+
+      refuses : (Fits → ⊥) → RefusalStands (told x) 12 (0 ∷ [])
+      refuses h = rw (g h, n) (receiver-refusal (Misfit 0))
+
+      by : Dec Fits → (k : ℕ) × (vs : List ℕ) × (p : RefusalStands (told x) k vs) × GivenStored Fits k vs
+      by (yes h) = (0, [], accepts h, fits h)
+      by (no h) = (12, 0 ∷ [], refuses h, given-12-stored h)
+
+      so : {k : ℕ} {vs : List ℕ} → GivenStored Fits k vs → RefusalStands (told x) k vs
+      so (fits h) = accepts h
+      so (given-12-stored h) = refuses h
+
+  pub failure-given : (x : FailureAnswer) → (Fits → (y : Failure) × (x ≡ failure.Of y)) → ((Fits → ⊥) → x ≡ failure.Refused (Misfit 0)) → GivenAt (GivenStored Fits) (flatFailureAnswer x .refusal)
+  failure-given x = tested (λ y. flatFailureAnswer y .refusal) failure.Of (failure.Refused (Misfit 0)) x (λ y. refl) refl
+
+  pub potential-given : (x : PotentialFailureAnswer) → (Fits → (y : PotentialFailure) × (x ≡ potential.Of y)) → ((Fits → ⊥) → x ≡ potential.Refused (Misfit 0)) → GivenAt (GivenStored Fits) (flatPotentialFailure x .refusal)
+  potential-given x = tested (λ y. flatPotentialFailure y .refusal) potential.Of (potential.Refused (Misfit 0)) x none refl
+    where
+      none : (y : PotentialFailure) → flatPotentialFailure (potential.Of y) .refusal ≡ noRefusal
+      none (Some f) = refl
+      none None = refl
+
+  pub state-given : (x : StateAnswer) → (Fits → (y : OperationalState) × (x ≡ state.Of y)) → ((Fits → ⊥) → x ≡ state.Refused (Misfit 0)) → GivenAt (GivenStored Fits) (flatStateAnswer x .refusal)
+  state-given x = tested (λ y. flatStateAnswer y .refusal) state.Of (state.Refused (Misfit 0)) x (λ y. refl) refl

@@ -14,5 +14,7 @@ pub mod ThinBlocks
 pub mod ThinValues
 pub mod Hosted
 pub mod GivenLaws
+pub mod GivenRun
 pub mod RefusesScheduler
 pub mod RefusesEnds
+pub mod RefusesReceiver

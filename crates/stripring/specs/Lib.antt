@@ -21,4 +21,5 @@ pub mod Results
 pub mod Back
 pub mod Hosted
 pub mod Given
+pub mod GivenRun
 pub mod AnyBits

@@ -4,7 +4,9 @@ use mathlib.Core.Path.{_≡_, refl, sym, ap, subst, _∙_}
 use mathlib.Core.Bool.{Bool, cond, true, false}
 use mathlib.Core.List.{List, []}
 use native.Mathlib.Omega.{arith}
+use lib.Dec.{eqb}
 use lib.ListN.{length}
+use borrow.Author.Tests.{eqb-true, eqb-false}
 use Rattle.sched.specs.declared.operation.OperationType.the-variants.{Read}
 use Rattle.sched.specs.Scheduler.{offsetIn}
 use Rattle.copies.proofs.Ring.{get-own}
@@ -22,10 +24,11 @@ use Rattle.receiver.specs.declared.receiver.Outcome.{Outcome}
 use Rattle.receiver.specs.declared.receiver.Outcome.the-variants as outcome
 use Rattle.receiver.specs.declared.receiver.ReceiverState.{ReceiverState}
 use Rattle.receiver.specs.declared.state.Failure.{Failure}
+use Rattle.receiver.specs.declared.state.Failure.the-variants.{Io, Protocol}
 use Rattle.driver.specs.Drive.{drivenOf, endedOf, endOfStreamIn}
-use Rattle.driver.specs.Promise.{Uses, FillsBy, Fills, MayLeave}
+use Rattle.driver.specs.Promise.{Uses, FillsBy, Fills, TurnedTo, ended-stream, stays, Turned, accepted, same-refusal, MayLeave}
 use Rattle.driver.specs.Run.{ServiceLeaves, ShutdownLeaves, ReadImplLeaves, ReadLeaves}
-use Rattle.driver.proofs.Driven.{service-ended, shutdown-ended, read-ended}
+use Rattle.driver.proofs.Driven.{service-ended, shutdown-ended, read-ended, read-delivered}
 use Rattle.driver.proofs.Says.{service-chunk-acknowledgements-says, shutdown-says, read-with-fds-says, read-with-fds-impl-says}
 use Rattle.driver.proofs.Used.{driven-uses}
 
@@ -103,6 +106,32 @@ module _ (ring dst : List ℕ) where
 
     pub read-fills : ReadLeaves q ring dst top answers r left → Fills r dst left
     read-fills p = by-delivery (readDelivery q ring dst top answers) p (turned-moved (readImplOf q ring (length dst) top answers) (read-moved ring (length dst) top q answers))
+
+-- ---- the end of the stream
+turned-failure : (f : Failure) → TurnedTo (outcome.Failed f) (endOfStreamFor (outcome.Failed f))
+turned-failure (Protocol v) = stays (outcome.Failed (Protocol v)) (λ e. let z : _≡_ {A = ℕ} 0 1 = cc in omega arith)
+turned-failure (Io e) = by (eqb e 32) refl
+  where
+    by : (b : Bool) → eqb e 32 ≡ b → TurnedTo (outcome.Failed (Io e)) (cond b (outcome.Read 0 0) (outcome.Failed (Io e)))
+    by true k = subst (λ (n : ℕ). TurnedTo (outcome.Failed (Io n)) (outcome.Read 0 0)) (sym (eqb-true e 32 k)) ended-stream
+    by false k = stays (outcome.Failed (Io e)) (λ p. eqb-false e 32 k (let n : e ≡ 32 = cc in n))
+
+turned-outcome : (o : Outcome) → TurnedTo o (endOfStreamFor o)
+turned-outcome (outcome.Read n fds) = stays (outcome.Read n fds) (λ e. let z : _≡_ {A = ℕ} 0 1 = cc in omega arith)
+turned-outcome outcome.Done = stays outcome.Done (λ e. let z : _≡_ {A = ℕ} 0 1 = cc in omega arith)
+turned-outcome (outcome.Failed f) = turned-failure f
+
+turned-answer : (r : Ended) → Turned r (endOfStreamIn r)
+turned-answer (ended.Accepted q o used) = accepted (turned-outcome o)
+turned-answer (ended.Refused r) = same-refusal
+
+module _ (q : ReceiverState) (ring dst : List ℕ) (top : ℕ) (answers : List Answer) (r : Ended) (left : List ℕ) (r′ : Ended) (left′ : List ℕ) where
+  pub read-turns : ReadImplLeaves q ring dst top answers r left → ReadLeaves q ring dst top answers r′ left′ → Turned r r′ × (left′ ≡ left)
+  read-turns p p′ =
+      let e : delivery (endOfStreamIn r) left ≡ delivery r′ left′ = read-delivered ring dst q top answers r left p ∙ sym p′ in (
+        subst (Turned r) (ap (λ (d : Delivery). d .answer) e) (turned-answer r),
+        sym (ap (λ (d : Delivery). d .memory) e),
+      )
 
 -- ---- the pending sum
 left-by : (q : ReceiverState) (c : Asked) (r : Ended) → MayLeave q c r → r ≡ endsOf q c

@@ -1,6 +1,8 @@
--- What the calls over a lent run promise beside their rules: how many answers a call used, and what of the destination stays.
+-- What the calls over a lent run promise beside their rules: how many answers a call used, what of the destination stays, and what the
+-- end of the stream becomes.
 use Prim.Native.Nat.{ℕ, _<_, _≤_}
 use mathlib.Core.Path.{_≡_}
+use mathlib.Core.Logic.{_≢_}
 use mathlib.Core.List.{List, _++_}
 use lib.ListN.{length, take}
 use Rattle.copies.specs.Promises.{OnlyFront}
@@ -11,7 +13,9 @@ use Rattle.receiver.specs.declared.receiver.Ended.the-variants as ended
 use Rattle.receiver.specs.declared.receiver.Outcome.{Outcome}
 use Rattle.receiver.specs.declared.receiver.Outcome.the-variants as outcome
 use Rattle.receiver.specs.declared.receiver.ReceiverState.{ReceiverState}
+use Rattle.receiver.specs.declared.refusal.Refusal.{Refusal}
 use Rattle.receiver.specs.declared.refusal.Refusal.the-variants.{AnswerMissing}
+use Rattle.receiver.specs.declared.state.Failure.the-variants.{Io}
 use Rattle.driver.specs.Run.{ServiceLeaves, ShutdownLeaves, ReadImplLeaves, ReadLeaves}
 
 -- A call used so many answers: whatever stands behind them it comes to the same, and with fewer of them it is refused with 11.
@@ -33,6 +37,16 @@ FillsBy (outcome.Failed f) dst left = left ≡ dst
 abbrev pub Fills : Ended → List ℕ → List ℕ → Type 0
 Fills (ended.Accepted q o used) dst left = FillsBy o dst left
 Fills (ended.Refused r) dst left = left ≡ dst
+
+-- ---- the end of the stream: failure 32 becomes a read of no bytes and no descriptors, and every other outcome stays
+pub data TurnedTo : Outcome → Outcome → Type 0 where
+  ended-stream : TurnedTo (outcome.Failed (Io 32)) (outcome.Read 0 0)
+  stays : (o : Outcome) → o ≢ outcome.Failed (Io 32) → TurnedTo o o
+
+-- nothing else of an answer changes
+pub data Turned : Ended → Ended → Type 0 where
+  accepted : {q : ReceiverState} {o p : Outcome} {used : ℕ} → TurnedTo o p → Turned (ended.Accepted q o used) (ended.Accepted q p used)
+  same-refusal : {r : Refusal} → Turned (ended.Refused r) (ended.Refused r)
 
 -- what a call of this record may leave, by the predicate that its contract cites; of a read, whatever destination is lent
 abbrev pub MayLeave : ReceiverState → Asked → Ended → Type 0

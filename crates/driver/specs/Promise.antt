@@ -1,11 +1,14 @@
--- What the calls over a lent run promise beside their rules: how many answers a call used, what of the destination stays, and what the
--- end of the stream becomes.
-use Prim.Native.Nat.{ℕ, _<_, _≤_}
+-- What the calls over a lent run promise beside their rules: how many answers a call used, what a read leaves in the destination, and
+-- what the end of the stream becomes.
+use Prim.Native.Nat.{ℕ, _+_, _<_, _≤_}
 use mathlib.Core.Path.{_≡_}
 use mathlib.Core.Logic.{_≢_}
 use mathlib.Core.List.{List, _++_}
 use lib.ListN.{length, take}
-use Rattle.copies.specs.Promises.{OnlyFront}
+use Rattle.sched.specs.declared.operation.OperationType.the-variants.{Read}
+use Rattle.sched.specs.declared.scheduler.RingBufferScheduler.{RingBufferScheduler}
+use Rattle.sched.specs.Scheduler.{dataIn, offsetIn}
+use Rattle.copies.specs.Promises.{OnlyFront, CellsOf}
 use Rattle.receiver.specs.Pending.{Asked, reads, readsImpl, services, shuts}
 use Rattle.receiver.specs.declared.answer.Answer.{Answer}
 use Rattle.receiver.specs.declared.receiver.Ended.{Ended}
@@ -28,15 +31,23 @@ module _ (runs : List Answer → Ended) (answers : List Answer) where
       ((k : ℕ) → k < used → runs (take k answers) ≡ ended.Refused AnswerMissing)
   Uses (ended.Refused r) = Unit {0}
 
--- a read of n bytes changes the first n of the destination, and nothing else changes any
-abbrev pub FillsBy : Outcome → List ℕ → List ℕ → Type 0
-FillsBy (outcome.Read n fds) dst left = OnlyFront n dst left
-FillsBy outcome.Done dst left = left ≡ dst
-FillsBy (outcome.Failed f) dst left = left ≡ dst
+-- ---- the bytes of a read
+-- they begin at the read offset if there is data, and else behind the header of 8 bytes that stands there
+pub data Begins (s : RingBufferScheduler) : ℕ → Type 0 where
+  at-data : dataIn s ≢ 0 → Begins s (offsetIn s Read .0)
+  behind-header : dataIn s ≡ 0 → Begins s (offsetIn s Read .0 + 8)
 
-abbrev pub Fills : Ended → List ℕ → List ℕ → Type 0
-Fills (ended.Accepted q o used) dst left = FillsBy o dst left
-Fills (ended.Refused r) dst left = left ≡ dst
+-- A read of n bytes, no more than were asked for, leaves those of the ring at the front of the destination; nothing else changes any.
+-- `s` is the scheduler of the record that was passed.
+module _ (s : RingBufferScheduler) (ring dst left : List ℕ) where
+  abbrev pub FillsBy : Outcome → Type 0
+  FillsBy (outcome.Read n fds) = (n ≤ length dst) × OnlyFront n dst left × ((at : ℕ) → Begins s at → CellsOf (s .«buf_len») ring at (take n left))
+  FillsBy outcome.Done = left ≡ dst
+  FillsBy (outcome.Failed f) = left ≡ dst
+
+  abbrev pub Fills : Ended → Type 0
+  Fills (ended.Accepted q o used) = FillsBy o
+  Fills (ended.Refused r) = left ≡ dst
 
 -- ---- the end of the stream: failure 32 becomes a read of no bytes and no descriptors, and every other outcome stays
 pub data TurnedTo : Outcome → Outcome → Type 0 where

@@ -51,7 +51,7 @@ uses-turned : (f : List Answer → Ended) (answers : List Answer) (r : Ended) �
 uses-turned f answers (ended.Accepted q o n) h = (h .0, (λ more. ap endOfStreamIn (h .1 more)), (λ k l. ap endOfStreamIn (h .2 k l)))
 uses-turned f answers (ended.Refused r) h = tt
 
-delivered : (ring dst : List ℕ) (w : Went Outcome) → deliveryFrom w ring dst .answer ≡ endedFrom w
+pub delivered : (ring dst : List ℕ) (w : Went Outcome) → deliveryFrom w ring dst .answer ≡ endedFrom w
 delivered ring dst (went p o) = refl
 delivered ring dst (refused r) = refl
 

@@ -1,16 +1,22 @@
--- What the calls over a lent run promise beside their rules: how many answers a call used, what a read leaves in the destination, and
--- what the end of the stream becomes.
-use Prim.Native.Nat.{ℕ, _+_, _<_, _≤_}
+-- What the calls over a lent run promise beside their rules: how many answers a call used, what a read leaves in the destination, what
+-- the end of the stream becomes, and that a run is the machine's steps.
+use Prim.Native.Nat.{ℕ, suc, _+_, _<_, _≤_}
 use mathlib.Core.Path.{_≡_}
 use mathlib.Core.Logic.{_≢_}
-use mathlib.Core.List.{List, _++_}
+use mathlib.Core.List.{List, [], _∷_, _++_}
 use lib.ListN.{length, take}
 use Rattle.sched.specs.declared.operation.OperationType.the-variants.{Read}
 use Rattle.sched.specs.declared.scheduler.RingBufferScheduler.{RingBufferScheduler}
 use Rattle.sched.specs.Scheduler.{dataIn, offsetIn}
 use Rattle.copies.specs.Promises.{OnlyFront, CellsOf}
+use Rattle.receiver.specs.Handed.{Handed}
 use Rattle.receiver.specs.Pending.{Asked, reads, readsImpl, services, shuts}
 use Rattle.receiver.specs.declared.answer.Answer.{Answer}
+use Rattle.receiver.specs.declared.call.Call.{Call}
+use Rattle.receiver.specs.declared.call.Phase.{Phase}
+use Rattle.receiver.specs.declared.call.Phase.the-variants as phase
+use Rattle.receiver.specs.declared.call.Step.{Step}
+use Rattle.receiver.specs.declared.call.Step.the-variants as step
 use Rattle.receiver.specs.declared.receiver.Ended.{Ended}
 use Rattle.receiver.specs.declared.receiver.Ended.the-variants as ended
 use Rattle.receiver.specs.declared.receiver.Outcome.{Outcome}
@@ -58,6 +64,30 @@ pub data TurnedTo : Outcome → Outcome → Type 0 where
 pub data Turned : Ended → Ended → Type 0 where
   accepted : {q : ReceiverState} {o p : Outcome} {used : ℕ} → TurnedTo o p → Turned (ended.Accepted q o used) (ended.Accepted q p used)
   same-refusal : {r : Refusal} → Turned (ended.Refused r) (ended.Refused r)
+
+-- ---- a run is its steps
+-- a call that is finished tells its outcome and how many answers were handed in; one that is not comes to what the rest of the run says
+abbrev pub toldBy : Phase → ReceiverState → ℕ → Ended → Ended
+toldBy (phase.Receive top asked) q i rest = rest
+toldBy (phase.Send batch e) q i rest = rest
+toldBy (phase.Shutdown e) q i rest = rest
+toldBy (phase.Finished o) q i rest = ended.Accepted q o i
+
+-- a refusal refuses the whole
+abbrev pub told : Step → ℕ → Ended → Ended
+told (step.Of c) i rest = toldBy (c .phase) (c .receiver) i rest
+told (step.Refused r) i rest = ended.Refused r
+
+-- `takes` is what a call of the machine comes to with an answer: the answers are handed in one after the other, the first at place 1
+module _ (takes : Call → Handed → Step) (ring : List ℕ) where
+  abbrev pub handedIn : Step → Answer → ℕ → Step
+  handedIn (step.Of c) a place = takes c (record { ring = ring; answer = a; place = place })
+  handedIn (step.Refused r) a place = step.Refused r
+
+  -- where i were handed in before
+  abbrev pub stepsTo : ℕ → Step → List Answer → Ended
+  stepsTo i x [] = told x i (ended.Refused AnswerMissing)
+  stepsTo i x (a ∷ answers) = told x i (stepsTo (suc i) (handedIn x a (suc i)) answers)
 
 -- what a call of this record may leave, by the predicate that its contract cites; of a read, whatever destination is lent
 abbrev pub MayLeave : ReceiverState → Asked → Ended → Type 0

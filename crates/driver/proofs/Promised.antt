@@ -51,11 +51,11 @@ uses-turned : (f : List Answer → Ended) (answers : List Answer) (r : Ended) �
 uses-turned f answers (ended.Accepted q o n) h = (h .0, (λ more. ap endOfStreamIn (h .1 more)), (λ k l. ap endOfStreamIn (h .2 k l)))
 uses-turned f answers (ended.Refused r) h = tt
 
-pub delivered : (ring dst : List ℕ) (w : Went Outcome) → deliveryFrom w ring dst .answer ≡ endedFrom w
+delivered : (ring dst : List ℕ) (w : Went Outcome) → deliveryFrom w ring dst .answer ≡ endedFrom w
 delivered ring dst (went p o) = refl
 delivered ring dst (refused r) = refl
 
-turned : (w : Went Outcome) → endedFrom (endOfStream w) ≡ endOfStreamIn (endedFrom w)
+pub turned : (w : Went Outcome) → endedFrom (endOfStream w) ≡ endOfStreamIn (endedFrom w)
 turned (went p o) = refl
 turned (refused r) = refl
 
@@ -147,7 +147,7 @@ turned-outcome (outcome.Read n fds) = stays (outcome.Read n fds) (λ e. let z : 
 turned-outcome outcome.Done = stays outcome.Done (λ e. let z : _≡_ {A = ℕ} 0 1 = cc in omega arith)
 turned-outcome (outcome.Failed f) = turned-failure f
 
-turned-answer : (r : Ended) → Turned r (endOfStreamIn r)
+pub turned-answer : (r : Ended) → Turned r (endOfStreamIn r)
 turned-answer (ended.Accepted q o used) = accepted (turned-outcome o)
 turned-answer (ended.Refused r) = same-refusal
 
@@ -160,7 +160,7 @@ module _ (q : ReceiverState) (ring dst : List ℕ) (top : ℕ) (answers : List A
       )
 
 -- ---- the pending sum
-left-by : (q : ReceiverState) (c : Asked) (r : Ended) → MayLeave q c r → r ≡ endsOf q c
+pub left-by : (q : ReceiverState) (c : Asked) (r : Ended) → MayLeave q c r → r ≡ endsOf q c
 left-by q (services answers) r p = service-chunk-acknowledgements-says q answers r p
 left-by q (shuts answers) r p = shutdown-says q answers r p
 left-by q (readsImpl ring asked top answers) r (dst, l, (left, p)) =

@@ -5,6 +5,7 @@ use mathlib.Core.Path.{_≡_}
 use mathlib.Core.Logic.{_≢_}
 use mathlib.Core.List.{List, [], _∷_, _++_}
 use lib.ListN.{length, take}
+use Rattle.modular.proofs.Saying.{Allows}
 use Rattle.sched.specs.declared.operation.OperationType.the-variants.{Read}
 use Rattle.sched.specs.declared.scheduler.RingBufferScheduler.{RingBufferScheduler}
 use Rattle.sched.specs.Scheduler.{dataIn, offsetIn}
@@ -25,6 +26,12 @@ use Rattle.receiver.specs.declared.receiver.ReceiverState.{ReceiverState}
 use Rattle.receiver.specs.declared.refusal.Refusal.{Refusal}
 use Rattle.receiver.specs.declared.refusal.Refusal.the-variants.{AnswerMissing}
 use Rattle.receiver.specs.declared.state.Failure.the-variants.{Io}
+use Rattle.receiver.proofs.call.Call.begin_read.Kinds as begin-read-kinds
+use Rattle.receiver.proofs.call.Call.begin_read.Reads as begin-read
+use Rattle.receiver.proofs.call.Call.begin_service.Kinds as begin-service-kinds
+use Rattle.receiver.proofs.call.Call.begin_service.Reads as begin-service
+use Rattle.receiver.proofs.call.Call.begin_shutdown.Kinds as begin-shutdown-kinds
+use Rattle.receiver.proofs.call.Call.begin_shutdown.Reads as begin-shutdown
 use Rattle.driver.specs.Run.{ServiceLeaves, ShutdownLeaves, ReadImplLeaves, ReadLeaves}
 
 -- A call used so many answers: whatever stands behind them it comes to the same, and with fewer of them it is refused with 11.
@@ -95,3 +102,18 @@ MayLeave q (services answers) r = ServiceLeaves q answers r
 MayLeave q (shuts answers) r = ShutdownLeaves q answers r
 MayLeave q (readsImpl ring asked top answers) r = (dst : List ℕ) × (length dst ≡ asked) × ((left : List ℕ) × ReadImplLeaves q ring dst top answers r left)
 MayLeave q (reads ring asked top answers) r = (dst : List ℕ) × (length dst ≡ asked) × ((left : List ℕ) × ReadLeaves q ring dst top answers r left)
+
+-- what the call of the machine that begins it may come to, by the contract that is attached
+abbrev pub MayBegin : ReceiverState → Asked → Step → Type 0
+MayBegin q (services answers) x = Allows 0 begin-service-kinds.ps begin-service-kinds.r begin-service.Learnt tt (q, tt) x
+MayBegin q (shuts answers) x = Allows 0 begin-shutdown-kinds.ps begin-shutdown-kinds.r begin-shutdown.Learnt tt (q, tt) x
+MayBegin q (readsImpl ring asked top answers) x = Allows 0 begin-read-kinds.ps begin-read-kinds.r begin-read.Learnt tt (q, (length ring, (top, (asked, tt)))) x
+MayBegin q (reads ring asked top answers) x = Allows 0 begin-read-kinds.ps begin-read-kinds.r begin-read.Learnt tt (q, (length ring, (top, (asked, tt)))) x
+
+-- what it then leaves is where its steps lead, `takes` being whatever the contract of `answered` allows; a call that looks at no ring
+-- may be lent any
+abbrev pub Stepped : (Call → Handed → Step) → Asked → Step → Ended → Type 0
+Stepped takes (services answers) x r = (ring : List ℕ) → r ≡ stepsTo takes ring 0 x answers
+Stepped takes (shuts answers) x r = (ring : List ℕ) → r ≡ stepsTo takes ring 0 x answers
+Stepped takes (readsImpl ring asked top answers) x r = r ≡ stepsTo takes ring 0 x answers
+Stepped takes (reads ring asked top answers) x r = Turned (stepsTo takes ring 0 x answers) r

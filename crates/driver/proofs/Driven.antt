@@ -67,9 +67,9 @@ module _ (q : ReceiverState) (ring : List ℕ) (answers : List Answer) where
   read-ended top asked = answered (drivenOf (beginReadOf q (length ring) top asked) ring answers) (readImplOf q ring asked top answers) (read-driven ring q answers top asked)
 
 -- ---- the destination
-module _ (ring dst : List ℕ) where
+module _ (ring dst : List ℕ) (q : ReceiverState) where
   abbrev deliveredCame : Came → Delivery
-  deliveredCame (done q s o i) = delivery (ended.Accepted q o i) (deliveredFor o s ring dst)
+  deliveredCame (done p s o i) = delivery (ended.Accepted p o i) (deliveredFor o s ring dst)
   deliveredCame (never r) = delivery (ended.Refused r) dst
 
   delivered-by : (c : Call) (i : ℕ) (x : Phase) → deliveredBy (endedBy x c i) (c .source) ring dst ≡ deliveredCame (cameBy x (c .receiver) (c .source) i)
@@ -82,18 +82,18 @@ module _ (ring dst : List ℕ) where
   delivered-for i (step.Of c) = delivered-by c i (c .phase)
   delivered-for i (step.Refused r) = refl
 
-  copied : (o : Outcome) (s : RingBufferScheduler) → MovedBy ring (length dst) o s → deliveredFor o s ring dst ≡ destinationFor o s ring dst
+  copied : (o : Outcome) (s : RingBufferScheduler) → MovedBy ring (length dst) q o s → deliveredFor o s ring dst ≡ destinationFor o s ring dst
   copied (outcome.Read n fds) s h =
       ap (λ (x : Ready). readFrom ring dst x .memory) (readable-ready ring s (h .1))
       ∙ ap (λ (m : ℕ). get (s .«buf_len») ring (offsetIn s Read .0) m ++ drop m dst) (sym (h .0))
   copied outcome.Done s h = refl
   copied (outcome.Failed f) s h = refl
 
-  delivered-from : (w : Went Outcome) → Moved ring (length dst) w → deliveredCame (cameFrom w) ≡ deliveryFrom w ring dst
+  delivered-from : (w : Went Outcome) → Moved ring (length dst) q w → deliveredCame (cameFrom w) ≡ deliveryFrom w ring dst
   delivered-from (went p o) h = ap (delivery (ended.Accepted (p .rec) o (p .used))) (copied o (p .source) h)
   delivered-from (refused r) h = refl
 
-  module _ (q : ReceiverState) (top : ℕ) (answers : List Answer) where
+  module _ (top : ℕ) (answers : List Answer) where
     abbrev run : Driven
     run = drivenOf (beginReadOf q (length ring) top (length dst)) ring answers
 
@@ -102,7 +102,7 @@ module _ (ring dst : List ℕ) where
     read-impl-delivered =
         delivered-for (run .used) (run .step)
         ∙ ap deliveredCame (read-driven ring q answers top (length dst))
-        ∙ delivered-from (readImplOf q ring (length dst) top answers) (read-moved ring (length dst) top q answers)
+        ∙ delivered-from (readImplOf q ring (length dst) top answers) (read-moved ring (length dst) q top answers)
 
   -- ---- the end of the stream
   abbrev turned : Delivery → Delivery
@@ -118,5 +118,5 @@ module _ (ring dst : List ℕ) where
   turned-from (went p (outcome.Failed f)) = ap (delivery (ended.Accepted (p .rec) (endOfStreamFor (outcome.Failed f)) (p .used))) (untouched (p .source) f (isErrno f 32))
   turned-from (refused r) = refl
 
-  pub read-delivered : (q : ReceiverState) (top : ℕ) (answers : List Answer) (r : Ended) (left : List ℕ) → delivery r left ≡ readImplDelivery q ring dst top answers → delivery (endOfStreamIn r) left ≡ readDelivery q ring dst top answers
-  read-delivered q top answers r left h = ap turned h ∙ turned-from (readImplOf q ring (length dst) top answers)
+  pub read-delivered : (top : ℕ) (answers : List Answer) (r : Ended) (left : List ℕ) → delivery r left ≡ readImplDelivery q ring dst top answers → delivery (endOfStreamIn r) left ≡ readDelivery q ring dst top answers
+  read-delivered top answers r left h = ap turned h ∙ turned-from (readImplOf q ring (length dst) top answers)

@@ -9,3 +9,4 @@ pub mod Reading
 pub mod Used
 pub mod Says
 pub mod Promised
+pub mod PromisedRun

@@ -31,13 +31,13 @@ module _ (ring : List ℕ) where
     takes : (i : ℕ) (x : Step) (a : Answer) (xs : List Answer) (d : Driven) → overIn x ≡ false → retriesIn x a ≡ false → Runs (suc i) (answeredIn x ring a (suc i)) xs d → Runs i x (a ∷ xs) d
 
   -- driving is such a run
-  at-over : (i : ℕ) (x : Step) (xs : List Answer) → overIn x ≡ true → drivenFrom i x ring xs ≡ driven x i
+  pub at-over : (i : ℕ) (x : Step) (xs : List Answer) → overIn x ≡ true → drivenFrom i x ring xs ≡ driven x i
   at-over i x xs e = rw e
 
-  at-retry : (i : ℕ) (x : Step) (a : Answer) (xs : List Answer) → overIn x ≡ false → retriesIn x a ≡ true → drivenFrom i x ring (a ∷ xs) ≡ drivenFrom (suc i) x ring xs
+  pub at-retry : (i : ℕ) (x : Step) (a : Answer) (xs : List Answer) → overIn x ≡ false → retriesIn x a ≡ true → drivenFrom i x ring (a ∷ xs) ≡ drivenFrom (suc i) x ring xs
   at-retry i x a xs e r = rw (e, r)
 
-  at-answer : (i : ℕ) (x : Step) (a : Answer) (xs : List Answer) → overIn x ≡ false → retriesIn x a ≡ false → drivenFrom i x ring (a ∷ xs) ≡ drivenFrom (suc i) (answeredIn x ring a (suc i)) ring xs
+  pub at-answer : (i : ℕ) (x : Step) (a : Answer) (xs : List Answer) → overIn x ≡ false → retriesIn x a ≡ false → drivenFrom i x ring (a ∷ xs) ≡ drivenFrom (suc i) (answeredIn x ring a (suc i)) ring xs
   at-answer i x a xs e r = rw (e, r)
 
   runs : (xs : List Answer) (i : ℕ) (x : Step) → Runs i x xs (drivenFrom i x ring xs)
@@ -78,7 +78,7 @@ module _ (ring : List ℕ) where
 
 -- ---- what a run answers
 -- a call that waits is refused with 11, and one that is accepted is over
-waiting-phase : (ph : Phase) (c : Call) (i : ℕ) → isOver ph ≡ false → endedBy ph c i ≡ ended.Refused AnswerMissing
+pub waiting-phase : (ph : Phase) (c : Call) (i : ℕ) → isOver ph ≡ false → endedBy ph c i ≡ ended.Refused AnswerMissing
 waiting-phase (phase.Receive top asked) c i e = refl
 waiting-phase (phase.Send batch x) c i e = refl
 waiting-phase (phase.Shutdown x) c i e = refl

@@ -1,17 +1,37 @@
--- What the calls over a lent run promise beside their rules: how many answers a call used, and what of the destination stays.
-use Prim.Native.Nat.{ℕ, _<_, _≤_}
+-- What the calls over a lent run promise beside their rules: how many answers a call used, what a read leaves in the destination, what
+-- the end of the stream becomes, and that a run is the machine's steps.
+use Prim.Native.Nat.{ℕ, suc, _+_, _<_, _≤_}
 use mathlib.Core.Path.{_≡_}
-use mathlib.Core.List.{List, _++_}
+use mathlib.Core.Logic.{_≢_}
+use mathlib.Core.List.{List, [], _∷_, _++_}
 use lib.ListN.{length, take}
-use Rattle.copies.specs.Promises.{OnlyFront}
+use Rattle.modular.proofs.Saying.{Allows}
+use Rattle.sched.specs.declared.operation.OperationType.the-variants.{Read}
+use Rattle.sched.specs.declared.scheduler.RingBufferScheduler.{RingBufferScheduler}
+use Rattle.sched.specs.Scheduler.{dataIn, offsetIn}
+use Rattle.copies.specs.Promises.{OnlyFront, CellsOf}
+use Rattle.receiver.specs.Handed.{Handed}
 use Rattle.receiver.specs.Pending.{Asked, reads, readsImpl, services, shuts}
 use Rattle.receiver.specs.declared.answer.Answer.{Answer}
+use Rattle.receiver.specs.declared.call.Call.{Call}
+use Rattle.receiver.specs.declared.call.Phase.{Phase}
+use Rattle.receiver.specs.declared.call.Phase.the-variants as phase
+use Rattle.receiver.specs.declared.call.Step.{Step}
+use Rattle.receiver.specs.declared.call.Step.the-variants as step
 use Rattle.receiver.specs.declared.receiver.Ended.{Ended}
 use Rattle.receiver.specs.declared.receiver.Ended.the-variants as ended
 use Rattle.receiver.specs.declared.receiver.Outcome.{Outcome}
 use Rattle.receiver.specs.declared.receiver.Outcome.the-variants as outcome
 use Rattle.receiver.specs.declared.receiver.ReceiverState.{ReceiverState}
+use Rattle.receiver.specs.declared.refusal.Refusal.{Refusal}
 use Rattle.receiver.specs.declared.refusal.Refusal.the-variants.{AnswerMissing}
+use Rattle.receiver.specs.declared.state.Failure.the-variants.{Io}
+use Rattle.receiver.proofs.call.Call.begin_read.Kinds as begin-read-kinds
+use Rattle.receiver.proofs.call.Call.begin_read.Reads as begin-read
+use Rattle.receiver.proofs.call.Call.begin_service.Kinds as begin-service-kinds
+use Rattle.receiver.proofs.call.Call.begin_service.Reads as begin-service
+use Rattle.receiver.proofs.call.Call.begin_shutdown.Kinds as begin-shutdown-kinds
+use Rattle.receiver.proofs.call.Call.begin_shutdown.Reads as begin-shutdown
 use Rattle.driver.specs.Run.{ServiceLeaves, ShutdownLeaves, ReadImplLeaves, ReadLeaves}
 
 -- A call used so many answers: whatever stands behind them it comes to the same, and with fewer of them it is refused with 11.
@@ -24,15 +44,57 @@ module _ (runs : List Answer → Ended) (answers : List Answer) where
       ((k : ℕ) → k < used → runs (take k answers) ≡ ended.Refused AnswerMissing)
   Uses (ended.Refused r) = Unit {0}
 
--- a read of n bytes changes the first n of the destination, and nothing else changes any
-abbrev pub FillsBy : Outcome → List ℕ → List ℕ → Type 0
-FillsBy (outcome.Read n fds) dst left = OnlyFront n dst left
-FillsBy outcome.Done dst left = left ≡ dst
-FillsBy (outcome.Failed f) dst left = left ≡ dst
+-- ---- the bytes of a read
+-- they begin at the read offset if there is data, and else behind the header of 8 bytes that stands there
+pub data Begins (s : RingBufferScheduler) : ℕ → Type 0 where
+  at-data : dataIn s ≢ 0 → Begins s (offsetIn s Read .0)
+  behind-header : dataIn s ≡ 0 → Begins s (offsetIn s Read .0 + 8)
 
-abbrev pub Fills : Ended → List ℕ → List ℕ → Type 0
-Fills (ended.Accepted q o used) dst left = FillsBy o dst left
-Fills (ended.Refused r) dst left = left ≡ dst
+-- A read of n bytes, no more than were asked for, leaves those of the ring at the front of the destination; nothing else changes any.
+-- `s` is the scheduler of the record that was passed.
+module _ (s : RingBufferScheduler) (ring dst left : List ℕ) where
+  abbrev pub FillsBy : Outcome → Type 0
+  FillsBy (outcome.Read n fds) = (n ≤ length dst) × OnlyFront n dst left × ((at : ℕ) → Begins s at → CellsOf (s .«buf_len») ring at (take n left))
+  FillsBy outcome.Done = left ≡ dst
+  FillsBy (outcome.Failed f) = left ≡ dst
+
+  abbrev pub Fills : Ended → Type 0
+  Fills (ended.Accepted q o used) = FillsBy o
+  Fills (ended.Refused r) = left ≡ dst
+
+-- ---- the end of the stream: failure 32 becomes a read of no bytes and no descriptors, and every other outcome stays
+pub data TurnedTo : Outcome → Outcome → Type 0 where
+  ended-stream : TurnedTo (outcome.Failed (Io 32)) (outcome.Read 0 0)
+  stays : (o : Outcome) → o ≢ outcome.Failed (Io 32) → TurnedTo o o
+
+-- nothing else of an answer changes
+pub data Turned : Ended → Ended → Type 0 where
+  accepted : {q : ReceiverState} {o p : Outcome} {used : ℕ} → TurnedTo o p → Turned (ended.Accepted q o used) (ended.Accepted q p used)
+  same-refusal : {r : Refusal} → Turned (ended.Refused r) (ended.Refused r)
+
+-- ---- a run is its steps
+-- a call that is finished tells its outcome and how many answers were handed in; one that is not comes to what the rest of the run says
+abbrev pub toldBy : Phase → ReceiverState → ℕ → Ended → Ended
+toldBy (phase.Receive top asked) q i rest = rest
+toldBy (phase.Send batch e) q i rest = rest
+toldBy (phase.Shutdown e) q i rest = rest
+toldBy (phase.Finished o) q i rest = ended.Accepted q o i
+
+-- a refusal refuses the whole
+abbrev pub told : Step → ℕ → Ended → Ended
+told (step.Of c) i rest = toldBy (c .phase) (c .receiver) i rest
+told (step.Refused r) i rest = ended.Refused r
+
+-- `takes` is what a call of the machine comes to with an answer: the answers are handed in one after the other, the first at place 1
+module _ (takes : Call → Handed → Step) (ring : List ℕ) where
+  abbrev pub handedIn : Step → Answer → ℕ → Step
+  handedIn (step.Of c) a place = takes c (record { ring = ring; answer = a; place = place })
+  handedIn (step.Refused r) a place = step.Refused r
+
+  -- where i were handed in before
+  abbrev pub stepsTo : ℕ → Step → List Answer → Ended
+  stepsTo i x [] = told x i (ended.Refused AnswerMissing)
+  stepsTo i x (a ∷ answers) = told x i (stepsTo (suc i) (handedIn x a (suc i)) answers)
 
 -- what a call of this record may leave, by the predicate that its contract cites; of a read, whatever destination is lent
 abbrev pub MayLeave : ReceiverState → Asked → Ended → Type 0
@@ -40,3 +102,18 @@ MayLeave q (services answers) r = ServiceLeaves q answers r
 MayLeave q (shuts answers) r = ShutdownLeaves q answers r
 MayLeave q (readsImpl ring asked top answers) r = (dst : List ℕ) × (length dst ≡ asked) × ((left : List ℕ) × ReadImplLeaves q ring dst top answers r left)
 MayLeave q (reads ring asked top answers) r = (dst : List ℕ) × (length dst ≡ asked) × ((left : List ℕ) × ReadLeaves q ring dst top answers r left)
+
+-- what the call of the machine that begins it may come to, by the contract that is attached
+abbrev pub MayBegin : ReceiverState → Asked → Step → Type 0
+MayBegin q (services answers) x = Allows 0 begin-service-kinds.ps begin-service-kinds.r begin-service.Learnt tt (q, tt) x
+MayBegin q (shuts answers) x = Allows 0 begin-shutdown-kinds.ps begin-shutdown-kinds.r begin-shutdown.Learnt tt (q, tt) x
+MayBegin q (readsImpl ring asked top answers) x = Allows 0 begin-read-kinds.ps begin-read-kinds.r begin-read.Learnt tt (q, (length ring, (top, (asked, tt)))) x
+MayBegin q (reads ring asked top answers) x = Allows 0 begin-read-kinds.ps begin-read-kinds.r begin-read.Learnt tt (q, (length ring, (top, (asked, tt)))) x
+
+-- what it then leaves is where its steps lead, `takes` being whatever the contract of `answered` allows; a call that looks at no ring
+-- may be lent any
+abbrev pub Stepped : (Call → Handed → Step) → Asked → Step → Ended → Type 0
+Stepped takes (services answers) x r = (ring : List ℕ) → r ≡ stepsTo takes ring 0 x answers
+Stepped takes (shuts answers) x r = (ring : List ℕ) → r ≡ stepsTo takes ring 0 x answers
+Stepped takes (readsImpl ring asked top answers) x r = r ≡ stepsTo takes ring 0 x answers
+Stepped takes (reads ring asked top answers) x r = Turned (stepsTo takes ring 0 x answers) r

@@ -1,12 +1,12 @@
 -- Laws of the machine's steps: what a test or a case tells.
-use Prim.Native.Nat.{ℕ, zero, suc, _-_, _^_, _<_, _≤_, _%_, _/_}
+use Prim.Native.Nat.{ℕ, zero, suc, _+_, _-_, _^_, _<_, _≤_, _%_, _/_}
 use mathlib.Core.Path.{_≡_, refl, sym, ap, subst, _∙_}
 use mathlib.Core.Bool.{Bool, cond, true, false}
 use mathlib.Core.List.{List}
 use native.Mathlib.Omega.{arith}
 use lib.Dec.{eqb, ltb}
 use borrow.Author.Tests.{ltb-true, ltb-false, eqb-true}
-use Rattle.sched.proofs.Laws.{sound-both}
+use Rattle.sched.proofs.Laws.{sound-both, advanced-offset}
 use Rattle.sched.specs.declared.operation.OperationType.the-variants.{Read}
 use Rattle.sched.specs.declared.scheduler.Checked.{Checked}
 use Rattle.sched.specs.declared.scheduler.Checked.the-variants as checked
@@ -32,9 +32,9 @@ announces-chunk (announced.Chunk v f) q u fds e h =
     record { sound = rw (sym same) (h .0); held = omega arith; counted = h .1 }
 announces-chunk (announced.Failed f) q u fds e h = let z : _≡_ {A = ℕ} 0 1 = cc in absurd (omega arith)
 
--- what is announced of a sound scheduler is sound, of its length, and holds data
+-- what is announced of a sound scheduler is sound, of its length, and holds data behind the header
 abbrev pub Chunked : RingBufferScheduler → Announced → Type 0
-Chunked s (announced.Chunk u fds) = IsSound u × (u .«buf_len» ≡ s .«buf_len») × (1 ≤ dataIn u)
+Chunked s (announced.Chunk u fds) = IsSound u × (u .«buf_len» ≡ s .«buf_len») × (1 ≤ dataIn u) × (offsetIn u Read .0 ≡ (offsetIn s Read .0 + 8) % s .«buf_len»)
 Chunked s (announced.Failed f) = Unit {0}
 
 by-test : (s : RingBufferScheduler) (x y : Announced) (b : Bool) → (b ≡ true → Chunked s x) → (b ≡ false → Chunked s y) → Chunked s (cond b x y)
@@ -51,7 +51,7 @@ module _ (s : RingBufferScheduler) (h : IsSound s) (fds : ℕ) where
       by-test s _ _ (eqb (n / 2 ^ 62) 0)
       (λ e. by-test s _ _ (eqb (n % 2 ^ 48) 0) (λ e. tt)
       (λ z. by-test s _ _ (ltb (spaceIn s - 8) (n % 2 ^ 48)) (λ e. tt)
-      (λ e. (announced s h g (n % 2 ^ 48) (ltb-false _ _ e), refl, some (n % 2 ^ 48) _ z (held s h g (n % 2 ^ 48) (ltb-false _ _ e))))))
+      (λ e. (announced s h g (n % 2 ^ 48) (ltb-false _ _ e), refl, some (n % 2 ^ 48) _ z (held s h g (n % 2 ^ 48) (ltb-false _ _ e)), advanced-offset s h 8 Read))))
       (λ e. tt)
 
   pub byte-chunked : (ring : List ℕ) (b : ℕ) → Chunked s (byteIn ring s b fds)

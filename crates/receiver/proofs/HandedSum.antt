@@ -12,17 +12,20 @@ use Rattle.sched.specs.declared.operation.OperationType.the-variants.{Read}
 use Rattle.sched.specs.declared.scheduler.RingBufferScheduler.{RingBufferScheduler}
 use Rattle.sched.specs.Scheduler.{dataIn, advancedIn}
 use Rattle.receiver.proofs.AdmissionLaws.{passed-sound, passed-fits}
+use Rattle.receiver.proofs.AnswerSays.{received-says, interrupted-says}
 use Rattle.receiver.proofs.AnsweredLaws.{Chunked, byte-chunked}
 use Rattle.receiver.proofs.CallLaws.{sent-covered}
 use Rattle.receiver.proofs.Fits.{five-fits, blocked-fits, end-fits, FitsIn, byte-fits, sent-fits, received-fits}
-use Rattle.receiver.proofs.Made.{Tested, handed-tested, live-waits, Made}
+use Rattle.receiver.proofs.Made.{Tested, handed-tested, passes, live-waits, Made}
+use Rattle.receiver.proofs.ResumedLaws.{answered-on}
 use Rattle.receiver.proofs.Spent.{interrupted-sends, sent-sends, failed-sends}
 use Rattle.receiver.specs.Admission.{admissionOf}
 use Rattle.receiver.specs.Answer.{interruptedOf, receivedOf, sentOf, shutOf}
 use Rattle.receiver.specs.State.{fitsFailure, fitsState, failureIn, isErrno, advanceIn}
 use Rattle.receiver.specs.Receiver.{withScheduler, withState, withPending, withShutdown, batchIn, bySent, byteIn, handedOut}
-use Rattle.receiver.specs.Call.{call, finishedCall, outcomeIn, toldIn, advanceCall, flushCall, serviceCallBy, serviceCall, sentCall, unsentCall, afterShut, handOutCall, failedCall, blockedBy, announcedCall, afterReceive, liveCall, readBy, admittedStep, beginReadOf, beginServiceOf, beginShutdownOf, looksAt, resumedBy, resumedOf, steppedBy, answeredFrom, answeredOf}
+use Rattle.receiver.specs.Call.{call, finishedCall, outcomeIn, toldIn, advanceCall, flushCall, serviceCallBy, serviceCall, sentCall, unsentCall, afterShut, handOutCall, failedCall, blockedBy, announcedCall, afterReceive, liveCall, readBy, admittedStep, beginReadOf, beginServiceOf, beginShutdownOf, retriesIn, retriesOf, looksBy, looksAt, resumedBy, resumedOf, steppedBy, answeredFrom, answeredOf}
 use Rattle.receiver.specs.Pending.{wholeIn}
+use Rattle.receiver.specs.Promise.{SaysReceived, a-byte, closed, receive-failed, no-receive}
 use Rattle.receiver.specs.Handed.{Handed, stepOf, keptBy, handedTo, sentAt, allSentTo, comingTo, wholeAt, allWholeTo}
 use Rattle.receiver.specs.declared.admission.Admission.{Admission}
 use Rattle.receiver.specs.declared.admission.Admission.the-variants as admission
@@ -55,6 +58,10 @@ use Rattle.receiver.specs.declared.state.OperationalState.the-variants.{
 use Rattle.receiver.specs.declared.state.PotentialFailure.{PotentialFailure}
 use Rattle.receiver.specs.declared.state.PotentialFailure.the-variants.{Some, None}
 use Rattle.receiver.proofs.Keeps.{finished-keeps, advance-keeps, flush-keeps, service-keeps, service-coming, shutdown-coming}
+
+abbrev pub MadeBy : Step → Type 0
+MadeBy (Of c) = Made c
+MadeBy (Refused r) = Unit {0}
 
 -- ---- one answer
 -- what is taken is made by the machine, and the sum is kept
@@ -219,6 +226,35 @@ module _ (c : Call) (h : Made c) (ring : List ℕ) (a : Answer) (place : ℕ) wh
   answered-good : Good (c .phase) c a (answeredOf c ring a place)
   answered-good = admits (admissionOf (c .receiver) (looksAt (c .phase) a (length ring)))
 
+  pub answered-made : MadeBy (answeredOf c ring a place)
+  answered-made = by (answeredOf c ring a place) answered-good
+    where
+      by : (x : Step) → Good (c .phase) c a x → MadeBy x
+      by (Of d) g = g .0
+      by (Refused r) g = tt
+
+  -- what it waits out leaves it as it was, over any ring: an interruption is no byte
+  no-byte : (top : ℕ) → a .kind ≡ 2 → (x : Received) → SaysReceived a top x → memory.None ≡ looksBy x (length ring)
+  no-byte top k _ (a-byte g) = absurd (omega (arith, k, g .0))
+  no-byte top k _ (closed g) = refl
+  no-byte top k _ (receive-failed g) = refl
+  no-byte top k _ (no-receive f g i) = refl
+
+  looks-at-none : (ph : Phase) → retriesIn ph a ≡ true → memory.None ≡ looksAt ph a (length ring)
+  looks-at-none (phase.Receive top asked) e = no-byte top (interrupted-says a .0 e .0) (receivedOf top a) (received-says a top)
+  looks-at-none (phase.Send batch x) e = refl
+  looks-at-none (phase.Shutdown x) e = refl
+  looks-at-none (phase.Finished o) e = refl
+
+  steps-back : (ph : Phase) → retriesIn ph a ≡ true → steppedBy ph c ring a place ≡ Of c
+  steps-back (phase.Receive top asked) e = rw e
+  steps-back (phase.Send batch x) e = rw e
+  steps-back (phase.Shutdown x) e = let z : _≡_ {A = ℕ} 0 1 = cc in absurd (omega arith)
+  steps-back (phase.Finished o) e = refl
+
+  pub waited-out : retriesOf c a ≡ true → answeredOf c ring a place ≡ Of c
+  waited-out e = sym (answered-on c ring a place memory.None (looks-at-none (c .phase) e) (passes (c .receiver) (h .tested)) (Of c) (sym (h .resumes))) ∙ steps-back (c .phase) e
+
 -- ---- any answers
 -- taken or not, the call that the host goes on with is made by the machine, and keeps the sum
 kept : (ph : Phase) (c : Call) (a : Answer) (x : Step) → Made c → Good ph c a x → Made (keptBy c x) × (keptBy c x .receiver .«pending_ack_count» + sentAt ph x a ≡ c .receiver .«pending_ack_count» + wholeAt ph x)
@@ -241,10 +277,6 @@ module _ (answers : Call → Handed → Step) (are : (c : Call) (h : Handed) →
   handed-sum (h ∷ hs) c m = let k = taken-or-not c h m in omega (arith, k .1, handed-sum hs (keptBy c (answers c h)) (k .0))
 
 -- ---- the calls that are begun are made by the machine
-abbrev pub MadeBy : Step → Type 0
-MadeBy (Of c) = Made c
-MadeBy (Refused r) = Unit {0}
-
 either-made : (b : Bool) (x y : Step) → (b ≡ true → MadeBy x) → (b ≡ false → MadeBy y) → MadeBy (cond b x y)
 either-made true x y f g = f refl
 either-made false x y f g = g refl

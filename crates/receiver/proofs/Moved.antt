@@ -1,16 +1,18 @@
 -- What a read answers as its number of bytes is what it copies: the smaller of what was asked and the data of the scheduler that it
--- copies by, which is sound and of the ring's length.
-use Prim.Native.Nat.{ℕ, suc, _-_, _^_, min}
+-- copies by, which is sound, of the ring's length, and reads where the passed one does or behind a header there.
+use Prim.Native.Nat.{ℕ, suc, _+_, _-_, _%_, _^_, min}
 use mathlib.Core.Path.{_≡_, refl, sym, ap, _∙_}
 use mathlib.Core.Bool.{Bool, cond, true, false}
+use mathlib.Core.Logic.{_≢_}
 use mathlib.Core.List.{List, [], _∷_}
 use native.Mathlib.Omega.{arith}
 use lib.Dec.{eqb}
 use lib.ListN.{length}
-use borrow.Author.Tests.{eq-eqb, eqb-true}
+use borrow.Author.Tests.{eq-eqb, eqb-true, eqb-false}
 use Rattle.sched.proofs.Laws.{sound-is}
+use Rattle.sched.specs.declared.operation.OperationType.the-variants.{Read}
 use Rattle.sched.specs.declared.scheduler.RingBufferScheduler.{RingBufferScheduler}
-use Rattle.sched.specs.Scheduler.{IsSound, dataIn}
+use Rattle.sched.specs.Scheduler.{IsSound, dataIn, offsetIn}
 use Rattle.copies.specs.declared.Ready.the-variants as ready
 use Rattle.copies.specs.declared.Refusal.the-variants.{RingMemory}
 use Rattle.copies.specs.Copies.{readyFrom, readyOf}
@@ -45,9 +47,15 @@ module _ (ring : List ℕ) where
     pub sound : IsSound s
     pub sized : length ring ≡ s .«buf_len»
 
-module _ (ring : List ℕ) (asked : ℕ) where
+-- the scheduler that a read of the record's scheduler t copies by: t itself, or if that holds no data a chunk's; none if nothing was asked
+pub data Source (asked : ℕ) (t : RingBufferScheduler) : RingBufferScheduler → Type 0 where
+  unasked : asked ≡ 0 → Source asked t t
+  own : dataIn t ≢ 0 → Source asked t t
+  chunk : (s : RingBufferScheduler) → dataIn t ≡ 0 → s .«buf_len» ≡ t .«buf_len» → offsetIn s Read .0 ≡ (offsetIn t Read .0 + 8) % t .«buf_len» → Source asked t s
+
+module _ (ring : List ℕ) (asked : ℕ) (q : ReceiverState) where
   abbrev pub MovedBy : Outcome → RingBufferScheduler → Type 0
-  MovedBy (outcome.Read n fds) s = (n ≡ min asked (dataIn s)) × Readable ring s
+  MovedBy (outcome.Read n fds) s = (n ≡ min asked (dataIn s)) × Readable ring s × Source asked (q .scheduler) s
   MovedBy outcome.Done s = Unit {0}
   MovedBy (outcome.Failed f) s = Unit {0}
 
@@ -55,18 +63,18 @@ module _ (ring : List ℕ) (asked : ℕ) where
   Moved (went p o) = MovedBy o (p .source)
   Moved (refused r) = Unit {0}
 
-  either : (b : Bool) (x y : Went Outcome) → Moved x → Moved y → Moved (cond b x y)
-  either true x y h g = h
-  either false x y h g = g
+  either : (b : Bool) (x y : Went Outcome) → (b ≡ true → Moved x) → (b ≡ false → Moved y) → Moved (cond b x y)
+  either true x y h g = h refl
+  either false x y h g = g refl
 
   -- ---- bytes in hand
-  drops : (s : RingBufferScheduler) → Readable ring s → (fds : ℕ) (w : Went Outcome) → Kept s w → Moved (dropped (min asked (dataIn s)) fds w)
-  drops s h fds (went p o) k = rw k (refl, h)
-  drops s h fds (refused r) k = tt
+  drops : (s : RingBufferScheduler) → Readable ring s → Source asked (q .scheduler) s → (fds : ℕ) (w : Went Outcome) → Kept s w → Moved (dropped (min asked (dataIn s)) fds w)
+  drops s h g fds (went p o) k = rw k (refl, h, g)
+  drops s h g fds (refused r) k = tt
 
-  hands-out : (fds : ℕ) (p : At) → Readable ring (p .rec .scheduler) → Moved (handOut asked fds p)
-  hands-out fds p h =
-      drops (p .rec .scheduler) h fds
+  hands-out : (fds : ℕ) (p : At) → Readable ring (p .rec .scheduler) → Source asked (q .scheduler) (p .rec .scheduler) → Moved (handOut asked fds p)
+  hands-out fds p h g =
+      drops (p .rec .scheduler) h g fds
       (serviceIn (at (handedOut (p .rec) (min asked (dataIn (p .rec .scheduler)))) (p .rec .scheduler) (p .used) (p .rest)))
       (service-kept (p .rec .scheduler) (handedOut (p .rec) (min asked (dataIn (p .rec .scheduler)))) (p .used) (p .rest))
 
@@ -80,49 +88,46 @@ module _ (ring : List ℕ) (asked : ℕ) where
   blocks (Draining f) p = fails f (advanceTo (Terminated f) p)
   blocks (Terminated f) p = fails (Io 11) (advanceTo (Terminated (Io 11)) p)
 
-  announces : (p : At) (s : RingBufferScheduler) → Readable ring s → (x : Announced) → Chunked s x → Moved (announcedRead asked (went p x))
-  announces p s h (announced.Chunk u fds) k =
-      hands-out fds (at (withScheduler (p .rec) u) (p .source) (p .used) (p .rest)) (record { sound = k .0; sized = h .sized ∙ sym (k .1) })
-  announces p s h (announced.Failed f) k = either (isErrno f 11) _ _ (blocks (p .rec .state) p) (fails f (advanceTo (Terminated f) p))
+  module _ (h : Readable ring (q .scheduler)) where
+    module _ (none : dataIn (q .scheduler) ≡ 0) (top : ℕ) (s : RingBufferScheduler) where
+      announces : (p : At) (x : Announced) → Chunked (q .scheduler) x → Moved (announcedRead asked (went p x))
+      announces p (announced.Chunk u fds) k =
+          hands-out fds (at (withScheduler (p .rec) u) (p .source) (p .used) (p .rest)) (record { sound = k .0; sized = h .sized ∙ sym (k .1) }) (chunk u none (k .1) (k .3))
+      announces p (announced.Failed f) k = either (isErrno f 11) _ _ (λ e. blocks (p .rec .state) p) (λ e. fails f (advanceTo (Terminated f) p))
 
-  module _ (top : ℕ) (q : ReceiverState) (s : RingBufferScheduler) (h : Readable ring (q .scheduler)) where
-    by-received : (i : ℕ) (rest : List Answer) (x : Received) →
-        Moved
-        (announcedRead asked
-        (byReceived x (λ b fds. went (at q s i rest) (byteIn ring (q .scheduler) b fds)) (λ n. went (at q s i rest) (announced.Failed (Io n))) (refused (Misfit i))))
-    by-received i rest (received.Byte b fds) = announces (at q s i rest) (q .scheduler) h (byteIn ring (q .scheduler) b fds) (byte-chunked (q .scheduler) (h .sound) fds ring b)
-    by-received i rest (received.Failed n) = announces (at q s i rest) (q .scheduler) h (announced.Failed (Io n)) tt
-    by-received i rest received.Misfit = tt
+      by-received : (i : ℕ) (rest : List Answer) (x : Received) →
+          Moved
+          (announcedRead asked
+          (byReceived x (λ b fds. went (at q s i rest) (byteIn ring (q .scheduler) b fds)) (λ n. went (at q s i rest) (announced.Failed (Io n))) (refused (Misfit i))))
+      by-received i rest (received.Byte b fds) = announces (at q s i rest) (byteIn ring (q .scheduler) b fds) (byte-chunked (q .scheduler) (h .sound) fds ring b)
+      by-received i rest (received.Failed n) = announces (at q s i rest) (announced.Failed (Io n)) tt
+      by-received i rest received.Misfit = tt
 
-    one : (b : Bool) (x y : Went Announced) → Moved (announcedRead asked x) → Moved (announcedRead asked y) → Moved (announcedRead asked (cond b x y))
-    one true x y f g = f
-    one false x y f g = g
+      one : (b : Bool) (x y : Went Announced) → Moved (announcedRead asked x) → Moved (announcedRead asked y) → Moved (announcedRead asked (cond b x y))
+      one true x y f g = f
+      one false x y f g = g
 
-    receives : (answers : List Answer) (i : ℕ) → Moved (announcedRead asked (announceIn ring top q s i answers))
-    unfolding announceIn
-    receives [] i = tt
-    receives (a ∷ rest) i = one (interruptedOf a) _ _ (receives rest (suc i)) (by-received (suc i) rest (receivedOf top a))
+      receives : (answers : List Answer) (i : ℕ) → Moved (announcedRead asked (announceIn ring top q s i answers))
+      unfolding announceIn
+      receives [] i = tt
+      receives (a ∷ rest) i = one (interruptedOf a) _ _ (receives rest (suc i)) (by-received (suc i) rest (receivedOf top a))
 
-  -- ---- a read
-  module _ (top : ℕ) (q : ReceiverState) (answers : List Answer) where
-    module _ (h : Readable ring (q .scheduler)) where
-      empty : (b : Bool) → eqb asked 0 ≡ b → (w : Went Outcome) → Moved w → Moved (cond b (went (begin q answers) (outcome.Read 0 0)) w)
-      empty true e w g = (omega (arith, eqb-true asked 0 e), h)
-      empty false e w g = g
-
+    -- ---- a read
+    module _ (top : ℕ) (answers : List Answer) where
       live : Moved (liveRead ring asked top (begin q answers))
       live =
-          empty (eqb asked 0) refl _
-          (either (eqb (q .«pending_ack_count») (2 ^ 64 - 1)) _ _ tt
-          (either (eqb (dataIn (q .scheduler)) 0) _ _ (receives top q (q .scheduler) h answers 0) (hands-out 0 (begin q answers) h)))
+          either (eqb asked 0) _ _ (λ e. (omega (arith, eqb-true asked 0 e), h, unasked (eqb-true asked 0 e)))
+          (λ e. either (eqb (q .«pending_ack_count») (2 ^ 64 - 1)) _ _ (λ f. tt)
+          (λ f. either (eqb (dataIn (q .scheduler)) 0) _ _ (λ z. receives (eqb-true _ _ z) top (q .scheduler) answers 0) (λ z. hands-out 0 (begin q answers) h (own (eqb-false _ _ z)))))
 
       by-state : (st : OperationalState) → Moved (readIn st ring asked top (begin q answers))
       by-state Normal = live
       by-state (Draining f) = live
       by-state (Terminated f) = tt
 
+  module _ (top : ℕ) (answers : List Answer) where
     passed-first : (x : Admission) → x ≡ admissionOf q (Of (length ring)) → Moved (admitted x (readIn (q .state) ring asked top (begin q answers)))
-    passed-first Passed e = by-state (record { sound = passed-sound q (Of (length ring)) e; sized = passed-sized q (length ring) e }) (q .state)
+    passed-first Passed e = by-state (record { sound = passed-sound q (Of (length ring)) e; sized = passed-sized q (length ring) e }) top answers (q .state)
     passed-first (Refused r) e = tt
 
     pub read-moved : Moved (readImplOf q ring asked top answers)

@@ -203,10 +203,10 @@ looks-rule a n (phase.Shutdown e) = at-a-shutdown
 looks-rule a n (phase.Finished o) = at-the-end
 
 -- ---- the pending sum, of the call: whatever function of a host's answers its contract allows, somewhere in memory
-abbrev Answers : Call → Handed → Step → Type 0
+abbrev pub Answers : Call → Handed → Step → Type 0
 Answers c h z = (κs : Lfts 1) × ((ring : RefT (List ℕ)) × (ring .now ≡ h .ring) × Allows 1 answered-kinds.ps answered-kinds.r answered.Learnt κs (c, (ring, (h .answer, (h .place, tt)))) z)
 
-answers-are : (c : Call) (h : Handed) (z : Step) → Answers c h z → z ≡ stepOf c h
+pub answers-are : (c : Call) (h : Handed) (z : Step) → Answers c h z → z ≡ stepOf c h
 answers-are c h z (κs, (ring, e, p)) = answered-says κs (c, (ring, (h .answer, (h .place, tt)))) z (p .0) (p .1) ∙ ap (λ (r : List ℕ). answeredOf c r (h .answer) (h .place)) e
 
 pub pending-promised : (answers : Call → Handed → Step) → ((c : Call) (h : Handed) → Answers c h (answers c h)) → (hs : List Handed) (c : Call) → Made c →

@@ -15,7 +15,7 @@ use Rattle.driver.proofs.ComesRead.{read-driven, service-driven, shutdo
 use Rattle.receiver.proofs.Moved.{MovedBy, Moved, read-moved, readable-ready}
 use Rattle.receiver.specs.Call.{beginReadOf, beginServiceOf, beginShutdownOf}
 use Rattle.driver.specs.Drive.{drivenOf, endedBy, endedFor, endedOf, deliveredFor, deliveredBy, deliveryFor, deliveryOf, endOfStreamIn}
-use Rattle.receiver.specs.Receiver.{At, Went, went, refused, endedFrom, endOfStreamFor, endOfStream, readImplOf, serviceOf, shutdownOf, Delivery, delivery, destinationFor, deliveryFrom, readImplDelivery, readDelivery}
+use Rattle.receiver.specs.Receiver.{Went, went, refused, endedFrom, endOfStreamFor, endOfStream, readImplOf, serviceOf, shutdownOf, Delivery, delivery, destinationFor, deliveryFrom, readImplDelivery, readDelivery}
 use Rattle.receiver.specs.State.{isErrno}
 use Rattle.receiver.specs.declared.answer.Answer.{Answer}
 use Rattle.receiver.specs.declared.call.Phase.{Phase}

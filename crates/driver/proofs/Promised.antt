@@ -20,7 +20,7 @@ use Rattle.receiver.proofs.Moved.{Source, unasked, own, chunk, Moved, read-move
 use Rattle.receiver.proofs.PendingSum.{pending-sum}
 use Rattle.receiver.specs.Call.{beginReadOf, beginServiceOf, beginShutdownOf}
 use Rattle.receiver.specs.Pending.{Asked, reads, readsImpl, services, shuts, endsOf, after, allSent, allWhole}
-use Rattle.receiver.specs.Receiver.{Went, went, refused, endedFrom, readImplOf, readOf, serviceOf, shutdownOf, endOfStreamFor, endOfStream, Delivery, delivery, destinationFor, deliveryFrom, readImplDelivery, readDelivery}
+use Rattle.receiver.specs.Receiver.{Went, went, refused, endedFrom, readImplOf, readOf, endOfStreamFor, endOfStream, Delivery, delivery, destinationFor, deliveryFrom, readImplDelivery, readDelivery}
 use Rattle.receiver.specs.State.{isErrno}
 use Rattle.receiver.specs.declared.answer.Answer.{Answer}
 use Rattle.receiver.specs.declared.call.Step.{Step}

@@ -6,7 +6,7 @@ use mathlib.Core.Bool.{Bool, cond, true, false}
 use mathlib.Core.List.{List, [], _∷_, _++_}
 use native.Mathlib.Omega.{arith}
 use lib.ListN.{length, take}
-use Rattle.receiver.specs.Call.{overOf, isOver}
+use Rattle.receiver.specs.Call.{isOver}
 use Rattle.receiver.specs.declared.answer.Answer.{Answer}
 use Rattle.receiver.specs.declared.call.Call.{Call}
 use Rattle.receiver.specs.declared.call.Phase.{Phase}
@@ -18,7 +18,7 @@ use Rattle.receiver.specs.declared.receiver.Ended.the-variants as ended
 use Rattle.receiver.specs.declared.receiver.Outcome.{Outcome}
 use Rattle.receiver.specs.declared.receiver.ReceiverState.{ReceiverState}
 use Rattle.receiver.specs.declared.refusal.Refusal.the-variants.{AnswerMissing}
-use Rattle.driver.specs.Drive.{overIn, retriesIn, answeredIn, driven, waitedOf, drivenFrom, drivenOf, endedBy, endedFor, endedOf}
+use Rattle.driver.specs.Drive.{overIn, retriesIn, answeredIn, driven, drivenFrom, drivenOf, endedBy, endedFor, endedOf}
 use Rattle.driver.specs.Promise.{Uses}
 use Rattle.driver.specs.declared.drive.Driven.{Driven}
 

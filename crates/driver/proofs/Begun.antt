@@ -1,5 +1,5 @@
 -- A receiver's call that is begun by value and then driven without a ring: the one walk of `service_chunk_acknowledgements` and of
--- `shutdown`, over the name of the function that begins the call, what that makes of the receiver, and what the whole call answers.
+-- `shutdown`, over the name of the function that begins the call and what that makes of the receiver.
 use mathlib.Core.Path.{_≡_, refl, ap, _∙_}
 use mathlib.Core.List.{List, [], _∷_}
 use lib.ListN.{length}
@@ -76,7 +76,10 @@ module _ {M : Type 1} (𝓤 : URA M) (H : Heap 𝓤) (A : Atoms 𝓤) where
 abbrev stayed : Stays (f.ended .signature .params) (f.ended .kept)
 stayed = (stay-dropped (plain (λ _. Re)) yes, (stay-dropped (shrSliceOf (0 ∷ []) tt (plain (λ _. R))) yes, tt))
 
-module _ (begin : Name) (begins : ReceiverState → Step) (told : ReceiverState → List Answer → Ended) (tells : (q : ReceiverState) (ys : List Answer) → endedOf (drivenOf (begins q) [] ys) ≡ told q ys) where
+module _ (begin : Name) (begins : ReceiverState → Step) where
+  abbrev told : ReceiverState → List Answer → Ended
+  told q ys = endedOf (drivenOf (begins q) [] ys)
+
   module _ {M : Type 1} (𝓤 : URA M) (H : Heap 𝓤) (A : Atoms 𝓤) (W : Given 𝓤 H A) (mem : Memory → SProp 𝓤) (run : Routine → Fun 𝓤) (κ : Lft) (s : Share) (q : ReceiverState) (iq : Is Re q (qval q ∷ [])) (answers : RefT (List Answer)) (room : Room R (length (answers .now))) where
     abbrev x : ReceiverState × (RefT (List Answer) × Unit {0})
     x = (q, (answers, tt))
@@ -118,7 +121,7 @@ module _ (begin : Name) (begins : ReceiverState → Step) (told : ReceiverState 
           land ! (from ! (stop !)) (init ! 11 refl (EL.lawful E.the-type E′.the-laws 𝓤 H A W tt .typed r _ ir .0)) $
           returns ! (look ! 11 refl) $ forget ! 5 refl $ forget ! 7 refl $ forget ! 9 refl $ forget ! 11 refl $
           move ! (11 ∷ 12 ∷ []) $ free1 ! $ move ! (9 ∷ 10 ∷ []) $ free1 ! $ move ! (7 ∷ 8 ∷ []) $ free1 ! $ move ! (5 ∷ 6 ∷ []) $ free1 ! $ free0 ! $
-          keep ! (0 ∷ 1 ∷ []) $ by ! (exits r w (k ∙ ap (λ (p : Step). endedOf (drivenOf p [] (answers .now))) e ∙ tells q (answers .now)))))))))
+          keep ! (0 ∷ 1 ∷ []) $ by ! (exits r w (k ∙ ap (λ (p : Step). endedOf (drivenOf p [] (answers .now))) e))))))))
 
   module _ {M : Type 1} (𝓤 : URA M) (H : Heap 𝓤) (A : Atoms 𝓤) (W : Given 𝓤 H A) (mem : Memory → SProp 𝓤) (run : Routine → Fun 𝓤) (𝓣 : Tables 𝓤 H) where
     pub begun : Triple 𝓤 (𝓣 .C begin) (Begin 𝓤 H A begins) → Triple 𝓤 (𝓣 .C g₁-def.name) (Drive 𝓤 H A mem run) → Meets 𝓤 H A f.signature (WpFn 𝓤 H (𝓣 .C) (𝓣 .Λ) (function begin)) (closing 𝓤 H A f.ended (answering 𝓤 told))

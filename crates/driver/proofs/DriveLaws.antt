@@ -4,8 +4,7 @@ use mathlib.Core.Path.{_≡_, sym, ap, _∙_}
 use mathlib.Core.Bool.{Bool}
 use mathlib.Core.List.{List}
 use Rattle.sched.specs.declared.scheduler.RingBufferScheduler.{RingBufferScheduler}
-use Rattle.driver.specs.Drive.{retriesIn, answeredIn, endedBy, endedIn, endedFor, deliveredFor, deliveredBy, deliveryFor, endOfStreamIn}
-use Rattle.receiver.specs.Receiver.{Delivery, delivery, endOfStreamFor}
+use Rattle.driver.specs.Drive.{retriesIn, answeredIn, endedBy, endedIn, endedFor, Delivery, delivery, deliveredFor, deliveredBy, deliveryFor, endOfStreamFor, endOfStreamIn}
 use Rattle.receiver.specs.declared.answer.Answer.{Answer}
 use Rattle.receiver.specs.declared.call.Phase.{Phase}
 use Rattle.receiver.specs.declared.call.Step.{Step}

@@ -1,12 +1,11 @@
 pub mod DriveLaws
-pub mod Comes
-pub mod ComesServiced
-pub mod ComesRead
-pub mod Driven
 pub mod Thin
 pub mod Begun
 pub mod Reading
 pub mod Used
+pub mod Along
+pub mod Rows
 pub mod Says
 pub mod Promised
+pub mod PromisedSum
 pub mod PromisedRun

@@ -1,5 +1,5 @@
--- The promises of specs/Promise.antt and the pending sum, of the calls: of whatever the predicate that a contract cites allows.
-use Prim.Native.Nat.{ℕ, _+_, _%_, _<_, min}
+-- The promises of specs/Promise.antt, of the calls: of whatever the predicate that a contract cites allows.
+use Prim.Native.Nat.{ℕ, _+_, _%_, min}
 use mathlib.Core.Path.{_≡_, refl, sym, ap, subst, _∙_}
 use mathlib.Core.Bool.{Bool, cond, true, false}
 use mathlib.Core.List.{List, [], _++_}
@@ -14,16 +14,25 @@ use Rattle.sched.specs.declared.scheduler.RingBufferScheduler.{RingBufferSchedu
 use Rattle.sched.specs.Scheduler.{IsSound, dataIn, offsetIn}
 use Rattle.copies.proofs.Promised.{got-cells}
 use Rattle.copies.proofs.Ring.{length-get, get-place, get-own}
+use Rattle.copies.specs.declared.Ready.{Ready}
+use Rattle.copies.specs.Copies.{readFrom}
 use Rattle.copies.specs.Promises.{CellsOf}
 use Rattle.copies.specs.Ring.{get}
-use Rattle.receiver.proofs.Moved.{Source, unasked, own, chunk, Moved, read-moved}
-use Rattle.receiver.proofs.PendingSum.{pending-sum}
-use Rattle.receiver.specs.Call.{beginReadOf, beginServiceOf, beginShutdownOf}
-use Rattle.receiver.specs.Pending.{Asked, reads, readsImpl, services, shuts, endsOf, after, allSent, allWhole}
-use Rattle.receiver.specs.Receiver.{Went, went, refused, endedFrom, readImplOf, readOf, endOfStreamFor, endOfStream, Delivery, delivery, destinationFor, deliveryFrom, readImplDelivery, readDelivery}
+use Rattle.receiver.proofs.AdmissionLaws.{sized-ready}
+use Rattle.receiver.proofs.ByteLaws.{Source, unasked, own, chunk, Copies, OnTheWay, step-on, read-on, source-sound, chunk-offset}
+use Rattle.receiver.proofs.CaseSteps.{made-takes, begins-at, read-admitted}
+use Rattle.receiver.proofs.HandedSum.{MadeBy, begin-read-made}
+use Rattle.receiver.proofs.Made.{Made}
+use Rattle.receiver.specs.Call.{overOf, answeredOf, beginReadOf, beginServiceOf, beginShutdownOf}
+use Rattle.receiver.specs.Cases.{BeginsRead, Takes, Goes}
+use Rattle.receiver.specs.Handed.{sentBy, comingTo}
 use Rattle.receiver.specs.State.{isErrno}
 use Rattle.receiver.specs.declared.answer.Answer.{Answer}
+use Rattle.receiver.specs.declared.call.Call.{Call}
+use Rattle.receiver.specs.declared.call.Phase.{Phase}
+use Rattle.receiver.specs.declared.call.Phase.the-variants as phase
 use Rattle.receiver.specs.declared.call.Step.{Step}
+use Rattle.receiver.specs.declared.call.Step.the-variants.{Of, Refused}
 use Rattle.receiver.specs.declared.receiver.Ended.{Ended}
 use Rattle.receiver.specs.declared.receiver.Ended.the-variants as ended
 use Rattle.receiver.specs.declared.receiver.Outcome.{Outcome}
@@ -31,10 +40,12 @@ use Rattle.receiver.specs.declared.receiver.Outcome.the-variants as outcome
 use Rattle.receiver.specs.declared.receiver.ReceiverState.{ReceiverState}
 use Rattle.receiver.specs.declared.state.Failure.{Failure}
 use Rattle.receiver.specs.declared.state.Failure.the-variants.{Io, Protocol}
-use Rattle.driver.specs.Drive.{drivenOf, endedOf, endOfStreamIn}
-use Rattle.driver.specs.Promise.{Uses, Begins, at-data, behind-header, FillsBy, Fills, TurnedTo, ended-stream, stays, Turned, accepted, same-refusal, MayLeave}
-use Rattle.driver.specs.Run.{ServiceLeaves, ShutdownLeaves, ReadImplLeaves, ReadLeaves}
-use Rattle.driver.proofs.Driven.{service-ended, shutdown-ended, read-ended, read-delivered}
+use Rattle.driver.specs.Drive.{drivenOf, endedBy, endedOf, Delivery, delivery, deliveredFor, deliveredBy, deliveryFor, deliveryOf, endOfStreamFor, endOfStreamIn}
+use Rattle.driver.specs.Pending.{sentIn}
+use Rattle.driver.specs.Promise.{Uses, Begins, at-data, behind-header, FillsBy, Fills, TurnedTo, ended-stream, stays, Turned, accepted, same-refusal}
+use Rattle.driver.specs.Run.{readOf, readImplDelivery, endOfStream, readDelivery, ServiceLeaves, ShutdownLeaves, ReadImplLeaves, ReadLeaves}
+use Rattle.driver.specs.declared.drive.Driven.{Driven}
+use Rattle.driver.proofs.Along.{Holds, driven-holds}
 use Rattle.driver.proofs.Says.{service-chunk-acknowledgements-says, shutdown-says, read-with-fds-says, read-with-fds-impl-says}
 use Rattle.driver.proofs.Used.{driven-uses}
 
@@ -51,87 +62,131 @@ uses-turned : (f : List Answer → Ended) (answers : List Answer) (r : Ended) �
 uses-turned f answers (ended.Accepted q o n) h = (h .0, (λ more. ap endOfStreamIn (h .1 more)), (λ k l. ap endOfStreamIn (h .2 k l)))
 uses-turned f answers (ended.Refused r) h = tt
 
-delivered : (ring dst : List ℕ) (w : Went Outcome) → deliveryFrom w ring dst .answer ≡ endedFrom w
-delivered ring dst (went p o) = refl
-delivered ring dst (refused r) = refl
+-- what a read delivers is what it answers
+delivered-by : (ring dst : List ℕ) (s : RingBufferScheduler) (r : Ended) → deliveredBy r s ring dst .answer ≡ r
+delivered-by ring dst s (ended.Accepted q o n) = refl
+delivered-by ring dst s (ended.Refused r) = refl
 
-pub turned : (w : Went Outcome) → endedFrom (endOfStream w) ≡ endOfStreamIn (endedFrom w)
-turned (went p o) = refl
-turned (refused r) = refl
+pub delivered : (ring dst : List ℕ) (d : Driven) → deliveryOf d ring dst .answer ≡ endedOf d
+delivered ring dst d = by (d .step)
+  where
+    by : (x : Step) → deliveryFor x (d .used) ring dst .answer ≡ endedOf (record { step = x; used = d .used })
+    by (Of c) = delivered-by ring dst (c .source) (endedBy (c .phase) c (d .used))
+    by (Refused r) = refl
 
 module _ (q : ReceiverState) (runs : List Answer → Ended) where
   pub service-uses : ((xs : List Answer) → ServiceLeaves q xs (runs xs)) → (answers : List Answer) → Uses runs answers (runs answers)
-  service-uses h = uses-driven (beginServiceOf q) [] runs (λ xs. service-ended q [] xs ∙ sym (service-chunk-acknowledgements-says q xs (runs xs) (h xs)))
+  service-uses h = uses-driven (beginServiceOf q) [] runs (λ xs. sym (service-chunk-acknowledgements-says q xs (runs xs) (h xs)))
 
   pub shutdown-uses : ((xs : List Answer) → ShutdownLeaves q xs (runs xs)) → (answers : List Answer) → Uses runs answers (runs answers)
-  shutdown-uses h = uses-driven (beginShutdownOf q) [] runs (λ xs. shutdown-ended q [] xs ∙ sym (shutdown-says q xs (runs xs) (h xs)))
+  shutdown-uses h = uses-driven (beginShutdownOf q) [] runs (λ xs. sym (shutdown-says q xs (runs xs) (h xs)))
 
   module _ (ring dst : List ℕ) (top : ℕ) (left : List Answer → List ℕ) where
     abbrev impl : List Answer → Ended
-    impl xs = endedFrom (readImplOf q ring (length dst) top xs)
-
-    impl-uses : (answers : List Answer) → Uses impl answers (impl answers)
-    impl-uses = uses-driven (beginReadOf q (length ring) top (length dst)) ring impl (λ xs. read-ended q ring xs top (length dst))
+    impl xs = endedOf (readOf q ring (length dst) top xs)
 
     pub read-impl-uses : ((xs : List Answer) → ReadImplLeaves q ring dst top xs (runs xs) (left xs)) → (answers : List Answer) → Uses runs answers (runs answers)
-    read-impl-uses h answers =
-        let e : (xs : List Answer) → impl xs ≡ runs xs = λ xs. sym (read-with-fds-impl-says q ring dst top xs (runs xs) (left xs) (h xs) .0 ∙ delivered ring dst (readImplOf q ring (length dst) top xs)) in
-        subst (Uses runs answers) (e answers) (uses-same impl runs e answers (impl answers) (impl-uses answers))
+    read-impl-uses h =
+        uses-driven (beginReadOf q (length ring) top (length dst)) ring runs (λ xs. sym (read-with-fds-impl-says q ring dst top xs (runs xs) (left xs) (h xs) .0 ∙ delivered ring dst (readOf q ring (length dst) top xs)))
 
     pub read-uses : ((xs : List Answer) → ReadLeaves q ring dst top xs (runs xs) (left xs)) → (answers : List Answer) → Uses runs answers (runs answers)
     read-uses h answers =
         let e : (xs : List Answer) → endOfStreamIn (impl xs) ≡ runs xs =
-        λ xs. sym (read-with-fds-says q ring dst top xs (runs xs) (left xs) (h xs) .0 ∙ delivered ring dst (readOf q ring (length dst) top xs) ∙ turned (readImplOf q ring (length dst) top xs)) in
-        subst (Uses runs answers) (e answers) (uses-same (λ xs. endOfStreamIn (impl xs)) runs e answers (endOfStreamIn (impl answers)) (uses-turned impl answers (impl answers) (impl-uses answers)))
+        λ xs. sym (read-with-fds-says q ring dst top xs (runs xs) (left xs) (h xs) .0 ∙ ap endOfStreamIn (delivered ring dst (readOf q ring (length dst) top xs))) in
+        subst (Uses runs answers) (e answers)
+        (uses-same (λ xs. endOfStreamIn (impl xs)) runs e answers (endOfStreamIn (impl answers)) (uses-turned impl answers (impl answers) (uses-driven (beginReadOf q (length ring) top (length dst)) ring impl (λ xs. refl) answers)))
 
 -- ---- the bytes of a read
-module _ (s : RingBufferScheduler) (ring dst : List ℕ) where
+module _ (s : RingBufferScheduler) (sound : IsSound s) (ring dst : List ℕ) where
   -- the bytes that are copied stand where the promise says
-  got : (n : ℕ) (u : RingBufferScheduler) → n ≡ min (length dst) (dataIn u) → IsSound u → Source (length dst) s u → (at : ℕ) → Begins s at → CellsOf (s .«buf_len») ring at (get (u .«buf_len») ring (offsetIn u Read .0) n)
-  got n u e h (unasked z) at k = λ j l. absurd (omega (arith, e, z, l, got-cells (u .«buf_len») ring (offsetIn u Read .0) n .0))
-  got n u e h (own z) _ (at-data k) = got-cells (u .«buf_len») ring (offsetIn u Read .0) n .1
-  got n u e h (own z) _ (behind-header k) = absurd (z k)
-  got n u e h (chunk _ z b o) _ (at-data k) = absurd (k z)
-  got n u e h (chunk _ z b o) _ (behind-header k) =
+  got : (n : ℕ) (u : RingBufferScheduler) → n ≡ min (length dst) (dataIn u) → Source (length dst) s u → (at : ℕ) → Begins s at → CellsOf (s .«buf_len») ring at (get (u .«buf_len») ring (offsetIn u Read .0) n)
+  got n u e (unasked z) at k = λ j l. absurd (omega (arith, e, z, l, got-cells (u .«buf_len») ring (offsetIn u Read .0) n .0))
+  got n u e (own z) _ (at-data k) = got-cells (u .«buf_len») ring (offsetIn u Read .0) n .1
+  got n u e (own z) _ (behind-header k) = absurd (z k)
+  got n u e (chunk z c) _ (at-data k) = absurd (k z)
+  got n u e (chunk z c) _ (behind-header k) =
       let at = offsetIn s Read .0 + 8 in
-      let some : 0 < s .«buf_len» = omega (arith, b, h .sized .some) in
-      let place : offsetIn u Read .0 % s .«buf_len» ≡ at % s .«buf_len» = ap (λ (i : ℕ). i % s .«buf_len») o ∙ mod-eq-of-lt (mod-lt at some) in
-      let same : get (u .«buf_len») ring (offsetIn u Read .0) n ≡ get (s .«buf_len») ring at n = ap (λ (m : ℕ). get m ring (offsetIn u Read .0) n) b ∙ get-place (s .«buf_len») ring (offsetIn u Read .0) at n place in
+      let b : u .«buf_len» ≡ s .«buf_len» = source-sound (length dst) s sound u (chunk z c) .1 in
+      let place : offsetIn u Read .0 % s .«buf_len» ≡ at % s .«buf_len» = ap (λ (i : ℕ). i % s .«buf_len») (chunk-offset s sound _ u c) ∙ mod-eq-of-lt (mod-lt at (sound .sized .some)) in
+      let same : get (u .«buf_len») ring (offsetIn u Read .0) n ≡ get (s .«buf_len») ring at n = ap (λ (l : ℕ). get l ring (offsetIn u Read .0) n) b ∙ get-place (s .«buf_len») ring (offsetIn u Read .0) at n place in
       subst (CellsOf (s .«buf_len») ring at) (sym same) (got-cells (s .«buf_len») ring at n .1)
 
-module _ (q : ReceiverState) (ring dst : List ℕ) where
-  fills-went : (w : Went Outcome) → Moved ring (length dst) q w → Fills (q .scheduler) ring dst (deliveryFrom w ring dst .memory) (deliveryFrom w ring dst .answer)
-  fills-went (went p (outcome.Read n fds)) h =
-      let bytes = get (p .source .«buf_len») ring (offsetIn (p .source) Read .0) n in
-      let front : take n (bytes ++ drop n dst) ≡ bytes = take-at bytes (drop n dst) n (length-get (p .source .«buf_len») ring (offsetIn (p .source) Read .0) n) in (
-        omega (arith, h .0),
-        get-own (p .source .«buf_len») ring (offsetIn (p .source) Read .0) n dst (omega (arith, h .0)),
-        (λ at k. subst (CellsOf (q .scheduler .«buf_len») ring at) (sym front) (got (q .scheduler) ring dst n (p .source) (h .0) (h .1 .sound) (h .2) at k)),
-      )
-  fills-went (went p outcome.Done) h = refl
-  fills-went (went p (outcome.Failed f)) h = refl
-  fills-went (refused r) h = refl
+  -- what the copy leaves
+  module _ (sized : length ring ≡ s .«buf_len») where
+    filled : (o : Outcome) (u : RingBufferScheduler) → Copies (length dst) s o u → FillsBy s ring dst (deliveredFor o u ring dst) o
+    filled (outcome.Read n fds) u (e, k) =
+        let l = source-sound (length dst) s sound u k in
+        let bytes = get (u .«buf_len») ring (offsetIn u Read .0) n in
+        let left : deliveredFor (outcome.Read n fds) u ring dst ≡ bytes ++ drop n dst =
+        ap (λ (x : Ready). readFrom ring dst x .memory) (sized-ready u (l .0) (length ring) (sized ∙ sym (l .1)))
+        ∙ ap (λ (m : ℕ). get (u .«buf_len») ring (offsetIn u Read .0) m ++ drop m dst) (sym e) in
+        let front : take n (bytes ++ drop n dst) ≡ bytes = take-at bytes (drop n dst) n (length-get (u .«buf_len») ring (offsetIn u Read .0) n) in
+        subst (λ (x : List ℕ). FillsBy s ring dst x (outcome.Read n fds)) (sym left) (
+          omega (arith, e),
+          get-own (u .«buf_len») ring (offsetIn u Read .0) n dst (omega (arith, e)),
+          (λ at b. subst (CellsOf (s .«buf_len») ring at) (sym front) (got n u e k at b)),
+        )
+    filled outcome.Done u h = refl
+    filled (outcome.Failed f) u h = refl
+
+-- of a run: each step keeps which bytes are copied
+module _ (q : ReceiverState) (ring : List ℕ) (asked top : ℕ) where
+  abbrev On : Call → ℕ → Type 0
+  On c n = OnTheWay asked (q .scheduler) c
+
+  keeps-on : (c : Call) → Made c → overOf c ≡ false → (n : ℕ) → On c n → (a : Answer) (place : ℕ) (d : Call) → answeredOf c ring a place ≡ Of d → On d (n + sentBy a)
+  keeps-on c m w n h a place d e = step-on asked (q .scheduler) c ring a d h (c .phase) refl (subst (Goes (Takes c ring a)) e (made-takes c m ring a place))
+
+  begun-on : (x : Step) → beginReadOf q (length ring) top asked ≡ x → Holds ring On keeps-on x 0
+  begun-on (Of c) e = (subst MadeBy e (begin-read-made q (length ring) top asked), read-on q top asked c (subst (Goes (BeginsRead q top asked)) e (begins-at q (length ring) top asked)))
+  begun-on (Refused r) e = tt
+
+  read-ran : (answers : List Answer) → Holds ring On keeps-on (readOf q ring asked top answers .step) (sentIn (take (readOf q ring asked top answers .used) answers))
+  read-ran answers = driven-holds ring On keeps-on (beginReadOf q (length ring) top asked) answers (begun-on (beginReadOf q (length ring) top asked) refl)
+
+-- so of what it delivers
+module _ (q : ReceiverState) (ring dst : List ℕ) (top : ℕ) where
+  abbrev n : ℕ
+  n = length dst
+
+  module _ (sound : IsSound (q .scheduler)) (sized : length ring ≡ q .scheduler .«buf_len») where
+    fills-by : (c : Call) (i : ℕ) (ph : Phase) → c .phase ≡ ph → OnTheWay n (q .scheduler) c → Fills (q .scheduler) ring dst (deliveredBy (endedBy ph c i) (c .source) ring dst .memory) (deliveredBy (endedBy ph c i) (c .source) ring dst .answer)
+    fills-by c i (phase.Receive top asked) p h = refl
+    fills-by c i (phase.Send batch e) p h = refl
+    fills-by c i (phase.Shutdown e) p h = refl
+    fills-by c i (phase.Finished o) p h = filled (q .scheduler) sound ring dst sized o (c .source) (subst (λ (x : Phase). Copies n (q .scheduler) (comingTo x) (c .source)) p (h .copies))
+
+    fills-for : (x : Step) (i sent : ℕ) → Holds ring (On q ring n top) (keeps-on q ring n top) x sent → Fills (q .scheduler) ring dst (deliveryFor x i ring dst .memory) (deliveryFor x i ring dst .answer)
+    fills-for (Of c) i sent h = fills-by c i (c .phase) refl (h .1)
+    fills-for (Refused r) i sent h = refl
+
+  fills : (answers : List Answer) → Fills (q .scheduler) ring dst (readImplDelivery q ring dst top answers .memory) (readImplDelivery q ring dst top answers .answer)
+  fills answers = by (beginReadOf q (length ring) top n) refl
+    where
+      by : (x : Step) → beginReadOf q (length ring) top n ≡ x → Fills (q .scheduler) ring dst (readImplDelivery q ring dst top answers .memory) (readImplDelivery q ring dst top answers .answer)
+      by (Of c) e = let k = read-admitted q (length ring) top n c e in fills-for (k .0) (k .1) (readOf q ring n top answers .step) (readOf q ring n top answers .used) _ (read-ran q ring n top answers)
+      by (Refused r) e = subst (λ (x : Step). Fills (q .scheduler) ring dst (deliveryOf (drivenOf x ring answers) ring dst .memory) (deliveryOf (drivenOf x ring answers) ring dst .answer)) (sym e) refl
 
   -- the end of the stream fills nothing
-  turned-moved : (w : Went Outcome) → Moved ring (length dst) q w → Fills (q .scheduler) ring dst (deliveryFrom (endOfStream w) ring dst .memory) (deliveryFrom (endOfStream w) ring dst .answer)
-  turned-moved (went p (outcome.Read n fds)) h = fills-went (went p (outcome.Read n fds)) h
-  turned-moved (went p outcome.Done) h = refl
-  turned-moved (went p (outcome.Failed f)) h = by (isErrno f 32)
+  turned-fills : (left : List ℕ) (r : Ended) → Fills (q .scheduler) ring dst left r → Fills (q .scheduler) ring dst left (endOfStreamIn r)
+  turned-fills left (ended.Accepted p (outcome.Read m fds) used) h = h
+  turned-fills left (ended.Accepted p outcome.Done used) h = h
+  turned-fills left (ended.Accepted p (outcome.Failed f) used) h = by (isErrno f 32)
     where
-      by : (b : Bool) → FillsBy (q .scheduler) ring dst (destinationFor (cond b (outcome.Read 0 0) (outcome.Failed f)) (p .source) ring dst) (cond b (outcome.Read 0 0) (outcome.Failed f))
-      by true = (omega arith, (refl, refl), (λ at k j l. absurd (omega (arith, l))))
-      by false = refl
-  turned-moved (refused r) h = refl
+      by : (b : Bool) → FillsBy (q .scheduler) ring dst left (cond b (outcome.Read 0 0) (outcome.Failed f))
+      by true = subst (λ (x : List ℕ). FillsBy (q .scheduler) ring dst x (outcome.Read 0 0)) (sym h) (omega arith, (refl, refl), (λ at k j l. absurd (omega (arith, l))))
+      by false = h
+  turned-fills left (ended.Refused r) h = h
 
-  module _ (top : ℕ) (answers : List Answer) (r : Ended) (left : List ℕ) where
+  module _ (answers : List Answer) (r : Ended) (left : List ℕ) where
     by-delivery : (d : Delivery) → delivery r left ≡ d → Fills (q .scheduler) ring dst (d .memory) (d .answer) → Fills (q .scheduler) ring dst left r
     by-delivery d e h = subst (λ (x : Delivery). Fills (q .scheduler) ring dst (x .memory) (x .answer)) (sym e) h
 
     pub read-impl-fills : ReadImplLeaves q ring dst top answers r left → Fills (q .scheduler) ring dst left r
-    read-impl-fills p = by-delivery (readImplDelivery q ring dst top answers) p (fills-went (readImplOf q ring (length dst) top answers) (read-moved ring (length dst) q top answers))
+    read-impl-fills p = by-delivery (readImplDelivery q ring dst top answers) p (fills answers)
 
     pub read-fills : ReadLeaves q ring dst top answers r left → Fills (q .scheduler) ring dst left r
-    read-fills p = by-delivery (readDelivery q ring dst top answers) p (turned-moved (readImplOf q ring (length dst) top answers) (read-moved ring (length dst) q top answers))
+    read-fills p = by-delivery (readDelivery q ring dst top answers) p (turned-fills (readImplDelivery q ring dst top answers .memory) (readImplDelivery q ring dst top answers .answer) (fills answers))
 
 -- ---- the end of the stream
 turned-failure : (f : Failure) → TurnedTo (outcome.Failed f) (endOfStreamFor (outcome.Failed f))
@@ -154,20 +209,7 @@ turned-answer (ended.Refused r) = same-refusal
 module _ (q : ReceiverState) (ring dst : List ℕ) (top : ℕ) (answers : List Answer) (r : Ended) (left : List ℕ) (r′ : Ended) (left′ : List ℕ) where
   pub read-turns : ReadImplLeaves q ring dst top answers r left → ReadLeaves q ring dst top answers r′ left′ → Turned r r′ × (left′ ≡ left)
   read-turns p p′ =
-      let e : delivery (endOfStreamIn r) left ≡ delivery r′ left′ = read-delivered ring dst q top answers r left p ∙ sym p′ in (
+      let e : endOfStream (delivery r left) ≡ delivery r′ left′ = ap endOfStream p ∙ sym p′ in (
         subst (Turned r) (ap (λ (d : Delivery). d .answer) e) (turned-answer r),
         sym (ap (λ (d : Delivery). d .memory) e),
       )
-
--- ---- the pending sum
-pub left-by : (q : ReceiverState) (c : Asked) (r : Ended) → MayLeave q c r → r ≡ endsOf q c
-left-by q (services answers) r p = service-chunk-acknowledgements-says q answers r p
-left-by q (shuts answers) r p = shutdown-says q answers r p
-left-by q (readsImpl ring asked top answers) r (dst, l, (left, p)) =
-    read-with-fds-impl-says q ring dst top answers r left p .0 ∙ delivered ring dst (readImplOf q ring (length dst) top answers) ∙ ap (λ (n : ℕ). endedFrom (readImplOf q ring n top answers)) l
-left-by q (reads ring asked top answers) r (dst, l, (left, p)) =
-    read-with-fds-says q ring dst top answers r left p .0 ∙ delivered ring dst (readOf q ring (length dst) top answers) ∙ ap (λ (n : ℕ). endedFrom (readOf q ring n top answers)) l
-
-pub pending-promised : (ends : ReceiverState → Asked → Ended) → ((q : ReceiverState) (c : Asked) → MayLeave q c (ends q c)) → (cs : List Asked) (q : ReceiverState) →
-    after ends q cs .«pending_ack_count» + allSent ends q cs ≡ q .«pending_ack_count» + allWhole ends q cs
-pending-promised ends h = pending-sum ends (λ q c. left-by q c (ends q c) (h q c))

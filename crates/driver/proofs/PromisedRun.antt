@@ -11,8 +11,6 @@ use Rattle.receiver.proofs.PromisedMachine.{Answers, answers-are}
 use Rattle.receiver.proofs.Says.{begin-service-says, begin-shutdown-says, begin-read-says}
 use Rattle.receiver.specs.Call.{isOver, overOf, retriesOf, answeredOf, beginReadOf, beginServiceOf, beginShutdownOf}
 use Rattle.receiver.specs.Handed.{Handed}
-use Rattle.receiver.specs.Pending.{Asked, reads, readsImpl, services, shuts}
-use Rattle.receiver.specs.Receiver.{endedFrom, readImplOf}
 use Rattle.receiver.specs.declared.answer.Answer.{Answer}
 use Rattle.receiver.specs.declared.call.Call.{Call}
 use Rattle.receiver.specs.declared.call.Phase.{Phase}
@@ -23,10 +21,12 @@ use Rattle.receiver.specs.declared.receiver.Ended.{Ended}
 use Rattle.receiver.specs.declared.receiver.Ended.the-variants as ended
 use Rattle.receiver.specs.declared.receiver.ReceiverState.{ReceiverState}
 use Rattle.receiver.specs.declared.refusal.Refusal.the-variants.{AnswerMissing}
-use Rattle.driver.specs.Drive.{driven, drivenFrom, drivenOf, endedBy, endedOf, endOfStreamIn}
+use Rattle.driver.specs.Drive.{driven, drivenFrom, drivenOf, endedBy, endedOf}
+use Rattle.driver.specs.Pending.{Asked, reads, readsImpl, services, shuts}
 use Rattle.driver.specs.Promise.{Turned, toldBy, stepsTo, MayLeave, MayBegin, Stepped}
-use Rattle.driver.proofs.Driven.{service-ended, shutdown-ended, read-ended}
-use Rattle.driver.proofs.Promised.{turned, turned-answer, left-by}
+use Rattle.driver.specs.Run.{readOf}
+use Rattle.driver.proofs.Promised.{turned-answer}
+use Rattle.driver.proofs.PromisedSum.{left-by}
 use Rattle.driver.proofs.Used.{at-over, at-retry, at-answer, waiting-phase}
 
 module _ (takes : Call → Handed → Step) (allowed : (c : Call) (h : Handed) → Answers c h (takes c h)) where
@@ -72,22 +72,14 @@ module _ (takes : Call → Handed → Step) (allowed : (c : Call) (h : Handed) �
 
   -- of the calls
   module _ (q : ReceiverState) (x : Step) (r : Ended) where
-    read-steps : (ring : List ℕ) (asked top : ℕ) (answers : List Answer) → MayBegin q (readsImpl ring asked top answers) x → endedFrom (readImplOf q ring asked top answers) ≡ stepsTo takes ring 0 x answers
+    read-steps : (ring : List ℕ) (asked top : ℕ) (answers : List Answer) → MayBegin q (readsImpl ring asked top answers) x → endedOf (readOf q ring asked top answers) ≡ stepsTo takes ring 0 x answers
     read-steps ring asked top answers b =
-        sym (read-ended q ring answers top asked)
-        ∙ begun ring answers x (beginReadOf q (length ring) top asked) (begin-read-says tt (q, (length ring, (top, (asked, tt)))) x (b .0) (b .1)) (begin-read-made q (length ring) top asked)
+        begun ring answers x (beginReadOf q (length ring) top asked) (begin-read-says tt (q, (length ring, (top, (asked, tt)))) x (b .0) (b .1)) (begin-read-made q (length ring) top asked)
 
     pub run-promised : (c : Asked) → MayBegin q c x → MayLeave q c r → Stepped takes c x r
-    run-promised (services answers) b l = λ ring.
-        left-by q (services answers) r l
-        ∙ sym (service-ended q ring answers)
-        ∙ begun ring answers x (beginServiceOf q) (begin-service-says tt (q, tt) x (b .0) (b .1)) (service-made q)
-    run-promised (shuts answers) b l = λ ring.
-        left-by q (shuts answers) r l
-        ∙ sym (shutdown-ended q ring answers)
-        ∙ begun ring answers x (beginShutdownOf q) (begin-shutdown-says tt (q, tt) x (b .0) (b .1)) (shutdown-made q)
+    run-promised (services answers) b l = left-by q (services answers) r l ∙ begun [] answers x (beginServiceOf q) (begin-service-says tt (q, tt) x (b .0) (b .1)) (service-made q)
+    run-promised (shuts answers) b l = left-by q (shuts answers) r l ∙ begun [] answers x (beginShutdownOf q) (begin-shutdown-says tt (q, tt) x (b .0) (b .1)) (shutdown-made q)
     run-promised (readsImpl ring asked top answers) b l = left-by q (readsImpl ring asked top answers) r l ∙ read-steps ring asked top answers b
     run-promised (reads ring asked top answers) b l =
-        let w = readImplOf q ring asked top answers in
-        let e : endOfStreamIn (endedFrom w) ≡ r = sym (left-by q (reads ring asked top answers) r l ∙ turned w) in
-        subst (λ (y : Ended). Turned y r) (read-steps ring asked top answers b) (subst (Turned (endedFrom w)) e (turned-answer (endedFrom w)))
+        let w = endedOf (readOf q ring asked top answers) in
+        subst (λ (y : Ended). Turned y r) (read-steps ring asked top answers b) (subst (Turned w) (sym (left-by q (reads ring asked top answers) r l)) (turned-answer w))

@@ -31,7 +31,7 @@ use denote.Exit.{yes}
 use Rattle.receiver.specs.declared.answer.Answer.{Answer}
 use Rattle.receiver.specs.declared.receiver.Ended.{Ended}
 use Rattle.receiver.specs.declared.receiver.ReceiverState.{ReceiverState}
-use Rattle.receiver.specs.Receiver.{Delivery, delivery}
+use Rattle.driver.specs.Drive.{Delivery, delivery}
 use Rattle.copies.proofs.Calls.{lent}
 use Rattle.driver.proofs.Thin.{R, Re, qval}
 use Rattle.receiver.proofs.receiver.Ended as E

@@ -3,12 +3,11 @@
 use Prim.Native.Nat.{ℕ}
 use mathlib.Core.Path.{_≡_, ap}
 use mathlib.Core.List.{List}
-use Rattle.receiver.specs.Receiver.{Delivery, endedFrom, serviceOf, shutdownOf, readImplDelivery, readDelivery}
 use Rattle.receiver.specs.declared.answer.Answer.{Answer}
 use Rattle.receiver.specs.declared.receiver.Ended.{Ended}
 use Rattle.receiver.specs.declared.receiver.ReceiverState.{ReceiverState}
-use Rattle.driver.specs.Drive.{fetchedOf}
-use Rattle.driver.specs.Run.{FetchLeaves, ServiceLeaves, ShutdownLeaves, ReadImplLeaves, ReadLeaves}
+use Rattle.driver.specs.Drive.{fetchedOf, Delivery}
+use Rattle.driver.specs.Run.{serviceOf, shutdownOf, readImplDelivery, readDelivery, FetchLeaves, ServiceLeaves, ShutdownLeaves, ReadImplLeaves, ReadLeaves}
 use Rattle.driver.specs.declared.drive.Fetched.{Fetched}
 
 pub fetch-says : (answers : List Answer) (i : ℕ) (r : Fetched) → FetchLeaves answers i r → r ≡ fetchedOf answers i
@@ -23,8 +22,8 @@ pub read-with-fds-impl-says : (q : ReceiverState) (ring dst : List ℕ) (top : �
     (r ≡ readImplDelivery q ring dst top answers .answer) × (left ≡ readImplDelivery q ring dst top answers .memory)
 read-with-fds-impl-says q ring dst top answers r left p = (ap (λ (d : Delivery). d .answer) p, ap (λ (d : Delivery). d .memory) p)
 
-pub service-chunk-acknowledgements-says : (q : ReceiverState) (answers : List Answer) (r : Ended) → ServiceLeaves q answers r → r ≡ endedFrom (serviceOf q answers)
+pub service-chunk-acknowledgements-says : (q : ReceiverState) (answers : List Answer) (r : Ended) → ServiceLeaves q answers r → r ≡ serviceOf q answers
 service-chunk-acknowledgements-says q answers r p = p
 
-pub shutdown-says : (q : ReceiverState) (answers : List Answer) (r : Ended) → ShutdownLeaves q answers r → r ≡ endedFrom (shutdownOf q answers)
+pub shutdown-says : (q : ReceiverState) (answers : List Answer) (r : Ended) → ShutdownLeaves q answers r → r ≡ shutdownOf q answers
 shutdown-says q answers r p = p

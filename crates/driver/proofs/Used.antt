@@ -1,6 +1,6 @@
 -- How many answers a run uses: the machine reads one after the other, so what stands behind those that it used cannot be seen, and with
 -- fewer it still waits.
-use Prim.Native.Nat.{ℕ, zero, suc, _+_, _-_, _<_, _≤_}
+use Prim.Native.Nat.{ℕ, zero, suc, _+_, _<_, _≤_}
 use mathlib.Core.Path.{_≡_, refl, sym, ap, _∙_}
 use mathlib.Core.Bool.{Bool, cond, true, false}
 use mathlib.Core.List.{List, [], _∷_, _++_}
@@ -24,7 +24,7 @@ use Rattle.driver.specs.declared.drive.Driven.{Driven}
 
 -- a run, step by step
 module _ (ring : List ℕ) where
-  data Runs : ℕ → Step → List Answer → Driven → Type 0 where
+  pub data Runs : ℕ → Step → List Answer → Driven → Type 0 where
     rests : (i : ℕ) (x : Step) (xs : List Answer) → overIn x ≡ true → Runs i x xs (driven x i)
     lacks : (i : ℕ) (x : Step) → overIn x ≡ false → Runs i x [] (driven x i)
     waits-out : (i : ℕ) (x : Step) (a : Answer) (xs : List Answer) (d : Driven) → overIn x ≡ false → retriesIn x a ≡ true → Runs (suc i) x xs d → Runs i x (a ∷ xs) d
@@ -40,7 +40,7 @@ module _ (ring : List ℕ) where
   pub at-answer : (i : ℕ) (x : Step) (a : Answer) (xs : List Answer) → overIn x ≡ false → retriesIn x a ≡ false → drivenFrom i x ring (a ∷ xs) ≡ drivenFrom (suc i) (answeredIn x ring a (suc i)) ring xs
   at-answer i x a xs e r = rw (e, r)
 
-  runs : (xs : List Answer) (i : ℕ) (x : Step) → Runs i x xs (drivenFrom i x ring xs)
+  pub runs : (xs : List Answer) (i : ℕ) (x : Step) → Runs i x xs (drivenFrom i x ring xs)
   runs [] i x = by (overIn x) refl
     where
       by : (b : Bool) → overIn x ≡ b → Runs i x [] (drivenFrom i x ring [])

@@ -5,7 +5,7 @@ use mathlib.Core.List.{List, [], _∷_}
 use Rattle.sched.specs.declared.scheduler.RingBufferScheduler.{RingBufferScheduler}
 use Rattle.copies.specs.Copies as copies
 use Rattle.receiver.specs.Call.{answeredOf, overOf, retriesOf}
-use Rattle.receiver.specs.Receiver.{Delivery, delivery, endOfStreamFor}
+use Rattle.receiver.specs.State.{isErrno}
 use Rattle.receiver.specs.declared.answer.Answer.{Answer}
 use Rattle.receiver.specs.declared.call.Call.{Call}
 use Rattle.receiver.specs.declared.call.Phase.{Phase}
@@ -76,6 +76,15 @@ endedFor (step.Refused r) i = ended.Refused r
 abbrev pub endedOf : Driven → Ended
 endedOf d = endedFor (d .step) (d .used)
 
+-- ---- what a read leaves
+-- its answer, and the destination
+pub record Delivery : Type 0 where
+  pub answer : Ended
+  pub memory : List ℕ
+
+abbrev pub delivery : Ended → List ℕ → Delivery
+delivery r dst = record { answer = r; memory = dst }
+
 -- the destination is written last, by a read that is accepted
 abbrev pub deliveredFor : Outcome → RingBufferScheduler → List ℕ → List ℕ → List ℕ
 deliveredFor (outcome.Read n fds) s ring dst = copies.readOf s ring dst .memory
@@ -92,6 +101,12 @@ deliveryFor (step.Refused r) i ring dst = delivery (ended.Refused r) dst
 
 abbrev pub deliveryOf : Driven → List ℕ → List ℕ → Delivery
 deliveryOf d ring dst = deliveryFor (d .step) (d .used) ring dst
+
+-- last, failure 32 becomes a read of 0 bytes
+abbrev pub endOfStreamFor : Outcome → Outcome
+endOfStreamFor (outcome.Read n fds) = outcome.Read n fds
+endOfStreamFor outcome.Done = outcome.Done
+endOfStreamFor (outcome.Failed f) = cond (isErrno f 32) (outcome.Read 0 0) (outcome.Failed f)
 
 abbrev pub endOfStreamIn : Ended → Ended
 endOfStreamIn (ended.Accepted q o used) = ended.Accepted q (endOfStreamFor o) used

@@ -1,3 +1,4 @@
 pub mod Drive
 pub mod Run
+pub mod Pending
 pub mod Promise

@@ -11,7 +11,6 @@ use Rattle.sched.specs.declared.scheduler.RingBufferScheduler.{RingBufferSchedu
 use Rattle.sched.specs.Scheduler.{dataIn, offsetIn}
 use Rattle.copies.specs.Promises.{OnlyFront, CellsOf}
 use Rattle.receiver.specs.Handed.{Handed}
-use Rattle.receiver.specs.Pending.{Asked, reads, readsImpl, services, shuts}
 use Rattle.receiver.specs.declared.answer.Answer.{Answer}
 use Rattle.receiver.specs.declared.call.Call.{Call}
 use Rattle.receiver.specs.declared.call.Phase.{Phase}
@@ -32,6 +31,7 @@ use Rattle.receiver.proofs.call.Call.begin_service.Kinds as begin-service-kinds
 use Rattle.receiver.proofs.call.Call.begin_service.Reads as begin-service
 use Rattle.receiver.proofs.call.Call.begin_shutdown.Kinds as begin-shutdown-kinds
 use Rattle.receiver.proofs.call.Call.begin_shutdown.Reads as begin-shutdown
+use Rattle.driver.specs.Pending.{Asked, reads, readsImpl, services, shuts}
 use Rattle.driver.specs.Run.{ServiceLeaves, ShutdownLeaves, ReadImplLeaves, ReadLeaves}
 
 -- A call used so many answers: whatever stands behind them it comes to the same, and with fewer of them it is refused with 11.
@@ -110,10 +110,10 @@ MayBegin q (shuts answers) x = Allows 0 begin-shutdown-kinds.ps begin-shutdown-k
 MayBegin q (readsImpl ring asked top answers) x = Allows 0 begin-read-kinds.ps begin-read-kinds.r begin-read.Learnt tt (q, (length ring, (top, (asked, tt)))) x
 MayBegin q (reads ring asked top answers) x = Allows 0 begin-read-kinds.ps begin-read-kinds.r begin-read.Learnt tt (q, (length ring, (top, (asked, tt)))) x
 
--- what it then leaves is where its steps lead, `takes` being whatever the contract of `answered` allows; a call that looks at no ring
--- may be lent any
+-- what it then leaves is where its steps lead, `takes` being whatever the contract of `answered` allows; a call that looks at no ring is
+-- lent none
 abbrev pub Stepped : (Call → Handed → Step) → Asked → Step → Ended → Type 0
-Stepped takes (services answers) x r = (ring : List ℕ) → r ≡ stepsTo takes ring 0 x answers
-Stepped takes (shuts answers) x r = (ring : List ℕ) → r ≡ stepsTo takes ring 0 x answers
+Stepped takes (services answers) x r = r ≡ stepsTo takes [] 0 x answers
+Stepped takes (shuts answers) x r = r ≡ stepsTo takes [] 0 x answers
 Stepped takes (readsImpl ring asked top answers) x r = r ≡ stepsTo takes ring 0 x answers
 Stepped takes (reads ring asked top answers) x r = Turned (stepsTo takes ring 0 x answers) r

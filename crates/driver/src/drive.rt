@@ -1,7 +1,6 @@
 // A call over a run of answers: the driver fetches answer after answer, and stops when the call is over or the run is used up.
 ghost use mathlib.Core.Path.{_≡_};
-ghost use Rattle.driver.specs.Drive.{overIn, retriesIn, answeredIn, drivenOf, endedIn, endedOf, deliveredFor, deliveredBy, deliveryOf, endOfStreamIn};
-ghost use Rattle.receiver.specs.Receiver.{delivery, endOfStreamFor};
+ghost use Rattle.driver.specs.Drive.{overIn, retriesIn, answeredIn, drivenOf, endedIn, endedOf, delivery, deliveredFor, deliveredBy, deliveryOf, endOfStreamFor, endOfStreamIn};
 ghost use Rattle.driver.specs.Run.{FetchLeaves};
 use receiver::Answer;
 use receiver::Call;

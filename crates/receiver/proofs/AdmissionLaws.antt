@@ -1,8 +1,9 @@
 -- What a record that passed its tests is, and that a sound record whose errno fits passes them.
 use Prim.Native.Nat.{ℕ}
 use mathlib.Core.Path.{_≡_, refl, sym, ap, _∙_}
-use mathlib.Core.Bool.{Bool, true, false}
+use mathlib.Core.Bool.{Bool, cond, true, false}
 use native.Mathlib.Omega.{arith}
+use borrow.Author.Tests.{eq-eqb}
 use Rattle.sched.proofs.Laws.{sound-both, sound-is}
 use Rattle.sched.specs.declared.scheduler.Checked.{Checked}
 use Rattle.sched.specs.declared.scheduler.Checked.the-variants as checked
@@ -10,7 +11,8 @@ use Rattle.sched.specs.declared.scheduler.RingBufferScheduler.{RingBufferSchedu
 use Rattle.sched.specs.Scheduler.{IsSound, soundOf}
 use Rattle.copies.specs.declared.Ready.{Ready}
 use Rattle.copies.specs.declared.Ready.the-variants as ready
-use Rattle.copies.specs.Copies.{readyOf}
+use Rattle.copies.specs.declared.Refusal.the-variants.{RingMemory}
+use Rattle.copies.specs.Copies.{readyFrom, readyOf}
 use Rattle.receiver.proofs.AnsweredLaws.{ready-sound}
 use Rattle.receiver.specs.Admission.{soundReady, readyWith, admissionFrom, admissionOf}
 use Rattle.receiver.specs.State.{fitsState}
@@ -41,3 +43,8 @@ module _ (q : ReceiverState) where
 
   pub passed-fits : (m : Memory) → Passed ≡ admissionOf q m → fitsState (q .state) ≡ true
   passed-fits m p = both (readyWith m (q .scheduler)) (fitsState (q .state)) p .1
+
+-- a sound record is ready over memory of its length
+pub sized-ready : (s : RingBufferScheduler) → IsSound s → (n : ℕ) → n ≡ s .«buf_len» → readyOf s n ≡ ready.Sound s
+unfolding readyFrom
+sized-ready s h n e = ap (readyFrom n) (sym (sound-is s h)) ∙ ap (λ (b : Bool). cond b (ready.Sound s) (ready.Refused RingMemory)) (eq-eqb n (s .«buf_len») e)

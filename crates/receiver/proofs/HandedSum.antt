@@ -24,9 +24,8 @@ use Rattle.receiver.specs.Answer.{interruptedOf, receivedOf, sentOf, shu
 use Rattle.receiver.specs.State.{fitsFailure, fitsState, failureIn, isErrno, advanceIn}
 use Rattle.receiver.specs.Receiver.{withScheduler, withState, withPending, withShutdown, batchIn, bySent, byteIn, handedOut}
 use Rattle.receiver.specs.Call.{call, finishedCall, outcomeIn, toldIn, advanceCall, flushCall, serviceCallBy, serviceCall, sentCall, unsentCall, afterShut, handOutCall, failedCall, blockedBy, announcedCall, afterReceive, liveCall, readBy, admittedStep, beginReadOf, beginServiceOf, beginShutdownOf, retriesIn, retriesOf, looksBy, looksAt, resumedBy, resumedOf, steppedBy, answeredFrom, answeredOf}
-use Rattle.receiver.specs.Pending.{wholeIn}
 use Rattle.receiver.specs.Promise.{SaysReceived, a-byte, closed, receive-failed, no-receive}
-use Rattle.receiver.specs.Handed.{Handed, stepOf, keptBy, handedTo, sentAt, allSentTo, comingTo, wholeAt, allWholeTo}
+use Rattle.receiver.specs.Handed.{Handed, wholeIn, stepOf, keptBy, handedTo, sentAt, allSentTo, comingTo, wholeAt, allWholeTo}
 use Rattle.receiver.specs.declared.admission.Admission.{Admission}
 use Rattle.receiver.specs.declared.admission.Admission.the-variants as admission
 use Rattle.receiver.specs.declared.admission.Memory.{Memory}

@@ -1,15 +1,13 @@
--- What was sent, by the answers that were used: the steps of the rules.
-use Prim.Native.Nat.{ℕ, zero, suc, _+_}
+-- What an answer says was sent, by what it says at its place.
+use Prim.Native.Nat.{ℕ}
 use mathlib.Core.Path.{_≡_, refl, sym, ap, _∙_}
 use mathlib.Core.Bool.{Bool, cond, true, false}
-use mathlib.Core.List.{List, [], _∷_}
 use native.Mathlib.Omega.{arith}
 use lib.Dec.{eqb, leb}
-use lib.ListN.{take, drop}
 use borrow.Author.Tests.{eqb-true}
 use Rattle.receiver.specs.Answer.{isSent, isFailed, interruptedOf, receivedOf, sentOf, shutOf}
 use Rattle.receiver.specs.State.{fitsErrno}
-use Rattle.receiver.specs.Pending.{sentBy, sentIn}
+use Rattle.receiver.specs.Handed.{sentBy}
 use Rattle.receiver.specs.declared.answer.Answer.{Answer}
 use Rattle.receiver.specs.declared.answer.Received.{Received}
 use Rattle.receiver.specs.declared.answer.Received.the-variants as received
@@ -17,19 +15,6 @@ use Rattle.receiver.specs.declared.answer.Sent.{Sent}
 use Rattle.receiver.specs.declared.answer.Sent.the-variants as sent
 use Rattle.receiver.specs.declared.answer.Shut.{Shut}
 use Rattle.receiver.specs.declared.answer.Shut.the-variants as shut
-
--- ---- one answer more
-pub drop-more : (a : Answer) (rest : List Answer) (i : ℕ) (xs : List Answer) → drop i xs ≡ a ∷ rest → drop (suc i) xs ≡ rest
-drop-more a rest zero [] h = let z : _≡_ {A = ℕ} 0 1 = cc in absurd (omega arith)
-drop-more a rest (suc i) [] h = let z : _≡_ {A = ℕ} 0 1 = cc in absurd (omega arith)
-drop-more a rest zero (x ∷ xs) h = cc
-drop-more a rest (suc i) (x ∷ xs) h = drop-more a rest i xs h
-
-pub sent-more : (a : Answer) (rest : List Answer) (i : ℕ) (xs : List Answer) → drop i xs ≡ a ∷ rest → sentIn (take (suc i) xs) ≡ sentIn (take i xs) + sentBy a
-sent-more a rest zero [] h = let z : _≡_ {A = ℕ} 0 1 = cc in absurd (omega arith)
-sent-more a rest (suc i) [] h = let z : _≡_ {A = ℕ} 0 1 = cc in absurd (omega arith)
-sent-more a rest zero (x ∷ xs) h = let e : x ≡ a = cc in rw e (omega arith)
-sent-more a rest (suc i) (x ∷ xs) h = let k = sent-more a rest i xs h in omega (arith, k)
 
 -- ---- what an answer sends, by what it says at its place
 module _ (a : Answer) where

@@ -2,7 +2,10 @@
 -- lent with each. One that is refused leaves the call as it was.
 use Prim.Native.Nat.{ℕ, _+_}
 use mathlib.Core.List.{List, [], _∷_}
-use Rattle.receiver.specs.Pending.{sentBy, wholeIn}
+use mathlib.Core.Bool.{cond}
+use lib.Dec.{eqb}
+use Rattle.sched.specs.Scheduler.{dataIn}
+use Rattle.receiver.specs.Answer.{isSent}
 use Rattle.receiver.specs.Call.{outcomeIn, answeredOf}
 use Rattle.receiver.specs.declared.answer.Answer.{Answer}
 use Rattle.receiver.specs.declared.call.Call.{Call}
@@ -12,6 +15,7 @@ use Rattle.receiver.specs.declared.call.Step.{Step}
 use Rattle.receiver.specs.declared.call.Step.the-variants.{Of, Refused}
 use Rattle.receiver.specs.declared.receiver.Outcome.{Outcome}
 use Rattle.receiver.specs.declared.receiver.Outcome.the-variants as outcome
+use Rattle.receiver.specs.declared.receiver.ReceiverState.{ReceiverState}
 
 pub record Handed : Type 0 where
   pub ring : List ℕ
@@ -25,6 +29,16 @@ stepOf c h = answeredOf c (h .ring) (h .answer) (h .place)
 abbrev pub keptBy : Call → Step → Call
 keptBy c (Of d) = d
 keptBy c (Refused r) = c
+
+-- what an answer says was sent
+abbrev pub sentBy : Answer → ℕ
+sentBy a = cond (isSent a) (a .value) 0
+
+-- a chunk is handed out whole by a read of some bytes that leaves no data
+abbrev pub wholeIn : ReceiverState → Outcome → ℕ
+wholeIn q (outcome.Read n fds) = cond (eqb n 0) 0 (cond (eqb (dataIn (q .scheduler)) 0) 1 0)
+wholeIn q outcome.Done = 0
+wholeIn q (outcome.Failed f) = 0
 
 -- what was sent: by a call that waits to send, if it takes the answer
 abbrev pub sentAt : Phase → Step → Answer → ℕ

@@ -4,7 +4,6 @@ pub mod Answer
 pub mod Admission
 pub mod Receiver
 pub mod Call
-pub mod Pending
 pub mod Handed
 pub mod Promise
 pub mod Cases

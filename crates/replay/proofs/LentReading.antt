@@ -40,7 +40,7 @@ use Rattle.copies.proofs.Calls.{lent, asks, calls}
 use Rattle.receiver.specs.declared.answer.Answer.{Answer}
 use Rattle.receiver.specs.declared.receiver.Ended.{Ended}
 use Rattle.receiver.specs.declared.receiver.ReceiverState.{ReceiverState}
-use Rattle.receiver.specs.Receiver.{delivery}
+use Rattle.driver.specs.Drive.{delivery}
 use Rattle.driver.proofs.Reading.{Reads, reading}
 use Rattle.driver.proofs.Thin.{Re, qval}
 use Rattle.receiver.proofs.receiver.Ended as E

@@ -11,7 +11,9 @@ use Rattle.copies.specs.Given.{Exactly}
 use Rattle.receiver.specs.Call.{answeredOf, beginReadOf, beginServiceOf, beginShutdownOf}
 use Rattle.receiver.specs.Given.{GivenAdmission, GivenAnswer, GivenRead}
 use Rattle.receiver.specs.Promise.{FailureFits, Stored}
-use Rattle.receiver.specs.Receiver.{Went, deliveryFrom, endOfStream, endedFrom, readDelivery, readImplDelivery, readImplOf, receiverOf, refused, serviceOf, shutdownOf, went}
+use Rattle.receiver.specs.Receiver.{receiverOf}
+use Rattle.driver.specs.Drive.{endOfStreamIn}
+use Rattle.driver.specs.Run.{serviceOf, shutdownOf, readOf, readImplDelivery, readDelivery}
 use Rattle.receiver.specs.State.{advanceOf, failureOf, normalizeFailureOf, normalizeOf, towardsErrorOf, withFailureOf, withPotentialFailureOf}
 use Rattle.receiver.specs.declared.admission.Memory.the-variants as memory
 use Rattle.receiver.specs.declared.answer.Answer.{Answer}
@@ -26,7 +28,7 @@ use Rattle.receiver.proofs.Given as given
 use Rattle.receiver.proofs.GivenAnswer as answer
 use Rattle.receiver.proofs.Promised as promised
 use Rattle.receiver.proofs.PromisedStates as states
-use Rattle.driver.proofs.Driven.{read-ended, service-ended, shutdown-ended}
+use Rattle.driver.proofs.Promised.{delivered}
 use Rattle.stripring.specs.Call.{callAt}
 use Rattle.stripring.specs.Failure.{failureAt, potentialFailureAt}
 use Rattle.stripring.specs.Given.{GivenAt, GivenStored, PotentialFits}
@@ -126,15 +128,10 @@ failure-advance-failure-towards-error-refuses κs a z (ws, p) =
     let k = states.towards-error-promised tt (failureAt (a .0), (failureAt (a .1 .0), tt)) (towardsErrorOf (failureAt (a .0)) (failureAt (a .1 .0))) ((tt, (tt, tt)), refl) in
     rw (failure-advance-failure-towards-error-says κs a z ws p) (failure-given (Dec·and (failure-decided (failureAt (a .0))) (failure-decided (failureAt (a .1 .0)))) (towardsErrorOf (failureAt (a .0)) (failureAt (a .1 .0))) (λ h. let y = k .0 (h .0) (h .1) in (y .0, y .1)) (k .1))
 
--- ---- over a run: a read's verdict is that of its machine, also where it turns the end of the stream into a read of nothing
-module _ (ring dst : List ℕ) where
-  delivered : (w : Went Outcome) → ofEnded (endedFrom w) ≡ ofEnded (deliveryFrom w ring dst .answer)
-  delivered (went p o) = refl
-  delivered (refused r) = refl
-
-  turned : (w : Went Outcome) → ofEnded (endedFrom w) ≡ ofEnded (deliveryFrom (endOfStream w) ring dst .answer)
-  turned (went p o) = refl
-  turned (refused r) = refl
+-- ---- over a run: the end of the stream that becomes a read of nothing is no refusal
+turned : (e : Ended) → ofEnded e ≡ ofEnded (endOfStreamIn e)
+turned (ended.Accepted q o used) = refl
+turned (ended.Refused r) = refl
 
 module _ (r : Receiver) (answers : List Answer) (z : EndedAnswer) where
   abbrev q : ReceiverState
@@ -144,30 +141,28 @@ module _ (r : Receiver) (answers : List Answer) (z : EndedAnswer) where
   receiver-service-chunk-acknowledgements-refuses p =
       let e = run-exactly [] answers (beginServiceOf q) (given.begin-service-given tt (q, tt) (beginServiceOf q) ((tt, tt), refl)) in
       rw (receiver-service-chunk-acknowledgements-says r answers z p)
-      (ended-given (endedFrom (serviceOf q answers)) (subst (λ (x : Ended). Exactly (GivenRun (GivenAdmission q memory.None) (beginServiceOf q) [] answers) (ofEnded x)) (service-ended q [] answers) e))
+      (ended-given (serviceOf q answers) e)
 
   pub receiver-shutdown-refuses : FlatShutdownLeaves r answers z → GivenAt (GivenRun (GivenAdmission (receiverAt r) memory.None) (beginShutdownOf (receiverAt r)) [] answers) (z .refusal)
   receiver-shutdown-refuses p =
       let e = run-exactly [] answers (beginShutdownOf q) (given.begin-shutdown-given tt (q, tt) (beginShutdownOf q) ((tt, tt), refl)) in
       rw (receiver-shutdown-says r answers z p)
-      (ended-given (endedFrom (shutdownOf q answers)) (subst (λ (x : Ended). Exactly (GivenRun (GivenAdmission q memory.None) (beginShutdownOf q) [] answers) (ofEnded x)) (shutdown-ended q [] answers) e))
+      (ended-given (shutdownOf q answers) e)
 
   module _ (ring dst : List ℕ) (top : ℕ) (left : List ℕ) where
     abbrev pub GivenReading : ℕ → List ℕ → Type 0
     GivenReading = GivenRun (GivenRead (receiverAt r) (length ring) (length dst)) (beginReadOf (receiverAt r) (length ring) top (length dst)) ring answers
 
-    reading-exactly : Exactly GivenReading (ofEnded (endedFrom (readImplOf q ring (length dst) top answers)))
+    reading-exactly : Exactly GivenReading (ofEnded (readImplDelivery q ring dst top answers .answer))
     reading-exactly =
         let x = beginReadOf q (length ring) top (length dst) in
-        subst (λ (y : Ended). Exactly GivenReading (ofEnded y)) (read-ended q ring answers top (length dst))
+        subst (λ (y : Ended). Exactly GivenReading (ofEnded y)) (sym (delivered ring dst (readOf q ring (length dst) top answers)))
         (run-exactly ring answers x (given.begin-read-given tt (q, (length ring, (top, (length dst, tt)))) x ((tt, (tt, (tt, (tt, tt)))), refl)))
 
     pub receiver-read-with-fds-refuses : FlatReadLeaves r ring dst top answers z left → GivenAt GivenReading (z .refusal)
     receiver-read-with-fds-refuses p =
         rw (receiver-read-with-fds-says r ring dst top answers z left p .0)
-        (ended-given (readDelivery q ring dst top answers .answer) (subst (Exactly GivenReading) (turned ring dst (readImplOf q ring (length dst) top answers)) reading-exactly))
+        (ended-given (readDelivery q ring dst top answers .answer) (subst (Exactly GivenReading) (turned (readImplDelivery q ring dst top answers .answer)) reading-exactly))
 
     pub receiver-read-with-fds-impl-refuses : FlatReadImplLeaves r ring dst top answers z left → GivenAt GivenReading (z .refusal)
-    receiver-read-with-fds-impl-refuses p =
-        rw (receiver-read-with-fds-impl-says r ring dst top answers z left p .0)
-        (ended-given (readImplDelivery q ring dst top answers .answer) (subst (Exactly GivenReading) (delivered ring dst (readImplOf q ring (length dst) top answers)) reading-exactly))
+    receiver-read-with-fds-impl-refuses p = rw (receiver-read-with-fds-impl-says r ring dst top answers z left p .0) (ended-given (readImplDelivery q ring dst top answers .answer) reading-exactly)

@@ -5,7 +5,8 @@ use mathlib.Core.List.{List}
 use Rattle.modular.proofs.Saying.{Says}
 use Rattle.receiver.specs.declared.answer.Answer.{Answer}
 use Rattle.receiver.specs.Call.{answeredOf, beginReadOf, beginServiceOf, beginShutdownOf}
-use Rattle.receiver.specs.Receiver.{endedFrom, readDelivery, readImplDelivery, receiverOf, serviceOf, shutdownOf}
+use Rattle.receiver.specs.Receiver.{receiverOf}
+use Rattle.driver.specs.Run.{serviceOf, shutdownOf, readImplDelivery, readDelivery}
 use Rattle.receiver.specs.State.{advanceOf, failureOf, normalizeFailureOf, normalizeOf, towardsErrorOf, withFailureOf, withPotentialFailureOf}
 use Rattle.stripring.specs.Call.{callAt, flatStep}
 use Rattle.stripring.specs.Failure.{failureAt, flatFailureAnswer, flatPotentialFailure, potentialFailureAt}
@@ -52,10 +53,10 @@ pub receiver-read-with-fds-impl-says : (r : Receiver) (ring dst : List ℕ) (top
     (a ≡ flatEnded (readImplDelivery (receiverAt r) ring dst top answers .answer)) × (left ≡ readImplDelivery (receiverAt r) ring dst top answers .memory)
 receiver-read-with-fds-impl-says r ring dst top answers a left p = (ap (λ (x : EndedAnswerLeft). x .answer) p, ap (λ (x : EndedAnswerLeft). x .memory) p)
 
-pub receiver-service-chunk-acknowledgements-says : (r : Receiver) (answers : List Answer) (a : EndedAnswer) → FlatServiceLeaves r answers a → (a ≡ flatEnded (endedFrom (serviceOf (receiverAt r) answers)))
+pub receiver-service-chunk-acknowledgements-says : (r : Receiver) (answers : List Answer) (a : EndedAnswer) → FlatServiceLeaves r answers a → (a ≡ flatEnded (serviceOf (receiverAt r) answers))
 receiver-service-chunk-acknowledgements-says r answers a p = p
 
-pub receiver-shutdown-says : (r : Receiver) (answers : List Answer) (a : EndedAnswer) → FlatShutdownLeaves r answers a → (a ≡ flatEnded (endedFrom (shutdownOf (receiverAt r) answers)))
+pub receiver-shutdown-says : (r : Receiver) (answers : List Answer) (a : EndedAnswer) → FlatShutdownLeaves r answers a → (a ≡ flatEnded (shutdownOf (receiverAt r) answers))
 receiver-shutdown-says r answers a p = p
 
 -- ---- a call in progress

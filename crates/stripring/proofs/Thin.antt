@@ -18,7 +18,7 @@ use Rattle.copies.proofs.read.Kinds as lib-read-kinds
 use Rattle.copies.proofs.read.Reads as lib-read
 use Rattle.copies.proofs.write.Kinds as lib-write-kinds
 use Rattle.copies.proofs.write.Reads as lib-write
-use Rattle.receiver.specs.Receiver.{Delivery, delivery}
+use Rattle.driver.specs.Drive.{Delivery, delivery}
 use Rattle.receiver.specs.declared.answer.Answer.{Answer}
 use Rattle.receiver.specs.declared.receiver.Ended.{Ended}
 use Rattle.driver.specs.Run.{ServiceLeaves, ShutdownLeaves, ReadImplLeaves, ReadLeaves}

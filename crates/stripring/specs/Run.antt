@@ -2,17 +2,18 @@
 use mathlib.Core.Path.{_≡_}
 use Prim.Native.Nat.{ℕ}
 use mathlib.Core.List.{List}
-use Rattle.receiver.specs.Receiver.{Delivery, readImplDelivery, readDelivery, endedFrom, serviceOf, shutdownOf}
+use Rattle.driver.specs.Drive.{Delivery}
+use Rattle.driver.specs.Run.{serviceOf, shutdownOf, readImplDelivery, readDelivery}
 use Rattle.receiver.specs.declared.answer.Answer.{Answer}
 use Rattle.stripring.specs.declared.flat.EndedAnswer.{EndedAnswer}
 use Rattle.stripring.specs.declared.flat.Receiver.{Receiver}
 use Rattle.stripring.specs.Receiver.{receiverAt, flatEnded}
 
 abbrev pub FlatServiceLeaves : Receiver → List Answer → EndedAnswer → Type 0
-FlatServiceLeaves r answers a = a ≡ flatEnded (endedFrom (serviceOf (receiverAt r) answers))
+FlatServiceLeaves r answers a = a ≡ flatEnded (serviceOf (receiverAt r) answers)
 
 abbrev pub FlatShutdownLeaves : Receiver → List Answer → EndedAnswer → Type 0
-FlatShutdownLeaves r answers a = a ≡ flatEnded (endedFrom (shutdownOf (receiverAt r) answers))
+FlatShutdownLeaves r answers a = a ≡ flatEnded (shutdownOf (receiverAt r) answers)
 
 -- a read: its answer, and what is left in the destination
 pub record EndedAnswerLeft : Type 0 where

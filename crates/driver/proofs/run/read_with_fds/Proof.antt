@@ -1,5 +1,5 @@
 -- `driver::run::read_with_fds` meets its contract: a walk of its MIR, by hand. All that is passed goes on to
--- `read_with_fds_impl`, and what that answers to `end_of_stream`; by `read-delivered` the two together are what the rules say.
+-- `read_with_fds_impl`, and what that answers to `end_of_stream`.
 use mathlib.Core.Path.{_≡_, refl, ap, _∙_}
 use Prim.Native.Nat.{ℕ}
 use mathlib.Core.List.{List, [], _∷_}
@@ -28,9 +28,8 @@ use denote.Triple.Table.{entered, cited}
 use Rattle.receiver.specs.declared.answer.Answer.{Answer}
 use Rattle.receiver.specs.declared.receiver.Ended.{Ended}
 use Rattle.receiver.specs.declared.receiver.ReceiverState.{ReceiverState}
-use Rattle.driver.specs.Drive.{endOfStreamIn}
-use Rattle.receiver.specs.Receiver.{delivery, readImplDelivery, readDelivery}
-use Rattle.driver.proofs.Driven.{read-delivered}
+use Rattle.driver.specs.Drive.{delivery, endOfStreamIn}
+use Rattle.driver.specs.Run.{readImplDelivery, endOfStream, readDelivery}
 use Rattle.copies.proofs.Calls.{lent, asks, calls}
 use Rattle.driver.proofs.Thin.{qval}
 use Rattle.driver.proofs.Reading.{given, spelt, Owned, exits, Walk, meets}
@@ -91,7 +90,7 @@ module _ {M : Type 1} (𝓤 : URA M) (H : Heap 𝓤) (A : Atoms 𝓤) (W : Given
       move ! (4 ∷ []) $ fsplit ! $ drop ! $ fsplit ! $ drop ! $ fsplit ! $ fsplit ! $ move ! (1 ∷ []) $ feqL ! (λ l.
       -- [the last bytes; true; the result; true; true; the tokens]
       move ! (5 ∷ []) $ use1 W (‵ (flft κ₀ s₀) ⊛ ‵ (flft κ₁ s₁) ⊛ ‵ (flft κ₂ s₂) ⊛ ‵ ftrue) (id⊢ 𝓤 _) $ keep ! (0 ∷ 1 ∷ 3 ∷ []) $
-      by ! (exits readDelivery 𝓤 H A κ₀ κ₁ κ₂ s₀ s₁ s₂ q ring dst m answers W p w (ws .1 .1 .0) (ap (λ (z : Ended). delivery z (ws .1 .1 .0)) k ∙ read-delivered (ring .now) (dst .now) q m (answers .now) r (ws .1 .1 .0) e) l)))))))))))))
+      by ! (exits readDelivery 𝓤 H A κ₀ κ₁ κ₂ s₀ s₁ s₂ q ring dst m answers W p w (ws .1 .1 .0) (ap (λ (z : Ended). delivery z (ws .1 .1 .0)) k ∙ ap endOfStream e) l)))))))))))))
 
 pub read-with-fds-spec : {M : Type 1} → stated.statement M
 unfolding code.routine tablesOf

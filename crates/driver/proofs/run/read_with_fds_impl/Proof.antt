@@ -1,5 +1,5 @@
 -- `driver::run::read_with_fds_impl` meets its contract: a walk of its MIR, by hand. The read is begun by the lengths of the
--- ring and of the destination, driven over the run with the ring, and delivered; by `read-impl-delivered` that is what the rules say.
+-- ring and of the destination, driven over the run with the ring, and delivered.
 use mathlib.Core.Path.{_≡_, refl, ap, _∙_}
 use Prim.Native.Nat.{ℕ, _<_, _^_}
 use mathlib.Core.List.{List, [], _∷_}
@@ -35,9 +35,8 @@ use Rattle.receiver.specs.declared.call.Step.{Step}
 use Rattle.driver.specs.declared.drive.Driven.{Driven}
 use Rattle.receiver.specs.declared.receiver.ReceiverState.{ReceiverState}
 use Rattle.receiver.specs.Call.{beginReadOf}
-use Rattle.driver.specs.Drive.{drivenOf, deliveryOf}
-use Rattle.receiver.specs.Receiver.{delivery, readImplDelivery}
-use Rattle.driver.proofs.Driven.{read-impl-delivered}
+use Rattle.driver.specs.Drive.{drivenOf, delivery, deliveryOf}
+use Rattle.driver.specs.Run.{readImplDelivery}
 use Rattle.copies.proofs.Calls.{lent, asks, calls}
 use Rattle.driver.proofs.Thin.{Re, qval}
 use Rattle.driver.proofs.Reading.{Owned, exits, Walk, meets}
@@ -137,7 +136,7 @@ module _ {M : Type 1} (𝓤 : URA M) (H : Heap 𝓤) (A : Atoms 𝓤) (W : Given
       -- [the last bytes; true; the result; the tokens of ring and dst; the run's token and true]
       move ! (3 ∷ []) $ use1 W (‵ (flft κ₀ s₀) ⊛ ‵ (flft κ₁ s₁) ⊛ ‵ ftrue) (id⊢ 𝓤 _) $ split ! $ move ! (1 ∷ []) $ split ! $ move ! (0 ∷ 6 ∷ []) $ join ! $ move ! (2 ∷ 0 ∷ []) $ join ! $
       keep ! (0 ∷ 2 ∷ 4 ∷ []) $
-      by ! (exits readImplDelivery 𝓤 H A κ₀ κ₁ κ₂ s₀ s₁ s₂ q ring dst m answers W r w (us .1 .1 .0) (h ∙ ap (λ (z : Driven). deliveryOf z (ring .now) (dst .now)) (k ∙ ap (λ (z : Step). drivenOf z (ring .now) (answers .now)) e) ∙ read-impl-delivered (ring .now) (dst .now) q m (answers .now)) l))))))))))))))))))
+      by ! (exits readImplDelivery 𝓤 H A κ₀ κ₁ κ₂ s₀ s₁ s₂ q ring dst m answers W r w (us .1 .1 .0) (h ∙ ap (λ (z : Driven). deliveryOf z (ring .now) (dst .now)) (k ∙ ap (λ (z : Step). drivenOf z (ring .now) (answers .now)) e)) l))))))))))))))))))
 
 pub read-with-fds-impl-spec : {M : Type 1} → stated.statement M
 unfolding code.routine tablesOf

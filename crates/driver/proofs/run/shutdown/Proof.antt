@@ -1,13 +1,9 @@
--- `driver::run::shutdown` meets its contract: a shutdown is begun, driven over the run without a ring, and told; by
--- `shutdown-ended` that is what the receiver's rules say.
-use mathlib.Core.List.{[]}
+-- `driver::run::shutdown` meets its contract: a shutdown is begun, driven over the run without a ring, and told.
 use contract.Running.{givenOf, tables, tablesOf}
 use denote.Triple.Spec.{tripleOf}
 use denote.Triple.Table.{entered, cited}
 use Rattle.receiver.specs.Call.{beginShutdownOf}
-use Rattle.receiver.specs.Receiver.{endedFrom, shutdownOf}
 use Rattle.driver.proofs.Begun.{Begin, Drive, begun}
-use Rattle.driver.proofs.Driven.{shutdown-ended}
 use Rattle.receiver.proofs.call.Call.begin_shutdown.Symbol as g₀-def
 use Rattle.receiver.proofs.call.Call.begin_shutdown.Met as g₀-thm
 use Rattle.driver.proofs.run.drive_without_ring.Symbol as g₁-def
@@ -22,6 +18,6 @@ unfolding code.routine tablesOf
 shutdown-spec 𝓤 H 𝓜 𝓖 𝓡 =
     entered 𝓤 H (tripleOf 𝓤 H (𝓖 .A) f.signature (f.spec 𝓤 H (𝓖 .A) (𝓜 .mem) (𝓡 .run)))
     (tables 𝓤 H 𝓜 𝓡 code.env .C) (tables 𝓤 H 𝓜 𝓡 code.env .Λ) name code.function (code.unfolded 𝓤 H 𝓜 𝓡)
-    (begun g₀-def.name beginShutdownOf (λ q ys. endedFrom (shutdownOf q ys)) (λ q ys. shutdown-ended q [] ys) 𝓤 H (𝓖 .A) (givenOf 𝓤 H 𝓜 𝓖) (𝓜 .mem) (𝓡 .run) (tablesOf 𝓤 H 𝓜 (tables 𝓤 H 𝓜 𝓡 code.env))
+    (begun g₀-def.name beginShutdownOf 𝓤 H (𝓖 .A) (givenOf 𝓤 H 𝓜 𝓖) (𝓜 .mem) (𝓡 .run) (tablesOf 𝓤 H 𝓜 (tables 𝓤 H 𝓜 𝓡 code.env))
     (cited 𝓤 H (Begin 𝓤 H (𝓖 .A) beginShutdownOf) 𝓜 𝓡 code.env g₀-def.name g₀-def.routine code.calls-receiver·call·Call·begin-shutdown (g₀-thm.met 𝓤 H 𝓜 𝓖 𝓡))
     (cited 𝓤 H (Drive 𝓤 H (𝓖 .A) (𝓜 .mem) (𝓡 .run)) 𝓜 𝓡 code.env g₁-def.name g₁-def.routine code.calls-driver·run·drive-without-ring (g₁-thm.met 𝓤 H 𝓜 𝓖 𝓡)))

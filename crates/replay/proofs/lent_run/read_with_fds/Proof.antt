@@ -2,7 +2,7 @@
 use contract.Running.{givenOf, tables, tablesOf}
 use denote.Triple.Spec.{tripleOf}
 use denote.Triple.Table.{entered, cited}
-use Rattle.receiver.specs.Receiver.{readDelivery}
+use Rattle.driver.specs.Run.{readDelivery}
 use Rattle.driver.proofs.read_with_fds.Symbol as g-def
 use Rattle.driver.proofs.read_with_fds.Met as g-thm
 use Rattle.replay.proofs.LentReading.{Read, read-so}

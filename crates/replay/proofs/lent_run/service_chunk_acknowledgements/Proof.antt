@@ -2,7 +2,7 @@
 use contract.Running.{givenOf, tables, tablesOf}
 use denote.Triple.Spec.{tripleOf}
 use denote.Triple.Table.{entered, cited}
-use Rattle.receiver.specs.Receiver.{endedFrom, serviceOf}
+use Rattle.driver.specs.Run.{serviceOf}
 use Rattle.driver.proofs.service_chunk_acknowledgements.Symbol as g-def
 use Rattle.driver.proofs.service_chunk_acknowledgements.Met as g-thm
 use Rattle.replay.proofs.LentRun.{Call, called}
@@ -16,5 +16,5 @@ unfolding code.routine tablesOf
 service-chunk-acknowledgements-spec 𝓤 H 𝓜 𝓖 𝓡 =
     entered 𝓤 H (tripleOf 𝓤 H (𝓖 .A) f.signature (f.spec 𝓤 H (𝓖 .A) (𝓜 .mem) (𝓡 .run)))
     (tables 𝓤 H 𝓜 𝓡 code.env .C) (tables 𝓤 H 𝓜 𝓡 code.env .Λ) name code.function (code.unfolded 𝓤 H 𝓜 𝓡)
-    (called g-def.name (λ q ys. endedFrom (serviceOf q ys)) 𝓤 H (𝓖 .A) (givenOf 𝓤 H 𝓜 𝓖) (tablesOf 𝓤 H 𝓜 (tables 𝓤 H 𝓜 𝓡 code.env))
-    (cited 𝓤 H (Call 𝓤 H (𝓖 .A) (λ q ys. endedFrom (serviceOf q ys))) 𝓜 𝓡 code.env g-def.name g-def.routine code.calls-driver·service-chunk-acknowledgements (g-thm.met 𝓤 H 𝓜 𝓖 𝓡)))
+    (called g-def.name serviceOf 𝓤 H (𝓖 .A) (givenOf 𝓤 H 𝓜 𝓖) (tablesOf 𝓤 H 𝓜 (tables 𝓤 H 𝓜 𝓡 code.env))
+    (cited 𝓤 H (Call 𝓤 H (𝓖 .A) serviceOf) 𝓜 𝓡 code.env g-def.name g-def.routine code.calls-driver·service-chunk-acknowledgements (g-thm.met 𝓤 H 𝓜 𝓖 𝓡)))

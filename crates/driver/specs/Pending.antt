@@ -1,18 +1,14 @@
 -- The pending count over any list of calls: what it was, and one for each chunk that was handed out whole, less all that was sent.
 use Prim.Native.Nat.{ℕ, _+_}
-use mathlib.Core.Bool.{cond}
 use mathlib.Core.List.{List, [], _∷_}
-use lib.Dec.{eqb}
 use lib.ListN.{take}
-use Rattle.sched.specs.Scheduler.{dataIn}
-use Rattle.receiver.specs.Answer.{isSent}
-use Rattle.receiver.specs.Receiver.{Went, endedFrom, readImplOf, readOf, serviceOf, shutdownOf}
+use Rattle.receiver.specs.Handed.{sentBy, wholeIn}
 use Rattle.receiver.specs.declared.answer.Answer.{Answer}
 use Rattle.receiver.specs.declared.receiver.Ended.{Ended}
 use Rattle.receiver.specs.declared.receiver.Ended.the-variants.{Accepted, Refused}
-use Rattle.receiver.specs.declared.receiver.Outcome.{Outcome}
-use Rattle.receiver.specs.declared.receiver.Outcome.the-variants as outcome
 use Rattle.receiver.specs.declared.receiver.ReceiverState.{ReceiverState}
+use Rattle.driver.specs.Drive.{endedOf, endOfStreamIn}
+use Rattle.driver.specs.Run.{serviceOf, shutdownOf, readOf}
 
 -- a call, with what is lent to it: the ring, the destination's length and the most descriptors of a read, and the answers
 pub data Asked : Type 0 where
@@ -21,11 +17,12 @@ pub data Asked : Type 0 where
   services : List Answer → Asked
   shuts : List Answer → Asked
 
-abbrev pub wentOf : ReceiverState → Asked → Went Outcome
-wentOf q (reads ring asked top answers) = readOf q ring asked top answers
-wentOf q (readsImpl ring asked top answers) = readImplOf q ring asked top answers
-wentOf q (services answers) = serviceOf q answers
-wentOf q (shuts answers) = shutdownOf q answers
+-- what it leaves
+abbrev pub endsOf : ReceiverState → Asked → Ended
+endsOf q (reads ring asked top answers) = endOfStreamIn (endedOf (readOf q ring asked top answers))
+endsOf q (readsImpl ring asked top answers) = endedOf (readOf q ring asked top answers)
+endsOf q (services answers) = serviceOf q answers
+endsOf q (shuts answers) = shutdownOf q answers
 
 abbrev pub answersOf : Asked → List Answer
 answersOf (reads ring asked top answers) = answers
@@ -34,18 +31,9 @@ answersOf (services answers) = answers
 answersOf (shuts answers) = answers
 
 -- what answers say was sent
-abbrev pub sentBy : Answer → ℕ
-sentBy a = cond (isSent a) (a .value) 0
-
 abbrev pub sentIn : List Answer → ℕ
 sentIn [] = 0
 sentIn (a ∷ rest) = sentBy a + sentIn rest
-
--- a chunk is handed out whole by a read of some bytes that leaves no data
-abbrev pub wholeIn : ReceiverState → Outcome → ℕ
-wholeIn q (outcome.Read n fds) = cond (eqb n 0) 0 (cond (eqb (dataIn (q .scheduler)) 0) 1 0)
-wholeIn q outcome.Done = 0
-wholeIn q (outcome.Failed f) = 0
 
 -- of a call: what it sent, by the answers that it used; whether it handed a chunk out whole; the record after it
 abbrev pub sentOver : List Answer → Ended → ℕ
@@ -59,10 +47,6 @@ wholeOver (Refused r) = 0
 abbrev pub nextOver : ReceiverState → Ended → ReceiverState
 nextOver q (Accepted r o used) = r
 nextOver q (Refused r) = q
-
--- what a call leaves, by the rules
-abbrev pub endsOf : ReceiverState → Asked → Ended
-endsOf q c = endedFrom (wentOf q c)
 
 -- ---- over a list of calls: `ends` is what each leaves
 module _ (ends : ReceiverState → Asked → Ended) where

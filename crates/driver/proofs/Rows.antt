@@ -8,19 +8,22 @@ use Rattle.modular.specs.Modulus.{subMod, addMod}
 use Rattle.sched.specs.declared.scheduler.RingBufferScheduler.{RingBufferScheduler}
 use Rattle.sched.specs.Scheduler.{schedulerOf, soundOf}
 use Rattle.copies.specs.Copies.{readyFrom}
 use Rattle.receiver.specs.declared.answer.Answer.{Answer}
 use Rattle.receiver.specs.declared.receiver.Ended.{Ended}
 use Rattle.receiver.specs.declared.receiver.Ended.the-variants.{Accepted, Refused}
 use Rattle.receiver.specs.declared.receiver.Outcome.the-variants as outcome
 use Rattle.receiver.specs.declared.refusal.Refusal.the-variants.{AnswerMissing, Misfit, PendingFull}
 use Rattle.receiver.specs.declared.state.Failure.the-variants.{Io, Protocol}
 use Rattle.receiver.specs.declared.state.OperationalState.{OperationalState}
 use Rattle.receiver.specs.declared.state.OperationalState.the-variants.{Normal, Draining, Terminated}
 use Rattle.receiver.specs.declared.state.Violation.the-variants.{InvalidChunkAnnouncement, ControlOverflow, UnknownHeader, InvalidChunkLength}
 use Rattle.receiver.specs.State.{fitsErrno, normalizeIn, towardsErrorIn}
 use Rattle.receiver.specs.Answer.{interruptedOf, receivedOf, sentOf, shutOf}
-use Rattle.receiver.specs.Receiver.{receiver, endedFrom, numberFrom, flushIn, announceIn, readOf, serviceOf, shutdownOf, delivery, readDelivery}
+use Rattle.receiver.specs.Call.{flushCall}
+use Rattle.receiver.specs.Receiver.{receiver, numberFrom}
+use Rattle.driver.specs.Drive.{endedOf, delivery, endOfStreamIn}
+use Rattle.driver.specs.Run.{readOf, serviceOf, shutdownOf, readDelivery}
 use Rattle.receiver.specs.Refusal.{numberOf}
 
 -- ---- the socket's answers
 abbrev byte : ℕ → ℕ → Answer
@@ -46,10 +49,10 @@ abbrev memory : List ℕ → List ℕ
 memory header = header ++ replicate 56 0
 
 abbrev service : OperationalState → ℕ → Bool → List Answer → Ended
-service st pending issued answers = endedFrom (serviceOf (receiver (ring 64 0 0) st pending issued) answers)
+service st pending issued answers = serviceOf (receiver (ring 64 0 0) st pending issued) answers
 
 abbrev reads : RingBufferScheduler → OperationalState → ℕ → Bool → List ℕ → ℕ → List Answer → Ended
-reads s st pending issued header asked answers = endedFrom (readOf (receiver s st pending issued) (memory header) asked 1 answers)
+reads s st pending issued header asked answers = endOfStreamIn (endedOf (readOf (receiver s st pending issued) (memory header) asked 1 answers))
 
 abbrev zeros : List ℕ
 zeros = replicate 8 0
@@ -62,14 +65,14 @@ abbrev header : ℕ → ℕ → List ℕ
 header first len = first ∷ replicate 6 0 ++ (len ∷ [])
 
 abbrev shuts : OperationalState → Bool → List Answer → Ended
-shuts st issued answers = endedFrom (shutdownOf (receiver empty st 0 issued) answers)
+shuts st issued answers = shutdownOf (receiver empty st 0 issued) answers
 
 -- ---- an answer at a place that cannot have it
 an-errno-is-1-to-4095 :
     (service Normal 1 false (fails 0 ∷ []) ≡ Refused (Misfit 1)) ×
     (service Normal 1 true (fails 4095 ∷ []) ≡ Accepted (receiver empty (Draining (Io 4095)) 1 true) (outcome.Failed (Io 4095)) 1) ×
     (service Normal 1 false (fails 4096 ∷ []) ≡ Refused (Misfit 1))
-unfolding flushIn soundOf subMod fitsErrno normalizeIn towardsErrorIn interruptedOf sentOf
+unfolding flushCall soundOf subMod fitsErrno normalizeIn towardsErrorIn interruptedOf sentOf
 an-errno-is-1-to-4095 = (refl, refl, refl)
 
 an-answer-fits-its-place :
@@ -79,7 +82,7 @@ an-answer-fits-its-place :
     (reads empty Normal 0 false zeros 2 (done ∷ []) ≡ Refused (Misfit 1)) ×
     (shuts Normal false (sends 0 ∷ []) ≡ Refused (Misfit 1)) ×
     (shuts Normal false (closed ∷ []) ≡ Refused (Misfit 1))
-unfolding flushIn announceIn readyFrom soundOf subMod fitsErrno normalizeIn towardsErrorIn interruptedOf receivedOf sentOf shutOf
+unfolding flushCall readyFrom soundOf subMod fitsErrno normalizeIn towardsErrorIn interruptedOf receivedOf sentOf shutOf
 an-answer-fits-its-place = (refl, refl, refl, refl, refl, refl)
 
 -- ---- acknowledgements
@@ -91,20 +94,20 @@ batches-are-sent-until-nothing-is-pending :
     (service Normal 130 false (sends 100 ∷ sends 31 ∷ []) ≡ Refused (Misfit 2)) ×
     (service Normal 1 false [] ≡ Refused AnswerMissing) ×
     (service (Terminated (Io 0)) 3 false [] ≡ Refused (Misfit 0))
-unfolding flushIn soundOf subMod fitsErrno interruptedOf sentOf
+unfolding flushCall soundOf subMod fitsErrno interruptedOf sentOf
 batches-are-sent-until-nothing-is-pending = (refl, refl, refl, refl, refl, refl, refl)
 
 a-failed-send-drains :
     (service Normal 300 false (sends 128 ∷ fails 104 ∷ done ∷ []) ≡ Accepted (receiver empty (Draining (Io 104)) 172 true) (outcome.Failed (Io 104)) 3) ×
     (service Normal 1 false (sends 0 ∷ fails 4 ∷ []) ≡ Accepted (receiver empty (Draining (Io 5)) 1 false) (outcome.Failed (Io 4)) 2)
-unfolding flushIn soundOf subMod fitsErrno normalizeIn towardsErrorIn interruptedOf sentOf shutOf
+unfolding flushCall soundOf subMod fitsErrno normalizeIn towardsErrorIn interruptedOf sentOf shutOf
 a-failed-send-drains = (refl, refl)
 
 an-interruption-is-waited-out-but-not-by-a-shutdown :
     (service Normal 5 false (fails 4 ∷ sends 5 ∷ []) ≡ Accepted (receiver empty Normal 0 false) outcome.Done 2) ×
     (reads empty Normal 0 false zeros 2 (fails 4 ∷ fails 4 ∷ fails 11 ∷ []) ≡ Accepted (receiver empty Normal 0 false) (outcome.Failed (Io 11)) 3) ×
     (shuts Normal false (fails 4 ∷ []) ≡ Accepted (receiver empty (Draining (Io 32)) 0 false) (outcome.Failed (Io 4)) 1)
-unfolding flushIn announceIn readyFrom soundOf subMod fitsErrno normalizeIn towardsErrorIn interruptedOf receivedOf sentOf shutOf
+unfolding flushCall readyFrom soundOf subMod fitsErrno normalizeIn towardsErrorIn interruptedOf receivedOf sentOf shutOf
 an-interruption-is-waited-out-but-not-by-a-shutdown = (refl, refl, refl)
 
 nothing-is-sent-while-draining :
@@ -123,14 +126,14 @@ a-stored-11-is-taken-as-it-stands = (refl, refl)
 advancing-normalises-11 :
     (shuts (Terminated (Io 11)) true [] ≡ Accepted (receiver empty (Draining (Io 32)) 0 true) outcome.Done 0) ×
     (reads empty (Draining (Io 11)) 0 false zeros 2 (fails 11 ∷ []) ≡ Accepted (receiver empty Normal 0 false) (outcome.Failed (Io 11)) 1)
-unfolding announceIn readyFrom soundOf subMod fitsErrno normalizeIn towardsErrorIn interruptedOf receivedOf shutOf
+unfolding readyFrom soundOf subMod fitsErrno normalizeIn towardsErrorIn interruptedOf receivedOf shutOf
 advancing-normalises-11 = (refl, refl)
 
 refusal-11-is-not-failure-11 :
     (reads empty Normal 0 false zeros 2 [] ≡ Refused AnswerMissing) ×
     (numberOf AnswerMissing ≡ 11) ×
     (reads empty Normal 0 false zeros 2 (fails 11 ∷ []) ≡ Accepted (receiver empty Normal 0 false) (outcome.Failed (Io 11)) 1)
-unfolding announceIn readyFrom soundOf subMod fitsErrno interruptedOf receivedOf
+unfolding readyFrom soundOf subMod fitsErrno interruptedOf receivedOf
 refusal-11-is-not-failure-11 = (refl, refl, refl)
 
 -- ---- a read
@@ -140,19 +143,19 @@ terminated-then-the-empty-destination-then-13-then-the-announcement :
     (reads empty Normal (2 ^ 64 - 1) false zeros 2 (byte 300 0 ∷ []) ≡ Refused PendingFull) ×
     (reads empty Normal 0 false zeros 2 (byte 7 2 ∷ []) ≡ Refused (Misfit 1)) ×
     (reads empty (Terminated (Io 4096)) 0 false zeros 2 [] ≡ Refused (Misfit 0))
-unfolding announceIn readyFrom soundOf subMod fitsErrno interruptedOf receivedOf
+unfolding readyFrom soundOf subMod fitsErrno interruptedOf receivedOf
 terminated-then-the-empty-destination-then-13-then-the-announcement = (refl, refl, refl, refl, refl)
 
 the-end-of-the-stream-is-a-read-of-nothing :
     (reads empty (Draining (Io 5)) 0 false zeros 2 (closed ∷ done ∷ []) ≡ Accepted (receiver empty (Terminated (Io 5)) 0 true) (outcome.Read 0 0) 2) ×
     (reads empty (Terminated (Io 32)) 0 false zeros 2 [] ≡ Accepted (receiver empty (Terminated (Io 32)) 0 false) (outcome.Read 0 0) 0)
-unfolding announceIn readyFrom soundOf subMod fitsErrno normalizeIn towardsErrorIn interruptedOf receivedOf shutOf
+unfolding readyFrom soundOf subMod fitsErrno normalizeIn towardsErrorIn interruptedOf receivedOf shutOf
 the-end-of-the-stream-is-a-read-of-nothing = (refl, refl)
 
 draining-and-blocked-terminates-with-the-cached-reason :
     (reads empty (Draining (Io 5)) 0 false zeros 2 (fails 11 ∷ []) ≡ Refused AnswerMissing) ×
     (reads empty (Draining (Io 5)) 0 true zeros 2 (fails 11 ∷ []) ≡ Accepted (receiver empty (Terminated (Io 5)) 0 true) (outcome.Failed (Io 5)) 1)
-unfolding announceIn readyFrom soundOf subMod fitsErrno normalizeIn towardsErrorIn interruptedOf receivedOf shutOf
+unfolding readyFrom soundOf subMod fitsErrno normalizeIn towardsErrorIn interruptedOf receivedOf shutOf
 draining-and-blocked-terminates-with-the-cached-reason = (refl, refl)
 
 -- found in the servicing after bytes were read: the destination is as it was
@@ -160,7 +163,7 @@ a-late-refusal-changes-nothing :
     (readDelivery (receiver (ring 64 5 0) Normal 300 false) (memory zeros) (1 ∷ 2 ∷ 3 ∷ []) 1 (sends 128 ∷ []) ≡ delivery (Refused AnswerMissing) (1 ∷ 2 ∷ 3 ∷ [])) ×
     (readDelivery (receiver (ring 64 5 0) Normal 300 false) (memory zeros) (1 ∷ 2 ∷ 3 ∷ []) 1 (sends 128 ∷ sends 129 ∷ []) ≡ delivery (Refused (Misfit 2)) (1 ∷ 2 ∷ 3 ∷ [])) ×
     (readDelivery (receiver (ring 64 5 0) Normal 0 false) (memory (7 ∷ 8 ∷ 9 ∷ replicate 5 0)) (1 ∷ 2 ∷ []) 1 [] ≡ delivery (Accepted (receiver (ring 64 5 2) Normal 0 false) (outcome.Read 2 0) 0) (7 ∷ 8 ∷ []))
-unfolding flushIn readyFrom soundOf subMod addMod fitsErrno interruptedOf sentOf
+unfolding flushCall readyFrom soundOf subMod addMod fitsErrno interruptedOf sentOf
 a-late-refusal-changes-nothing = (refl, refl, refl)
 
 -- ---- an announcement
@@ -169,25 +172,25 @@ a-violation-puts-the-scheduler-back :
     (reads empty Normal 0 true (header 0 0) 2 (byte 0 1 ∷ []) ≡ Accepted (receiver empty (Terminated (Protocol InvalidChunkLength)) 0 true) (outcome.Failed (Protocol InvalidChunkLength)) 1) ×
     (reads empty Normal 0 true (header 64 5) 2 (byte 0 1 ∷ []) ≡ Accepted (receiver empty (Terminated (Protocol UnknownHeader)) 0 true) (outcome.Failed (Protocol UnknownHeader)) 1) ×
     (reads empty Normal 0 true zeros 2 (byte 7 1 ∷ []) ≡ Accepted (receiver empty (Terminated (Protocol InvalidChunkAnnouncement)) 0 true) (outcome.Failed (Protocol InvalidChunkAnnouncement)) 1)
-unfolding announceIn numberFrom readyFrom soundOf subMod addMod fitsErrno normalizeIn towardsErrorIn interruptedOf receivedOf shutOf
+unfolding numberFrom readyFrom soundOf subMod addMod fitsErrno normalizeIn towardsErrorIn interruptedOf receivedOf shutOf
 a-violation-puts-the-scheduler-back = (refl, refl, refl, refl)
 
 eight-bytes-stay-free-behind-a-body :
     (reads empty Normal 0 true (header 0 56) 2 (byte 0 1 ∷ []) ≡ Accepted (receiver (ring 64 64 10) Normal 0 true) (outcome.Read 2 1) 1) ×
     (reads empty Normal 0 true (header 0 57) 2 (byte 0 1 ∷ []) ≡ Accepted (receiver empty (Terminated (Protocol ControlOverflow)) 0 true) (outcome.Failed (Protocol ControlOverflow)) 1)
-unfolding flushIn announceIn numberFrom readyFrom soundOf subMod addMod fitsErrno normalizeIn towardsErrorIn interruptedOf receivedOf shutOf
+unfolding flushCall numberFrom readyFrom soundOf subMod addMod fitsErrno normalizeIn towardsErrorIn interruptedOf receivedOf shutOf
 eight-bytes-stay-free-behind-a-body = (refl, refl)
 
 a-chunk-read-to-its-end-is-acknowledged :
     reads empty Normal 0 true (header 0 3) 9 (byte 0 1 ∷ sends 1 ∷ []) ≡ Accepted (receiver (ring 64 11 11) Normal 0 true) (outcome.Read 3 1) 2
-unfolding flushIn announceIn numberFrom readyFrom soundOf subMod addMod fitsErrno interruptedOf receivedOf sentOf
+unfolding flushCall numberFrom readyFrom soundOf subMod addMod fitsErrno interruptedOf receivedOf sentOf
 a-chunk-read-to-its-end-is-acknowledged = refl
 
 -- five bytes of it at the ring's end and three at its start, the body behind them
 a-header-wraps-around-the-ring's-end :
     readDelivery (receiver (ring 20 15 15) Normal 0 true) (0 ∷ 0 ∷ 3 ∷ 7 ∷ 8 ∷ 9 ∷ replicate 14 0) (1 ∷ 2 ∷ []) 0 (byte 0 0 ∷ []) ≡
     delivery (Accepted (receiver (ring 20 26 25) Normal 0 true) (outcome.Read 2 0) 1) (7 ∷ 8 ∷ [])
-unfolding flushIn announceIn numberFrom readyFrom soundOf subMod addMod fitsErrno interruptedOf receivedOf
+unfolding flushCall numberFrom readyFrom soundOf subMod addMod fitsErrno interruptedOf receivedOf
 a-header-wraps-around-the-ring's-end = refl
 
 -- ---- a shutdown

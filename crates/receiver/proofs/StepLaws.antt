@@ -1,0 +1,206 @@
+-- What each step of a call comes to, by the cases of specs/Cases.antt: the scheduler that it copies by, the outcome, the pending count.
+use Prim.Native.Nat.{ℕ, _+_, _≤_, min}
+use mathlib.Core.Path.{_≡_, refl, ap, _∙_}
+use mathlib.Core.Bool.{cond}
+use mathlib.Core.List.{List}
+use mathlib.Core.Logic.{_≢_}
+use native.Mathlib.Omega.{arith}
+use lib.Dec.{eqb}
+use borrow.Author.Tests.{eq-eqb, ne-eqb}
+use Rattle.sched.specs.declared.scheduler.RingBufferScheduler.{RingBufferScheduler}
+use Rattle.sched.specs.Scheduler.{dataIn}
+use Rattle.receiver.specs.Call.{outcomeIn}
+use Rattle.receiver.specs.Cases.{Meets, none-met, is-told, is-dropped, ComesTo, told-so, dropped-to, Closes, is-normal, shut-before, asks, Flushes, none-pending, sends, Serves, failed-before, flushes, Advances, TakesSent, none-went, some-went, send-blocks, send-fails, TakesShut, is-shut, is-not, HandsOut, a-part, all-of-it, goes-on, is-drained, Chunk, TakesReceived, announces, header-violates, byte-violates, receive-blocks, receive-fails}
+use Rattle.receiver.specs.Handed.{wholeIn, comingTo}
+use Rattle.receiver.specs.Promise.{body, Announces, accepted}
+use Rattle.receiver.specs.declared.answer.Received.{Received}
+use Rattle.receiver.specs.declared.answer.Received.the-variants as received
+use Rattle.receiver.specs.declared.answer.Sent.{Sent}
+use Rattle.receiver.specs.declared.answer.Sent.the-variants as sent
+use Rattle.receiver.specs.declared.answer.Shut.{Shut}
+use Rattle.receiver.specs.declared.call.Call.{Call}
+use Rattle.receiver.specs.declared.call.Ending.{Ending}
+use Rattle.receiver.specs.declared.call.Ending.the-variants.{Dropped, Told}
+use Rattle.receiver.specs.declared.call.Phase.{Phase}
+use Rattle.receiver.specs.declared.call.Phase.the-variants as phase
+use Rattle.receiver.specs.declared.receiver.Outcome.{Outcome}
+use Rattle.receiver.specs.declared.receiver.Outcome.the-variants as outcome
+use Rattle.receiver.specs.declared.receiver.ReceiverState.{ReceiverState}
+use Rattle.receiver.specs.declared.state.Failure.{Failure}
+use Rattle.receiver.specs.declared.state.Failure.the-variants.{Io}
+use Rattle.receiver.specs.declared.state.OperationalState.{OperationalState}
+use Rattle.receiver.specs.declared.state.PotentialFailure.{PotentialFailure}
+
+-- ---- outcomes
+-- an ending comes to its own outcome, or to a failure that it tells
+pub data Ends : Ending → Outcome → Type 0 where
+  as-dropped : {o : Outcome} → Ends (Dropped o) o
+  as-told : {o : Outcome} → Ends (Told o) o
+  told-failure : {o : Outcome} {f : Failure} → Ends (Told o) (outcome.Failed f)
+
+own-end : (e : Ending) → Ends e (outcomeIn e)
+own-end (Dropped o) = as-dropped
+own-end (Told o) = as-told
+
+comes-to : (e : Ending) (o : Outcome) → ComesTo e o → Ends e o
+comes-to _ _ told-so = as-told
+comes-to _ _ dropped-to = as-dropped
+
+met-end : (f : PotentialFailure) (e ending : Ending) (o : Outcome) → Meets f e ending → Ends ending o → Ends e o
+met-end _ e _ o none-met h = h
+met-end _ _ _ _ is-told as-told = told-failure
+met-end _ _ _ _ is-told told-failure = told-failure
+met-end _ _ _ o is-dropped h = h
+
+-- no read is told: its outcome is dropped into the servicing
+abbrev Unread : Outcome → Type 0
+Unread (outcome.Read n fds) = ⊥
+Unread outcome.Done = Unit {0}
+Unread (outcome.Failed f) = Unit {0}
+
+abbrev pub Quiet : Ending → Type 0
+Quiet (Dropped o) = Unit {0}
+Quiet (Told o) = Unread o
+
+-- nor does one wait for an announcement that was asked for no bytes
+abbrev pub QuietIn : Phase → Type 0
+QuietIn (phase.Receive top asked) = asked ≢ 0
+QuietIn (phase.Send batch e) = Quiet e
+QuietIn (phase.Shutdown e) = Quiet e
+QuietIn (phase.Finished o) = Unit {0}
+
+met-quiet : (f : PotentialFailure) (e ending : Ending) → Meets f e ending → Quiet e → Quiet ending
+met-quiet _ e _ none-met h = h
+met-quiet _ _ _ is-told h = tt
+met-quiet _ _ _ is-dropped h = tt
+
+-- the announcement of a read has come, if it waits for one
+abbrev pub Settled : Phase → Type 0
+Settled (phase.Receive top asked) = ⊥
+Settled (phase.Send batch e) = Unit {0}
+Settled (phase.Shutdown e) = Unit {0}
+Settled (phase.Finished o) = Unit {0}
+
+-- ---- a call that is made of a record with n acknowledgements more, a scheduler to copy by and an ending
+pub record Spends (q : ReceiverState) (s : RingBufferScheduler) (e : Ending) (n : ℕ) (c : Call) : Type 0 where
+  pub source : c .source ≡ s
+  pub scheduler : c .receiver .scheduler ≡ q .scheduler
+  pub counts : c .receiver .«pending_ack_count» + n ≡ q .«pending_ack_count»
+  pub ends : Ends e (comingTo (c .phase))
+  pub quiet : Quiet e → QuietIn (c .phase)
+  pub settled : Settled (c .phase)
+
+abbrev pub sentIn : Sent → ℕ
+sentIn (sent.Sent n) = n
+sentIn (sent.Failed n) = 0
+sentIn sent.Misfit = 0
+
+module _ (q : ReceiverState) (s : RingBufferScheduler) (e : Ending) where
+  closes-spends : (c : Call) → Closes q s e c → Spends q s e 0 c
+  closes-spends _ (is-normal {o} p t) = record { source = refl; scheduler = refl; counts = omega arith; ends = comes-to e o t; quiet = λ h. tt; settled = tt }
+  closes-spends _ (shut-before {o} p t) = record { source = refl; scheduler = refl; counts = omega arith; ends = comes-to e o t; quiet = λ h. tt; settled = tt }
+  closes-spends _ (asks n p) = record { source = refl; scheduler = refl; counts = omega arith; ends = own-end e; quiet = λ h. h; settled = tt }
+
+  flushes-spends : (c : Call) → Flushes q s e c → Spends q s e 0 c
+  flushes-spends _ (none-pending {o} p t) = record { source = refl; scheduler = refl; counts = omega arith; ends = comes-to e o t; quiet = λ h. tt; settled = tt }
+  flushes-spends _ (sends b) = record { source = refl; scheduler = refl; counts = omega arith; ends = own-end e; quiet = λ h. h; settled = tt }
+
+  pub serves-spends : (c : Call) → Serves q s e c → Spends q s e 0 c
+  serves-spends _ (failed-before {f} {ending} {o} h m t) = record { source = refl; scheduler = refl; counts = omega arith; ends = met-end _ e ending o m (comes-to ending o t); quiet = λ k. tt; settled = tt }
+  serves-spends c (flushes h f) = flushes-spends c f
+
+module _ (q : ReceiverState) (s : RingBufferScheduler) (e : Ending) where
+  pub advances-spends : (to : OperationalState) (f : PotentialFailure) (c : Call) → Advances to f q s e c → Spends q s e 0 c
+  advances-spends to f c h =
+      let k = closes-spends _ s (h .ending) c (h .closes) in
+      record { source = k .source; scheduler = k .scheduler; counts = k .counts; ends = met-end f e (h .ending) _ (h .met) (k .ends); quiet = λ l. k .quiet (met-quiet f e (h .ending) (h .met) l); settled = k .settled }
+
+  pub sent-spends : (x : Sent) (c : Call) → TakesSent q s e x c → Spends q s e (sentIn x) c
+  sent-spends _ c (none-went h) = advances-spends _ _ c h
+  sent-spends _ c (some-went {n} {left} l z h) =
+      let k = flushes-spends _ s e c h in
+      record { source = k .source; scheduler = k .scheduler; counts = omega (arith, k .counts, z); ends = k .ends; quiet = k .quiet; settled = k .settled }
+  sent-spends _ _ (send-blocks {o} t) = record { source = refl; scheduler = refl; counts = omega arith; ends = comes-to e o t; quiet = λ h. tt; settled = tt }
+  sent-spends _ c (send-fails n h) = advances-spends _ _ c h
+
+  pub shut-spends : (x : Shut) (c : Call) → TakesShut q s e x c → Spends q s e 0 c
+  shut-spends _ _ (is-shut {o} t) = record { source = refl; scheduler = refl; counts = omega arith; ends = comes-to e o t; quiet = λ h. tt; settled = tt }
+  shut-spends _ _ (is-not {n} {ending} {o} m t) = record { source = refl; scheduler = refl; counts = omega arith; ends = met-end _ e ending o m (comes-to ending o t); quiet = λ h. tt; settled = tt }
+
+-- ---- a chunk that was handed out whole
+abbrev pub whole : Call → ℕ
+whole c = wholeIn (c .receiver) (comingTo (c .phase))
+
+whole-same : (o : Outcome) (q r : ReceiverState) → q .scheduler ≡ r .scheduler → wholeIn q o ≡ wholeIn r o
+whole-same (outcome.Read n fds) q r e = ap (λ (s : RingBufferScheduler). cond (eqb n 0) 0 (cond (eqb (dataIn s) 0) 1 0)) e
+whole-same outcome.Done q r e = refl
+whole-same (outcome.Failed f) q r e = refl
+
+ends-whole : (q : ReceiverState) (e : Ending) (o : Outcome) → Quiet e → Ends e o → wholeIn q o ≡ wholeIn q (outcomeIn e)
+ends-whole q _ _ h as-dropped = refl
+ends-whole q _ _ h as-told = refl
+ends-whole q (Told (outcome.Read n fds)) _ h told-failure = absurd h
+ends-whole q (Told outcome.Done) _ h told-failure = refl
+ends-whole q (Told (outcome.Failed g)) _ h told-failure = refl
+
+pub spends-whole : (q : ReceiverState) (s : RingBufferScheduler) (e : Ending) (n : ℕ) (c : Call) → Spends q s e n c → Quiet e → whole c ≡ wholeIn q (outcomeIn e)
+spends-whole q s e n c h k = whole-same (comingTo (c .phase)) (c .receiver) q (h .scheduler) ∙ ends-whole q e (comingTo (c .phase)) k (h .ends)
+
+read-whole : (r : ReceiverState) (n fds : ℕ) → n ≢ 0 → dataIn (r .scheduler) ≡ 0 → wholeIn r (outcome.Read n fds) ≡ 1
+read-whole r n fds some z = rw (ne-eqb n 0 some, eq-eqb (dataIn (r .scheduler)) 0 z)
+
+read-part : (r : ReceiverState) (n fds : ℕ) → n ≢ 0 → dataIn (r .scheduler) ≢ 0 → wholeIn r (outcome.Read n fds) ≡ 0
+read-part r n fds some z = rw (ne-eqb n 0 some, ne-eqb (dataIn (r .scheduler)) 0 z)
+
+-- ---- bytes that are handed out
+dropped-end : (o x : Outcome) → Ends (Dropped o) x → x ≡ o
+dropped-end _ _ as-dropped = refl
+
+module _ (q : ReceiverState) (asked fds : ℕ) where
+  pub record Hands (c : Call) : Type 0 where
+    pub bytes : ℕ
+    pub amount : bytes ≡ min asked (dataIn (q .scheduler))
+    pub comes : comingTo (c .phase) ≡ outcome.Read bytes fds
+    pub source : c .source ≡ q .scheduler
+    pub counts : c .receiver .«pending_ack_count» ≡ q .«pending_ack_count» + whole c
+    pub quiet : QuietIn (c .phase)
+    pub settled : Settled (c .phase)
+
+  pub hands : asked ≢ 0 → 1 ≤ dataIn (q .scheduler) → (c : Call) → HandsOut q asked fds c → Hands c
+  hands some holds c (a-part {u} l r h) =
+      let k = serves-spends _ (q .scheduler) (Dropped (outcome.Read asked fds)) c h in
+      let e = dropped-end (outcome.Read asked fds) (comingTo (c .phase)) (k .ends) in
+      let left : dataIn (c .receiver .scheduler) ≢ 0 = λ z. omega (arith, ap dataIn (k .scheduler), r .fill, l, z) in
+      let w : whole c ≡ 0 = ap (wholeIn (c .receiver)) e ∙ read-part (c .receiver) asked fds some left in
+      record { bytes = asked; amount = omega (arith, l); comes = e; source = k .source; counts = omega (arith, k .counts, w); quiet = k .quiet tt; settled = k .settled }
+  hands some holds c (all-of-it {u} l r h) =
+      let d = dataIn (q .scheduler) in
+      let k = serves-spends _ (q .scheduler) (Dropped (outcome.Read d fds)) c h in
+      let e = dropped-end (outcome.Read d fds) (comingTo (c .phase)) (k .ends) in
+      let none : dataIn (c .receiver .scheduler) ≡ 0 = omega (arith, ap dataIn (k .scheduler), r .fill) in
+      let w : whole c ≡ 1 = ap (wholeIn (c .receiver)) e ∙ read-whole (c .receiver) d fds (λ z. omega (arith, holds, z)) none in
+      record { bytes = d; amount = omega (arith, l); comes = e; source = k .source; counts = omega (arith, k .counts, w); quiet = k .quiet tt; settled = k .settled }
+
+-- ---- what comes of a receive: a chunk's bytes are handed out, or a failure is answered
+pub data Came (q : ReceiverState) (s : RingBufferScheduler) (asked : ℕ) (c : Call) : Type 0 where
+  handed : (r : ReceiverState) (n fds : ℕ) → Chunk (q .scheduler) n (r .scheduler) → r .«pending_ack_count» ≡ q .«pending_ack_count» → Hands r asked fds c → Came q s asked c
+  failed : (f : Failure) → Spends q s (Dropped (outcome.Failed f)) 0 c → Came q s asked c
+
+some-body : (L h fds n : ℕ) → Announces L h fds (body n fds) → 1 ≤ n
+some-body L h fds _ (accepted k m l) = m
+
+module _ (q : ReceiverState) (s : RingBufferScheduler) (ring : List ℕ) (asked : ℕ) (some : asked ≢ 0) where
+  pub came : (x : Received) (c : Call) → TakesReceived q s ring asked x c → (x ≢ received.Misfit) × Came q s asked c
+  came _ c (announces {fds} {n} {u} h k o) =
+      let holds : 1 ≤ dataIn u = omega (arith, k .filling .fill, some-body _ _ fds n h) in (
+        (λ z. let y : _≡_ {A = ℕ} 0 1 = cc in omega arith),
+        handed _ n fds k refl (hands _ asked fds some holds c o),
+      )
+  came _ c (header-violates h k o) = ((λ z. let y : _≡_ {A = ℕ} 0 1 = cc in omega arith), failed _ (advances-spends q s _ _ _ c o))
+  came _ c (byte-violates h k o) = ((λ z. let y : _≡_ {A = ℕ} 0 1 = cc in omega arith), failed _ (advances-spends q s _ _ _ c o))
+  came _ c (receive-fails h o) = ((λ z. let y : _≡_ {A = ℕ} 0 1 = cc in omega arith), failed _ (advances-spends q s _ _ _ c o))
+  came _ c (receive-blocks (is-drained p o)) = ((λ z. let y : _≡_ {A = ℕ} 0 1 = cc in omega arith), failed _ (advances-spends q s _ _ _ c o))
+  came _ _ (receive-blocks (goes-on p)) = (
+    (λ z. let y : _≡_ {A = ℕ} 0 1 = cc in omega arith),
+    failed (Io 11) (record { source = refl; scheduler = refl; counts = omega arith; ends = as-dropped; quiet = λ h. tt; settled = tt }),
+  )

@@ -1,5 +1,5 @@
 -- Of the calls that tell a refusal in numbers: its number is never 0, which tells of none, and its values are read back whole.
-use Prim.Native.Nat.{ℕ, _<_}
+use Prim.Native.Nat.{_<_}
 use mathlib.Core.Path.{_≡_, refl}
 use mathlib.Core.List.{[], _∷_}
 use Rattle.modular.proofs.Saying.{Keeps}

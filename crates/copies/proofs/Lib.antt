@@ -4,3 +4,4 @@ pub mod Calls
 mod Lending
 pub mod Says
 pub mod Promised
+pub mod PromisedValues

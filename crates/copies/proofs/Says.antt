@@ -5,8 +5,9 @@ use mathlib.Core.Path.{_≡_, ap}
 use mathlib.Core.List.{List}
 use Rattle.modular.proofs.Saying.{Says, Leaves}
 use Rattle.sched.specs.declared.scheduler.RingBufferScheduler.{RingBufferScheduler}
+use Rattle.sched.specs.Refusal.{packed}
 use Rattle.copies.specs.declared.lent.Told.{Told}
-use Rattle.copies.specs.Copies.{Left, readyOf, writeOf, readOf}
+use Rattle.copies.specs.Copies.{numberOf, valuesOf, Left, readyOf, writeOf, readOf}
 use Rattle.copies.specs.Lent.{toldOf, recordAfter, WriteLeaves, ReadLeaves}
 use Rattle.copies.proofs.demand_ring_memory.Kinds as demand-ring-memory-kinds
 use Rattle.copies.proofs.demand_ring_memory.Reads as demand-ring-memory
@@ -14,6 +15,10 @@ use Rattle.copies.proofs.write.Kinds as write-kinds
 use Rattle.copies.proofs.write.Reads as write
 use Rattle.copies.proofs.read.Kinds as read-kinds
 use Rattle.copies.proofs.read.Reads as read
+use Rattle.copies.proofs.Refusal.number.Kinds as Refusal-number-kinds
+use Rattle.copies.proofs.Refusal.number.Reads as Refusal-number
+use Rattle.copies.proofs.Refusal.values.Kinds as values-kinds
+use Rattle.copies.proofs.Refusal.values.Reads as values
 
 pub demand-ring-memory-says : Says 0 demand-ring-memory-kinds.ps demand-ring-memory-kinds.r demand-ring-memory.Learnt (λ κs a. readyOf (a .0) (a .1 .0))
 demand-ring-memory-says κs a z ws p = p
@@ -28,6 +33,13 @@ pub read-says : Leaves 2 read-kinds.ps read-kinds.r read.Learnt
     (λ κs a. readOf (a .0) (a .1 .0 .now) (a .1 .1 .0 .now) .answer)
     (λ κs a. (tt, (tt, (readOf (a .0) (a .1 .0 .now) (a .1 .1 .0 .now) .memory, tt))))
 read-says κs a z ws p = (ap (λ (x : Left). x .answer) p, ap (λ (x : Left). (tt, (tt, (x .memory, tt)))) p)
+
+-- ---- refusals in numbers
+pub Refusal-number-says : Says 0 Refusal-number-kinds.ps Refusal-number-kinds.r Refusal-number.Learnt (λ κs a. numberOf (a .0))
+Refusal-number-says κs a z ws p = p
+
+pub values-says : Says 0 values-kinds.ps values-kinds.r values.Learnt (λ κs a. packed (valuesOf (a .0)))
+values-says κs a z ws p = p
 
 -- ---- the calls over a lent scheduler: the toolchain reads no such contract, so each cites one predicate of its outcome
 pub write-lent-says : (s : RingBufferScheduler) (ring src : List ℕ) (r : Told) (after : RingBufferScheduler) (memory : List ℕ) → WriteLeaves s ring src r after memory →

@@ -4,13 +4,15 @@ ghost use mathlib.Core.Path.{_≡_};
 ghost use Prim.Native.Nat.{_+_, _≤_};
 ghost use lib.ListN.{length};
 ghost use Rattle.sched.specs.List.{totalIn};
+ghost use Rattle.sched.specs.Refusal.{packed};
 ghost use Rattle.sched.specs.Scheduler.{IsSound};
-ghost use Rattle.copies.specs.Copies.{pasted, part, Fits, putList, getList, left, readyOf, writeIn, writeOf, readIn, readOf};
+ghost use Rattle.copies.specs.Copies.{numberOf, valuesOf, pasted, part, Fits, putList, getList, left, readyOf, writeIn, writeOf, readIn, readOf};
 use sched::Checked;
 use sched::OperationsAnswer;
 use sched::Registered;
 use sched::RingBufferScheduler;
 use sched::ScheduledOperations;
+use sched::Values;
 
 mod lent;
 
@@ -22,6 +24,26 @@ pub use lent::write_lent;
 pub enum Refusal {
     Scheduler(sched::Refusal),
     RingMemory,
+}
+
+impl Refusal {
+    pub fn number(self) -> u64
+        ensures { λ r. ⌜ r ≡ numberOf self ⌝ }
+    {
+        match self {
+            Refusal::Scheduler(e) => e.number(),
+            Refusal::RingMemory => 9,
+        }
+    }
+
+    pub fn values(self) -> Values
+        ensures { λ r. ⌜ r ≡ packed (valuesOf self) ⌝ }
+    {
+        match self {
+            Refusal::Scheduler(e) => e.values(),
+            Refusal::RingMemory => Values::none(),
+        }
+    }
 }
 
 // A sound scheduler over ring memory of its length, or why it is none.

@@ -7,3 +7,4 @@ pub mod Says
 pub mod Promised
 pub mod Bridge
 pub mod Witness
+pub mod PromisedValues

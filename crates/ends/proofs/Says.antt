@@ -2,8 +2,9 @@
 -- arguments, and what it leaves in the lent memory is this one.
 use mathlib.Core.Path.{ap}
 use Rattle.modular.proofs.Saying.{Says, Leaves}
+use Rattle.sched.specs.Refusal.{packed}
 use Rattle.sched.specs.Scheduler.{schedulerOf}
-use Rattle.ends.specs.Ends.{writingEndOf, readingEndOf, WroteLeft, wroteOf, GotLeft, gotOf, writtenSentOf, readSentOf, takeReadOf, takeWrittenOf}
+use Rattle.ends.specs.Ends.{numberOf, valuesOf, writingEndOf, readingEndOf, WroteLeft, wroteOf, GotLeft, gotOf, writtenSentOf, readSentOf, takeReadOf, takeWrittenOf}
 use Rattle.ends.proofs.writing_end.WritingEnd.new.Kinds as WritingEnd-new-kinds
 use Rattle.ends.proofs.writing_end.WritingEnd.new.Reads as WritingEnd-new
 use Rattle.ends.proofs.writing_end.WritingEnd.from_counters.Kinds as WritingEnd-from-counters-kinds
@@ -28,6 +29,10 @@ use Rattle.ends.proofs.writing_end.WritingEnd.take.Kinds as WritingEnd-
 use Rattle.ends.proofs.writing_end.WritingEnd.take.Reads as WritingEnd-take
 use Rattle.ends.proofs.reading_end.ReadingEnd.take.Kinds as ReadingEnd-take-kinds
 use Rattle.ends.proofs.reading_end.ReadingEnd.take.Reads as ReadingEnd-take
+use Rattle.ends.proofs.refusal.Refusal.number.Kinds as Refusal-number-kinds
+use Rattle.ends.proofs.refusal.Refusal.number.Reads as Refusal-number
+use Rattle.ends.proofs.refusal.Refusal.values.Kinds as values-kinds
+use Rattle.ends.proofs.refusal.Refusal.values.Reads as values
 
 -- ---- made
 pub WritingEnd-new-says : Says 0 WritingEnd-new-kinds.ps WritingEnd-new-kinds.r WritingEnd-new.Learnt (λ κs a. writingEndOf (schedulerOf (a .0) (record { 0 = 0 }) (record { 0 = 0 })))
@@ -71,3 +76,10 @@ WritingEnd-take-says κs a z ws p = p
 
 pub ReadingEnd-take-says : Says 0 ReadingEnd-take-kinds.ps ReadingEnd-take-kinds.r ReadingEnd-take.Learnt (λ κs a. takeWrittenOf (a .0) (a .1 .0))
 ReadingEnd-take-says κs a z ws p = p
+
+-- ---- refusals in numbers
+pub Refusal-number-says : Says 0 Refusal-number-kinds.ps Refusal-number-kinds.r Refusal-number.Learnt (λ κs a. numberOf (a .0))
+Refusal-number-says κs a z ws p = p
+
+pub values-says : Says 0 values-kinds.ps values-kinds.r values.Learnt (λ κs a. packed (valuesOf (a .0)))
+values-says κs a z ws p = p

@@ -2,13 +2,11 @@
 ghost use mathlib.Core.Path.{_≡_};
 ghost use lib.ListN.{drop};
 ghost use Rattle.planline.specs.Line.{frontIn, spacedFront, lastFront, kindOf, kindFront, withWritten, withRead, withAmount, parseOf, planFor, planOf};
-ghost use Rattle.sched.specs.Refusal.{numberOf};
 use crate::decimal::Number;
 use crate::decimal::number_at;
 use sched::Counter;
 use sched::OperationType;
 use sched::OperationsAnswer;
-use sched::Refusal;
 use sched::RingBufferScheduler;
 use sched::ScheduledOperations;
 
@@ -168,36 +166,6 @@ fn plan_for(asked: Asked) -> Plan
     let typ = asked.typ;
     match scheduler.schedule_contiguous_operations(typ, asked.max_len) {
         OperationsAnswer::Of(list) => Plan::Ok(list),
-        OperationsAnswer::Refused(e) => Plan::Refused(number_of(e)),
-    }
-}
-
-// The paper's number of a refusal.
-fn number_of(e: Refusal) -> u64
-    ensures { λ r. ⌜ r ≡ numberOf e ⌝ }
-{
-    match e {
-        Refusal::ZeroBufferLength => 1,
-        Refusal::BufferTooLarge { buf_len: _ } => 2,
-        Refusal::ItemsWrittenOutOfBounds {
-            buf_len: _,
-            items_written: _,
-        } => 3,
-        Refusal::ItemsReadOutofBounds {
-            buf_len: _,
-            items_read: _,
-        } => 4,
-        Refusal::DataAvailOutOfBounds {
-            buf_len: _,
-            items_written: _,
-            items_read: _,
-        } => 5,
-        Refusal::OperationTooLarge {
-            op_type: _,
-            op_len: _,
-            max_len: _,
-        } => 6,
-        Refusal::OperationTooLong { excess: _ } => 7,
-        Refusal::InconsistentOperationType => 8,
+        OperationsAnswer::Refused(e) => Plan::Refused(e.number()),
     }
 }

@@ -25,3 +25,4 @@ pub mod GivenAnswer
 pub mod Promised
 pub mod PromisedStates
 pub mod PromisedMachine
+pub mod PromisedValues

@@ -1,10 +1,12 @@
 -- What each public call says, in the order of the paper: whatever its attached contract allows is this definition of its arguments.
 use mathlib.Core.Path.{refl}
 use Rattle.modular.proofs.Saying.{Says, Decides, says-decides}
+use Rattle.sched.specs.Refusal.{packed}
 use Rattle.receiver.specs.Answer.{interruptedOf, receivedOf, sentOf, shutOf}
 use Rattle.receiver.specs.Call.{beginReadOf, beginServiceOf, beginShutdownOf, answeredOf, overOf, retriesOf}
 use Rattle.receiver.specs.Receiver.{receiverOf}
-use Rattle.receiver.specs.State.{isErrno, failureOf, withFailureOf, withPotentialFailureOf, normalizeOf, advanceOf, normalizeFailureOf, towardsErrorOf}
+use Rattle.receiver.specs.Refusal.{numberOf, valuesOf}
+use Rattle.receiver.specs.State.{violationNumber, isErrno, failureOf, withFailureOf, withPotentialFailureOf, normalizeOf, advanceOf, normalizeFailureOf, towardsErrorOf}
 use Rattle.receiver.proofs.receiver.ReceiverState.new.Kinds as ReceiverState-new-kinds
 use Rattle.receiver.proofs.receiver.ReceiverState.new.Reads as ReceiverState-new
 use Rattle.receiver.proofs.state.OperationalState.failure.Kinds as failure-kinds
@@ -43,6 +45,12 @@ use Rattle.receiver.proofs.call.Call.is_over.Kinds as is-over-kinds
 use Rattle.receiver.proofs.call.Call.is_over.Reads as is-over
 use Rattle.receiver.proofs.call.Call.retries.Kinds as retries-kinds
 use Rattle.receiver.proofs.call.Call.retries.Reads as retries
+use Rattle.receiver.proofs.refusal.Refusal.number.Kinds as Refusal-number-kinds
+use Rattle.receiver.proofs.refusal.Refusal.number.Reads as Refusal-number
+use Rattle.receiver.proofs.refusal.Refusal.values.Kinds as values-kinds
+use Rattle.receiver.proofs.refusal.Refusal.values.Reads as values
+use Rattle.receiver.proofs.state.Violation.number.Kinds as Violation-number-kinds
+use Rattle.receiver.proofs.state.Violation.number.Reads as Violation-number
 
 -- ---- making one, and the states
 pub ReceiverState-new-says : Says 0 ReceiverState-new-kinds.ps ReceiverState-new-kinds.r ReceiverState-new.Learnt (λ κs a. receiverOf (a .0))
@@ -103,6 +111,16 @@ is-over-says κs a z ws p = p
 
 pub retries-says : Says 0 retries-kinds.ps retries-kinds.r retries.Learnt (λ κs a. retriesOf (a .0) (a .1 .0))
 retries-says κs a z ws p = p
+
+-- ---- refusals and violations in numbers
+pub Refusal-number-says : Says 0 Refusal-number-kinds.ps Refusal-number-kinds.r Refusal-number.Learnt (λ κs a. numberOf (a .0))
+Refusal-number-says κs a z ws p = p
+
+pub values-says : Says 0 values-kinds.ps values-kinds.r values.Learnt (λ κs a. packed (valuesOf (a .0)))
+values-says κs a z ws p = p
+
+pub Violation-number-says : Says 0 Violation-number-kinds.ps Violation-number-kinds.r Violation-number.Learnt (λ κs a. violationNumber (a .0))
+Violation-number-says κs a z ws p = p
 
 -- so each decides its outcome; for instance
 answered-decided : Decides 1 answered-kinds.ps answered-kinds.r answered.Learnt

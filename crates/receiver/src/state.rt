@@ -1,7 +1,7 @@
 // The states of the receiver, and the failures in them. Every state and failure that is handed in is tested: an errno is a number
 // from 1 to 4095.
 ghost use mathlib.Core.Path.{_≡_};
-ghost use Rattle.receiver.specs.State.{fitsFailure, fitsState, failureIn, withFailureIn, isErrno, normalizeIn, towardsErrorIn, advanceIn, failureOf, withFailureOf, withPotentialFailureOf, normalizeOf, advanceOf, normalizeFailureOf, towardsErrorOf};
+ghost use Rattle.receiver.specs.State.{violationNumber, fitsFailure, fitsState, failureIn, withFailureIn, isErrno, normalizeIn, towardsErrorIn, advanceIn, failureOf, withFailureOf, withPotentialFailureOf, normalizeOf, advanceOf, normalizeFailureOf, towardsErrorOf};
 use crate::refusal::Refusal;
 
 pub enum Violation {
@@ -9,6 +9,19 @@ pub enum Violation {
     ControlOverflow,
     UnknownHeader,
     InvalidChunkLength,
+}
+
+impl Violation {
+    pub fn number(self) -> u64
+        ensures { λ r. ⌜ r ≡ violationNumber self ⌝ }
+    {
+        match self {
+            Violation::InvalidChunkAnnouncement => 1,
+            Violation::ControlOverflow => 2,
+            Violation::UnknownHeader => 3,
+            Violation::InvalidChunkLength => 4,
+        }
+    }
 }
 
 // Why a stream fails: an errno by its Linux number, or a violation of the protocol.

@@ -11,18 +11,9 @@ use receiver::ReceiverAnswer;
 use receiver::ReceiverState;
 use receiver::Refusal;
 use receiver::StateAnswer;
-use receiver::Violation;
 
 pub fn refused(asked: Line, e: Refusal) -> Line {
-    match e {
-        Refusal::Copy(by_copy) => match by_copy {
-            copies::Refusal::Scheduler(by_scheduler) => sched_answers::refused(asked, by_scheduler),
-            copies::Refusal::RingMemory => asked.push(9),
-        },
-        Refusal::AnswerMissing => asked.push(11),
-        Refusal::Misfit { place } => asked.push(12).push(place),
-        Refusal::PendingFull => asked.push(13),
-    }
+    sched_answers::with_values(asked.push(e.number()), e.values())
 }
 
 pub fn made(asked: Line, answer: ReceiverAnswer) -> Line {
@@ -94,12 +85,7 @@ fn with_potential_failure(line: Line, potential: PotentialFailure) -> Line {
 fn with_failure(line: Line, failure: Failure) -> Line {
     match failure {
         Failure::Io(errno) => line.push(0).push(errno),
-        Failure::Protocol(violation) => match violation {
-            Violation::InvalidChunkAnnouncement => line.push(1).push(1),
-            Violation::ControlOverflow => line.push(1).push(2),
-            Violation::UnknownHeader => line.push(1).push(3),
-            Violation::InvalidChunkLength => line.push(1).push(4),
-        },
+        Failure::Protocol(violation) => line.push(1).push(violation.number()),
     }
 }
 

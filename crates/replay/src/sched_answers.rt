@@ -20,7 +20,6 @@ use sched::LayoutAnswer;
 use sched::NextOperation;
 use sched::NextOperationAnswer;
 use sched::OffsetAnswer;
-use sched::OperationType;
 use sched::OperationsAnswer;
 use sched::OutsideRange;
 use sched::OutsideRanges;
@@ -30,6 +29,7 @@ use sched::Registered;
 use sched::RingBufferScheduler;
 use sched::ScheduledOperation;
 use sched::ScheduledOperations;
+use sched::Values;
 
 pub fn number(asked: Line, value: u64) -> Line {
     asked.push(0).push(value)
@@ -44,34 +44,23 @@ pub fn boolean(asked: Line, value: bool) -> Line {
 }
 
 pub fn refused(asked: Line, e: Refusal) -> Line {
-    match e {
-        Refusal::ZeroBufferLength => asked.push(1),
-        Refusal::BufferTooLarge { buf_len } => asked.push(2).push(buf_len),
-        Refusal::ItemsWrittenOutOfBounds {
-            buf_len,
-            items_written,
-        } => asked.push(3).push(buf_len).push(items_written.0),
-        Refusal::ItemsReadOutofBounds {
-            buf_len,
-            items_read,
-        } => asked.push(4).push(buf_len).push(items_read.0),
-        Refusal::DataAvailOutOfBounds {
-            buf_len,
-            items_written,
-            items_read,
-        } => asked
-            .push(5)
-            .push(buf_len)
-            .push(items_written.0)
-            .push(items_read.0),
-        Refusal::OperationTooLarge {
-            op_type,
-            op_len,
-            max_len,
-        } => with_type(asked.push(6), op_type).push(op_len).push(max_len),
-        Refusal::OperationTooLong { excess } => asked.push(7).push(excess),
-        Refusal::InconsistentOperationType => asked.push(8),
+    with_values(asked.push(e.number()), e.values())
+}
+
+// Only as many as there are.
+pub fn with_values(line: Line, values: Values) -> Line {
+    if values.len == 0 {
+        return line;
     }
+    let one = line.push(values.a);
+    if values.len == 1 {
+        return one;
+    }
+    let two = one.push(values.b);
+    if values.len == 2 {
+        return two;
+    }
+    two.push(values.c)
 }
 
 pub fn counter(asked: Line, answer: CounterAnswer) -> Line {
@@ -192,14 +181,7 @@ pub fn next_operation(asked: Line, answer: NextOperationAnswer) -> Line {
 
 pub fn with_operation(line: Line, op: ScheduledOperation) -> Line {
     let typ = op.typ;
-    with_type(line, typ).push(op.off.0).push(op.len)
-}
-
-fn with_type(line: Line, typ: OperationType) -> Line {
-    match typ {
-        OperationType::Read => line.push(0),
-        OperationType::Write => line.push(1),
-    }
+    line.push(typ.number()).push(op.off.0).push(op.len)
 }
 
 pub fn operations(asked: Line, answer: OperationsAnswer) -> Line {

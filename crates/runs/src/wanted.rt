@@ -12,22 +12,10 @@ use crate::world::World;
 use ends::Got;
 use ends::ReadCounter;
 use ends::ReadingEndAnswer;
-use ends::Refusal;
 use ends::WritingEndAnswer;
 use ends::WrittenCounter;
 use ends::Wrote;
 use sched::Counter;
-
-// The paper's number. Of the scheduler's, 1 to 8, none is wanted here; 0 stands for them, and for a call that is not refused.
-fn number(refusal: Refusal) -> u64 {
-    match refusal {
-        Refusal::Copy(e) => match e {
-            copies::Refusal::RingMemory => 9,
-            copies::Refusal::Scheduler(_) => 0,
-        },
-        Refusal::RanBack => 10,
-    }
-}
 
 // Each end is offered a counter that would take back some of its data, or of its space, where it has any.
 pub fn runs_back(world: World, random: u64) -> World {
@@ -49,7 +37,7 @@ fn reader_runs_back(mut world: World, by: u64) -> World {
     let counter = before(world.len, world.reader.scheduler.items_written.0, by);
     let answer = match world.reader.take(WrittenCounter(Counter(counter))) {
         ReadingEndAnswer::Of(_) => 0,
-        ReadingEndAnswer::Refused(e) => number(e),
+        ReadingEndAnswer::Refused(e) => e.number(),
     };
     world.report = ran_back(world.report, answer);
     world
@@ -59,7 +47,7 @@ fn writer_runs_back(mut world: World, by: u64) -> World {
     let counter = before(world.len, world.writer.scheduler.items_read.0, by);
     let answer = match world.writer.take(ReadCounter(Counter(counter))) {
         WritingEndAnswer::Of(_) => 0,
-        WritingEndAnswer::Refused(e) => number(e),
+        WritingEndAnswer::Refused(e) => e.number(),
     };
     world.report = ran_back(world.report, answer);
     world
@@ -91,7 +79,7 @@ fn writes_wrong(mut world: World, len: u64) -> World {
     let mut memory = marks;
     let answer = match lent::write(world.writer, &mut memory, len, &src, 12) {
         Wrote::Moved { end: _, n: _ } => 0,
-        Wrote::Refused(e) => number(e),
+        Wrote::Refused(e) => e.number(),
     };
     let s = world.writer.scheduler;
     let refused = lent_scheduler::REFUSED;
@@ -106,7 +94,7 @@ fn reads_wrong(mut world: World, len: u64) -> World {
     let mut dst = marks;
     let answer = match lent::read(world.reader, &memory, len, &mut dst, 12) {
         Got::Moved { end: _, n: _ } => 0,
-        Got::Refused(e) => number(e),
+        Got::Refused(e) => e.number(),
     };
     let s = world.reader.scheduler;
     let refused = lent_scheduler::REFUSED;

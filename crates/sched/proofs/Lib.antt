@@ -9,3 +9,4 @@ pub mod Promised
 pub mod Parts
 pub mod PromisedParts
 pub mod PromisedLists
+pub mod PromisedValues

@@ -1,12 +1,14 @@
 -- What each public call says, in the order of the paper: whatever its attached contract allows is this definition of its
 -- arguments. With specs/ these lines are what a reader must believe of this crate.
 use mathlib.Core.Path.{refl}
+use mathlib.Core.List.{[], _∷_}
 use Rattle.modular.proofs.Saying.{Says, Decides, says-decides}
 use Rattle.sched.specs.declared.operation.OperationType.the-variants.{Read, Write}
 use Rattle.sched.specs.Block.{blockOf}
 use Rattle.sched.specs.Diff.{diffOf, isSameOf, isDifferentOf, oldValueOf, newValueOf}
 use Rattle.sched.specs.List.{soundListOf, cumulativeLengthOf, cumulativeOffsetsOf, outsideRangesOf}
 use Rattle.sched.specs.Operation.{operationOf, defaultOperation}
+use Rattle.sched.specs.Refusal.{typeNumber, numberOf, valuesOf, packed}
 use Rattle.sched.specs.Scheduler.{schedulerOf, soundOf, bufLenOf, counterAnswerOf, offsetAnswerOf, greatestOf, isZeroFrom, isPositiveFrom, fillStateOf, layoutOf, blocksOf, block0From, block1From, block2From, offFrom, lenFrom, nextBlockOf, nextOf, scheduleOf, registerOf, registerListOf}
 use Rattle.sched.proofs.scheduler.RingBufferScheduler.try_new.Kinds as try-new-kinds
 use Rattle.sched.proofs.scheduler.RingBufferScheduler.try_new.Reads as try-new
@@ -124,6 +126,20 @@ use Rattle.sched.proofs.diff.Diff.old_value.Kinds as old-value-kinds
 use Rattle.sched.proofs.diff.Diff.old_value.Reads as old-value
 use Rattle.sched.proofs.diff.Diff.new_value.Kinds as new-value-kinds
 use Rattle.sched.proofs.diff.Diff.new_value.Reads as new-value
+use Rattle.sched.proofs.operation.OperationType.number.Kinds as OperationType-number-kinds
+use Rattle.sched.proofs.operation.OperationType.number.Reads as OperationType-number
+use Rattle.sched.proofs.refusal.Refusal.number.Kinds as Refusal-number-kinds
+use Rattle.sched.proofs.refusal.Refusal.number.Reads as Refusal-number
+use Rattle.sched.proofs.refusal.Refusal.values.Kinds as values-kinds
+use Rattle.sched.proofs.refusal.Refusal.values.Reads as values
+use Rattle.sched.proofs.values.Values.none.Kinds as none-kinds
+use Rattle.sched.proofs.values.Values.none.Reads as none
+use Rattle.sched.proofs.values.Values.one.Kinds as one-kinds
+use Rattle.sched.proofs.values.Values.one.Reads as one
+use Rattle.sched.proofs.values.Values.two.Kinds as two-kinds
+use Rattle.sched.proofs.values.Values.two.Reads as two
+use Rattle.sched.proofs.values.Values.three.Kinds as three-kinds
+use Rattle.sched.proofs.values.Values.three.Reads as three
 
 -- ---- the record and its checks
 pub try-new-says : Says 0 try-new-kinds.ps try-new-kinds.r try-new.Learnt (λ κs a. soundOf (schedulerOf (a .0) (record { 0 = 0 }) (record { 0 = 0 })))
@@ -305,6 +321,28 @@ old-value-says κs a z ws p = p
 
 pub new-value-says : Says 0 new-value-kinds.ps new-value-kinds.r new-value.Learnt (λ κs a. newValueOf (a .0))
 new-value-says κs a z ws p = p
+
+-- ---- refusals in numbers
+pub Refusal-number-says : Says 0 Refusal-number-kinds.ps Refusal-number-kinds.r Refusal-number.Learnt (λ κs a. numberOf (a .0))
+Refusal-number-says κs a z ws p = p
+
+pub values-says : Says 0 values-kinds.ps values-kinds.r values.Learnt (λ κs a. packed (valuesOf (a .0)))
+values-says κs a z ws p = p
+
+pub OperationType-number-says : Says 0 OperationType-number-kinds.ps OperationType-number-kinds.r OperationType-number.Learnt (λ κs a. typeNumber (a .0))
+OperationType-number-says κs a z ws p = p
+
+pub none-says : Says 0 none-kinds.ps none-kinds.r none.Learnt (λ κs a. packed [])
+none-says κs a z ws p = p
+
+pub one-says : Says 0 one-kinds.ps one-kinds.r one.Learnt (λ κs a. packed (a .0 ∷ []))
+one-says κs a z ws p = p
+
+pub two-says : Says 0 two-kinds.ps two-kinds.r two.Learnt (λ κs a. packed (a .0 ∷ a .1 .0 ∷ []))
+two-says κs a z ws p = p
+
+pub three-says : Says 0 three-kinds.ps three-kinds.r three.Learnt (λ κs a. packed (a .0 ∷ a .1 .0 ∷ a .1 .1 .0 ∷ []))
+three-says κs a z ws p = p
 
 -- ---- so each contract decides the outcome: any two that it allows are equal. Here for one of them
 schedule-reads-decided : Decides 0 schedule-reads-kinds.ps schedule-reads-kinds.r schedule-reads.Learnt

@@ -6,6 +6,7 @@ mod list;
 mod operation;
 mod refusal;
 mod scheduler;
+mod values;
 
 pub use block::Bit;
 pub use block::Block;
@@ -40,3 +41,4 @@ pub use refusal::Refusal;
 pub use scheduler::Checked;
 pub use scheduler::Registered;
 pub use scheduler::RingBufferScheduler;
+pub use values::Values;

@@ -1,12 +1,25 @@
 // Operations on the ring buffer.
 ghost use mathlib.Core.Path.{_≡_};
 ghost use Rattle.sched.specs.Operation.{operationOf, defaultOperation};
+ghost use Rattle.sched.specs.Refusal.{typeNumber};
 use crate::counter::Offset;
 use crate::refusal::Refusal;
 
 pub enum OperationType {
     Read,
     Write,
+}
+
+impl OperationType {
+    // Its number among a refusal's values.
+    pub fn number(self) -> u64
+        ensures { λ r. ⌜ r ≡ typeNumber self ⌝ }
+    {
+        match self {
+            OperationType::Read => 0,
+            OperationType::Write => 1,
+        }
+    }
 }
 
 // A slice of the ring buffer that is to be read or written. Its offset may be any number: registering does not look at it.

@@ -16,6 +16,7 @@ use Rattle.copies.specs.declared.Refusal.the-variants.{Scheduler, RingMemory}
 use Rattle.ends.specs.Ends.{numberOf, WroteLeft, wroteLeft, GotLeft, gotLeft}
 use Rattle.ends.specs.Plain.{definitions, Demand3-of}
 use Rattle.ends.proofs.Plain.{demand3-plain}
+use Rattle.ends.proofs.PromisedValues.{number-some as end-refusal-some}
 use Rattle.ends.specs.declared.reading_end.Got.{Got}
 use Rattle.ends.specs.declared.reading_end.Got.the-variants as got
 use Rattle.ends.specs.declared.reading_end.ReadCounterAnswer as ends-read-answer
@@ -47,7 +48,6 @@ use Rattle.stripring.specs.declared.flat.WrittenCounter.{WrittenCounter}
 use Rattle.stripring.specs.declared.flat.WrittenCounterAnswer.{WrittenCounterAnswer}
 use Rattle.stripring.proofs.BackLaws.{scheduler-refusal-back}
 use Rattle.stripring.proofs.SaysEnds.{writing-end-write-says, writing-end-send-says, writing-end-take-says, reading-end-read-says, reading-end-send-says, reading-end-take-says}
-use Rattle.stripring.proofs.SentLaws.{end-refusal-some}
 use Rattle.stripring.proofs.writing_end.stripring_writing_end_write.Kinds as write-kinds
 use Rattle.stripring.proofs.writing_end.stripring_writing_end_write.Reads as write
 use Rattle.stripring.proofs.writing_end.stripring_writing_end_send.Kinds as sendW-kinds

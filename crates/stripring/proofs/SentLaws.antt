@@ -4,7 +4,7 @@ use mathlib.Core.Path.{_≡_, refl, ap}
 use mathlib.Core.List.{List, [], _∷_}
 use native.Mathlib.Omega.{arith}
 use borrow.Author.Tests.{ne-eqb}
-use Rattle.sched.proofs.Given.{number-some}
+use Rattle.sched.proofs.Given.{number-some as scheduler-refusal-some}
 use Rattle.sched.specs.Refusal as of-sched
 use Rattle.sched.specs.declared.block.BlockAnswer.{BlockAnswer}
 use Rattle.sched.specs.declared.block.BlockAnswer.the-variants as block
@@ -40,11 +40,13 @@ use Rattle.sched.specs.declared.scheduler.Checked.{Checked}
 use Rattle.sched.specs.declared.scheduler.Checked.the-variants as checked
 use Rattle.sched.specs.declared.scheduler.Registered.{Registered}
 use Rattle.sched.specs.declared.scheduler.Registered.the-variants as registered
+use Rattle.copies.proofs.PromisedValues.{number-some as copy-refusal-some}
 use Rattle.copies.specs.Copies as of-copies
 use Rattle.copies.specs.declared.Copied.{Copied}
 use Rattle.copies.specs.declared.Copied.the-variants as copied
 use Rattle.copies.specs.declared.Refusal as copies
 use Rattle.copies.specs.declared.Refusal.the-variants.{Scheduler, RingMemory}
+use Rattle.ends.proofs.PromisedValues.{number-some as end-refusal-some}
 use Rattle.ends.specs.Ends as of-ends
 use Rattle.ends.specs.declared.reading_end.Got.{Got}
 use Rattle.ends.specs.declared.reading_end.Got.the-variants as got
@@ -60,6 +62,7 @@ use Rattle.ends.specs.declared.writing_end.WrittenCounterAnswer.{WrittenCounter
 use Rattle.ends.specs.declared.writing_end.WrittenCounterAnswer.the-variants as written
 use Rattle.ends.specs.declared.writing_end.Wrote.{Wrote}
 use Rattle.ends.specs.declared.writing_end.Wrote.the-variants as wrote
+use Rattle.receiver.proofs.Given.{number-of as receiver-refusal-some}
 use Rattle.receiver.specs.Refusal as of-receiver
 use Rattle.receiver.specs.declared.call.Step.{Step}
 use Rattle.receiver.specs.declared.call.Step.the-variants as step
@@ -109,36 +112,19 @@ scheduler-refusal (OperationTooLarge t n top) = (refl, refl, refl, refl)
 scheduler-refusal (OperationTooLong n) = (refl, refl, refl, refl)
 scheduler-refusal InconsistentOperationType = (refl, refl, refl, refl)
 
-scheduler-refusal-some : (e : sched.Refusal) → 0 < of-sched.numberOf e
-scheduler-refusal-some e = number-some e
-
 pub copy-refusal : (e : copies.Refusal) → RefusalStands (flatCopyRefusal e) (of-copies.numberOf e) (of-copies.valuesOf e)
 copy-refusal (Scheduler e) = scheduler-refusal e
 copy-refusal RingMemory = (refl, refl, refl, refl)
 
-copy-refusal-some : (e : copies.Refusal) → 0 < of-copies.numberOf e
-copy-refusal-some (Scheduler e) = number-some e
-copy-refusal-some RingMemory = omega arith
-
 pub end-refusal : (e : ends.Refusal) → RefusalStands (flatEndRefusal e) (of-ends.numberOf e) (of-ends.valuesOf e)
 end-refusal (end.Copy e) = copy-refusal e
 end-refusal end.RanBack = (refl, refl, refl, refl)
-
-pub end-refusal-some : (e : ends.Refusal) → 0 < of-ends.numberOf e
-end-refusal-some (end.Copy e) = copy-refusal-some e
-end-refusal-some end.RanBack = omega arith
 
 pub receiver-refusal : (e : receiver.Refusal) → RefusalStands (flatReceiverRefusal e) (of-receiver.numberOf e) (of-receiver.valuesOf e)
 receiver-refusal (Copy e) = copy-refusal e
 receiver-refusal AnswerMissing = (refl, refl, refl, refl)
 receiver-refusal (Misfit place) = (refl, refl, refl, refl)
 receiver-refusal PendingFull = (refl, refl, refl, refl)
-
-receiver-refusal-some : (e : receiver.Refusal) → 0 < of-receiver.numberOf e
-receiver-refusal-some (Copy e) = copy-refusal-some e
-receiver-refusal-some AnswerMissing = omega arith
-receiver-refusal-some (Misfit place) = omega arith
-receiver-refusal-some PendingFull = omega arith
 
 no-starts : StartsStand (startsOf noRefusal 0 0 noOperation 0 noOperation) offsets.None
 no-starts = (refl, (refl, (refl, refl, refl)), (refl, (refl, refl, refl)))

@@ -1,6 +1,6 @@
 // Why a stream fails. Every call tests the failures that it is given.
 ghost use mathlib.Core.Path.{_≡_};
-ghost use Rattle.receiver.specs.State.{violationNumber, normalizeFailureOf, towardsErrorOf};
+ghost use Rattle.receiver.specs.State.{normalizeFailureOf, towardsErrorOf};
 ghost use Rattle.stripring.specs.Failure.{violationAt, failureAt, potentialFailureAt, noFailure, flatFailure, flatFailureAnswer, flatPotentialFailure};
 use crate::flat::Failure;
 use crate::flat::FailureAnswer;
@@ -43,17 +43,6 @@ pub(crate) fn potential_failure(some: u64, f: Failure) -> PotentialFailure
     PotentialFailure::Some(failure(f))
 }
 
-fn violation_number(v: Violation) -> u64
-    ensures { λ r. ⌜ r ≡ violationNumber v ⌝ }
-{
-    match v {
-        Violation::InvalidChunkAnnouncement => 1,
-        Violation::ControlOverflow => 2,
-        Violation::UnknownHeader => 3,
-        Violation::InvalidChunkLength => 4,
-    }
-}
-
 pub(crate) fn no_failure() -> Failure
     ensures { λ r. ⌜ r ≡ noFailure ⌝ }
 {
@@ -67,7 +56,7 @@ pub(crate) fn flat_failure(f: receiver::Failure) -> Failure
         receiver::Failure::Io(value) => Failure { kind: 0, value },
         receiver::Failure::Protocol(v) => Failure {
             kind: 1,
-            value: violation_number(v),
+            value: v.number(),
         },
     }
 }

@@ -1,7 +1,7 @@
 // The flat structs that the libraries' values go out in and a host's come in, with the flat forms of their refusals.
 ghost use mathlib.Core.Path.{_≡_};
-ghost use Rattle.stripring.specs.Flat.{refusalOf, noRefusal, flatRefusal, flatCopyRefusal, flatEndRefusal, flatReceiverRefusal};
-use crate::operation::type_number;
+ghost use Rattle.stripring.specs.Flat.{refusalWith, noRefusal, flatRefusal, flatCopyRefusal, flatEndRefusal, flatReceiverRefusal};
+use sched::Values;
 
 // The number of a refusal and its values, those that it lacks 0. Number 0, with values 0, is no refusal.
 #[repr(C)]
@@ -299,72 +299,49 @@ pub struct EndedAnswer {
     pub used: u64,
 }
 
-fn refusal_of(number: u64, a: u64, b: u64, c: u64) -> Refusal
-    ensures { λ r. ⌜ r ≡ refusalOf number a b c ⌝ }
+// A number with its values.
+fn refusal_with(number: u64, values: Values) -> Refusal
+    ensures { λ r. ⌜ r ≡ refusalWith number values ⌝ }
 {
-    Refusal { number, a, b, c }
+    Refusal {
+        number,
+        a: values.a,
+        b: values.b,
+        c: values.c,
+    }
 }
 
 pub(crate) fn no_refusal() -> Refusal
     ensures { λ r. ⌜ r ≡ noRefusal ⌝ }
 {
-    refusal_of(0, 0, 0, 0)
+    Refusal {
+        number: 0,
+        a: 0,
+        b: 0,
+        c: 0,
+    }
 }
 
 pub(crate) fn flat_refusal(e: sched::Refusal) -> Refusal
     ensures { λ r. ⌜ r ≡ flatRefusal e ⌝ }
 {
-    match e {
-        sched::Refusal::ZeroBufferLength => refusal_of(1, 0, 0, 0),
-        sched::Refusal::BufferTooLarge { buf_len } => refusal_of(2, buf_len, 0, 0),
-        sched::Refusal::ItemsWrittenOutOfBounds {
-            buf_len,
-            items_written,
-        } => refusal_of(3, buf_len, items_written.0, 0),
-        sched::Refusal::ItemsReadOutofBounds {
-            buf_len,
-            items_read,
-        } => refusal_of(4, buf_len, items_read.0, 0),
-        sched::Refusal::DataAvailOutOfBounds {
-            buf_len,
-            items_written,
-            items_read,
-        } => refusal_of(5, buf_len, items_written.0, items_read.0),
-        sched::Refusal::OperationTooLarge {
-            op_type,
-            op_len,
-            max_len,
-        } => refusal_of(6, type_number(op_type), op_len, max_len),
-        sched::Refusal::OperationTooLong { excess } => refusal_of(7, excess, 0, 0),
-        sched::Refusal::InconsistentOperationType => refusal_of(8, 0, 0, 0),
-    }
+    refusal_with(e.number(), e.values())
 }
 
 pub(crate) fn flat_copy_refusal(e: copies::Refusal) -> Refusal
     ensures { λ r. ⌜ r ≡ flatCopyRefusal e ⌝ }
 {
-    match e {
-        copies::Refusal::Scheduler(e) => flat_refusal(e),
-        copies::Refusal::RingMemory => refusal_of(9, 0, 0, 0),
-    }
+    refusal_with(e.number(), e.values())
 }
 
 pub(crate) fn flat_end_refusal(e: ends::Refusal) -> Refusal
     ensures { λ r. ⌜ r ≡ flatEndRefusal e ⌝ }
 {
-    match e {
-        ends::Refusal::Copy(e) => flat_copy_refusal(e),
-        ends::Refusal::RanBack => refusal_of(10, 0, 0, 0),
-    }
+    refusal_with(e.number(), e.values())
 }
 
 pub(crate) fn flat_receiver_refusal(e: receiver::Refusal) -> Refusal
     ensures { λ r. ⌜ r ≡ flatReceiverRefusal e ⌝ }
 {
-    match e {
-        receiver::Refusal::Copy(e) => flat_copy_refusal(e),
-        receiver::Refusal::AnswerMissing => refusal_of(11, 0, 0, 0),
-        receiver::Refusal::Misfit { place } => refusal_of(12, place, 0, 0),
-        receiver::Refusal::PendingFull => refusal_of(13, 0, 0, 0),
-    }
+    refusal_with(e.number(), e.values())
 }

@@ -1,6 +1,5 @@
 // Operations.
 ghost use mathlib.Core.Path.{_≡_};
-ghost use Rattle.sched.specs.Refusal.{typeNumber};
 ghost use Rattle.sched.specs.Operation.{operationOf, defaultOperation};
 ghost use Rattle.stripring.specs.Operation.{typeAt, operationAt, noOperation, flatOperation, flatNext};
 use crate::flat::NextAnswer;
@@ -12,15 +11,6 @@ use sched::NextOperationAnswer;
 use sched::Offset;
 use sched::OperationType;
 use sched::ScheduledOperation;
-
-pub(crate) fn type_number(typ: OperationType) -> u64
-    ensures { λ r. ⌜ r ≡ typeNumber typ ⌝ }
-{
-    match typ {
-        OperationType::Read => 0,
-        OperationType::Write => 1,
-    }
-}
 
 pub(crate) fn operation_type(op: u64) -> OperationType
     ensures { λ r. ⌜ r ≡ typeAt op ⌝ }
@@ -52,7 +42,7 @@ pub(crate) fn flat_operation(o: ScheduledOperation) -> Operation
 {
     let typ = o.typ;
     Operation {
-        typ: type_number(typ),
+        typ: typ.number(),
         off: o.off.0,
         len: o.len,
     }

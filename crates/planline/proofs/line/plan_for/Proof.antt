@@ -15,14 +15,14 @@ enum-known-list c = search needs
 enum-known-e : tie.Need-enum-known-e
 enum-known-e c = search needs
 
-number-of-requires : tie.Need-number-of-requires
-number-of-requires c κs = search needs
+number-requires : tie.Need-number-requires
+number-requires c κs = search needs
 
 returns : tie.Need-returns
 returns c = ap planAfter (sym (c .before .list .given .1) ∙ c .before .before .before .schedule-contiguous-operations .ensures)
 
 returns-2 : tie.Need-returns-2
-returns-2 c = ap plan.Refused (c .number-of .ensures) ∙ ap planAfter (sym (c .before .before .e .given .1) ∙ c .before .before .before .before .schedule-contiguous-operations .ensures)
+returns-2 c = ap plan.Refused (c .number .ensures) ∙ ap planAfter (sym (c .before .before .e .given .1) ∙ c .before .before .before .before .schedule-contiguous-operations .ensures)
 
 pub plan-for-spec : {M : Type 1} → statement M
 plan-for-spec =
@@ -31,6 +31,6 @@ plan-for-spec =
     schedule-contiguous-operations-requires
     enum-known-list
     enum-known-e
-    number-of-requires
+    number-requires
     returns
     returns-2)

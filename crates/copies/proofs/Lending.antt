@@ -83,10 +83,10 @@ module _ (Ts : Types) where
   abbrev pub svals : S .D → List Val
   svals = LL.vals S S-laws
 
-  abbrev tₛ : Ty
+  abbrev pub tₛ : Ty
   tₛ = layout (shape S)
 
-  abbrev tₖ : Ty
+  abbrev pub tₖ : Ty
   tₖ = tyStruct (Ts .name) (tcons tₛ (tcons t₀ tnil))
 
   abbrev kval : Kr .Denot → Val
@@ -98,7 +98,7 @@ module _ (Ts : Types) where
   Closed 𝓤 κ q s r tokens last = ‵ (To .own (told r) (told-val (told r) ∷ [])) ∷ ‵ (fobs (s .name) (St .coded .code (kept r))) ∷ ‵ (fbor κ (SemTy.Body (mem St) (s .ptr .0) (s .ptr .1) (s .name))) ∷ ‵ (flft κ q) ∷ tokens ∷ last ∷ []
 
   -- ---- the MIR: the locals, where those of the two slices are of the types t₂ and t₃, the copy of the record, and what follows the call
-  abbrev ref : Ty
+  abbrev pub ref : Ty
   ref = tyRef (named 0) mut (pointee (St .written))
 
   abbrev pub function : Ty → Ty → Body → Fn

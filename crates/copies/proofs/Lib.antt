@@ -1,7 +1,10 @@
 pub mod Ring
 pub mod Laws
 pub mod Calls
-mod Lending
+pub mod Lending
+pub mod LentWrite
+pub mod LentRead
+mod LendingScheduler
 pub mod Says
 pub mod Promised
 pub mod PromisedValues

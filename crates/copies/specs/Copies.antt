@@ -1,14 +1,13 @@
 -- What a copy answers, and what it leaves in the lent memory.
-use Prim.Native.Nat.{ℕ, _+_, _≤_, min}
+use Prim.Native.Nat.{ℕ, _+_, min}
 use mathlib.Core.Bool.{cond}
 use mathlib.Core.List.{List, [], _++_}
 use lib.Dec.{eqb}
 use lib.ListN.{length, take, drop}
-use Rattle.sched.specs.declared.list.ScheduledOperations.{ScheduledOperations}
-use Rattle.sched.specs.declared.list.ScheduledOperations.the-variants.{None, One, Two}
 use Rattle.sched.specs.declared.operation.OperationType.the-variants.{Read, Write}
 use Rattle.sched.specs.declared.scheduler.Checked.{Checked}
 use Rattle.sched.specs.declared.scheduler.Checked.the-variants as checked
+use Rattle.sched.specs.declared.scheduler.Move.{Move}
 use Rattle.sched.specs.declared.scheduler.RingBufferScheduler.{RingBufferScheduler}
 use Rattle.sched.specs.Refusal as sched
 use Rattle.sched.specs.Scheduler.{soundOf, dataIn, spaceIn, offsetIn, advancedIn}
@@ -74,25 +73,13 @@ writeOf s ring src = writeFrom ring src (readyOf s (length ring))
 abbrev pub readOf : RingBufferScheduler → List ℕ → List ℕ → Left
 readOf s ring dst = readFrom ring dst (readyOf s (length ring))
 
--- ---- the copies of a list of operations, piece by piece
+-- ---- the parts of a copy
+-- what a move comes to, once its bytes are copied
+abbrev pub movedBy : Move → Copied
+movedBy m = copied.Moved (m .scheduler) (m .len)
+
 abbrev pub part : List ℕ → ℕ → ℕ → List ℕ
 part xs a n = take n (drop a xs)
 
 abbrev pub pasted : List ℕ → ℕ → List ℕ → List ℕ
 pasted xs at bs = take at xs ++ (bs ++ drop (at + length bs) xs)
-
--- each operation lies in a ring of r bytes, and together they are no longer than m bytes
-abbrev pub Fits : ScheduledOperations → ℕ → ℕ → Type 0
-Fits None r m = Unit {0}
-Fits (One a) r m = (a .off .0 + a .len ≤ r) × (a .len ≤ m)
-Fits (Two a b) r m = (a .off .0 + a .len ≤ r) × (b .off .0 + b .len ≤ r) × (a .len + b .len ≤ m)
-
-abbrev pub putList : ScheduledOperations → List ℕ → List ℕ → List ℕ
-putList None ring src = ring
-putList (One a) ring src = pasted ring (a .off .0) (part src 0 (a .len))
-putList (Two a b) ring src = pasted (pasted ring (a .off .0) (part src 0 (a .len))) (b .off .0) (part src (a .len) (b .len))
-
-abbrev pub getList : ScheduledOperations → List ℕ → List ℕ → List ℕ
-getList None ring dst = dst
-getList (One a) ring dst = pasted dst 0 (part ring (a .off .0) (a .len))
-getList (Two a b) ring dst = pasted (pasted dst 0 (part ring (a .off .0) (a .len))) (a .len) (part ring (b .off .0) (b .len))

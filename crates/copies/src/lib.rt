@@ -1,17 +1,18 @@
-// Byte copies between the ring's lent memory and a caller's slice, by value over the scheduler (`lent`: over a lent one). A copy moves
-// the bytes that the scheduler schedules and registers them. The lent memory is written last, once nothing can be refused any more.
+// Byte copies between the ring's lent memory and a caller's slice, by value over the scheduler (`lent`: over a lent one). A copy asks the
+// scheduler once, which tests its record and answers where, how many, and the scheduler after. The lent memory is written last, once
+// nothing can be refused any more.
 ghost use mathlib.Core.Path.{_≡_};
-ghost use Prim.Native.Nat.{_+_, _≤_};
-ghost use lib.ListN.{length};
-ghost use Rattle.sched.specs.List.{totalIn};
+ghost use mathlib.Core.List.{_++_};
+ghost use Prim.Native.Nat.{_+_, _≤_, _<_};
+ghost use lib.ListN.{length, take, drop};
 ghost use Rattle.sched.specs.Refusal.{packed};
-ghost use Rattle.sched.specs.Scheduler.{IsSound};
-ghost use Rattle.copies.specs.Copies.{numberOf, valuesOf, pasted, part, Fits, putList, getList, left, readyOf, writeIn, writeOf, readIn, readOf};
+ghost use Rattle.copies.specs.Ring.{put, get};
+ghost use Rattle.copies.specs.Copies.{numberOf, valuesOf, pasted, part, left, readyOf, movedBy, writeOf, readOf};
 use sched::Checked;
-use sched::OperationsAnswer;
-use sched::Registered;
+use sched::Move;
+use sched::MoveAnswer;
+use sched::OperationType;
 use sched::RingBufferScheduler;
-use sched::ScheduledOperations;
 use sched::Values;
 
 mod lent;
@@ -76,13 +77,19 @@ pub fn demand_ring_memory(scheduler: RingBufferScheduler, ring_len: usize) -> Re
     }
 }
 
-// Moves the first bytes of `src` into the ring, as many as there is space for.
+// Moves the first bytes of `src` into the ring, as many as there is space for: 1 to 5, then 9, and then it is not refused any more.
 pub fn write(scheduler: RingBufferScheduler, ring: &mut [u8], src: &[u8]) -> Copied
     ensures { λ r. ⌜ left r (now (ring .exit)) ≡ writeOf scheduler (now (ring .entry)) (now (src .entry)) ⌝ }
 {
-    match demand_ring_memory(scheduler, ring.len()) {
-        Ready::Sound(s) => write_ready(s, ring, src),
-        Ready::Refused(e) => Copied::Refused(e),
+    match scheduler.schedule_and_register(OperationType::Write, src.len() as u64) {
+        MoveAnswer::Of(m) => {
+            if ring.len() as u64 != scheduler.buf_len {
+                return Copied::Refused(Refusal::RingMemory);
+            }
+            put_round(src, ring, m.off.0 as usize, m.len as usize);
+            moved(m)
+        }
+        MoveAnswer::Refused(e) => Copied::Refused(Refusal::Scheduler(e)),
     }
 }
 
@@ -90,82 +97,54 @@ pub fn write(scheduler: RingBufferScheduler, ring: &mut [u8], src: &[u8]) -> Cop
 pub fn read(scheduler: RingBufferScheduler, ring: &[u8], dst: &mut [u8]) -> Copied
     ensures { λ r. ⌜ left r (now (dst .exit)) ≡ readOf scheduler (now (ring .entry)) (now (dst .entry)) ⌝ }
 {
-    match demand_ring_memory(scheduler, ring.len()) {
-        Ready::Sound(s) => read_ready(s, ring, dst),
-        Ready::Refused(e) => Copied::Refused(e),
-    }
-}
-
-fn write_ready(s: RingBufferScheduler, ring: &mut [u8], src: &[u8]) -> Copied
-    requires { ⌜ IsSound s × (length (now ring) ≡ s .«buf_len») ⌝ }
-    ensures { λ r. ⌜ left r (now (ring .exit)) ≡ writeIn s (now (ring .entry)) (now (src .entry)) ⌝ }
-{
-    match s.schedule_writes(src.len() as u64) {
-        OperationsAnswer::Of(list) => match s.try_register_operations(list) {
-            Registered::Advanced(scheduler) => {
-                let n = put_list(list, ring, src);
-                Copied::Moved { scheduler, n }
+    match scheduler.schedule_and_register(OperationType::Read, dst.len() as u64) {
+        MoveAnswer::Of(m) => {
+            if ring.len() as u64 != scheduler.buf_len {
+                return Copied::Refused(Refusal::RingMemory);
             }
-            Registered::Refused(e) => Copied::Refused(Refusal::Scheduler(e)),
-        },
-        OperationsAnswer::Refused(e) => Copied::Refused(Refusal::Scheduler(e)),
+            get_round(ring, m.off.0 as usize, dst, m.len as usize);
+            moved(m)
+        }
+        MoveAnswer::Refused(e) => Copied::Refused(Refusal::Scheduler(e)),
     }
 }
 
-fn read_ready(s: RingBufferScheduler, ring: &[u8], dst: &mut [u8]) -> Copied
-    requires { ⌜ IsSound s × (length (now ring) ≡ s .«buf_len») ⌝ }
-    ensures { λ r. ⌜ left r (now (dst .exit)) ≡ readIn s (now (ring .entry)) (now (dst .entry)) ⌝ }
+fn moved(m: Move) -> Copied
+    ensures { λ r. ⌜ r ≡ movedBy m ⌝ }
 {
-    match s.schedule_reads(dst.len() as u64) {
-        OperationsAnswer::Of(list) => match s.try_register_operations(list) {
-            Registered::Advanced(scheduler) => {
-                let n = get_list(list, ring, dst);
-                Copied::Moved { scheduler, n }
-            }
-            Registered::Refused(e) => Copied::Refused(Refusal::Scheduler(e)),
-        },
-        OperationsAnswer::Refused(e) => Copied::Refused(Refusal::Scheduler(e)),
+    let scheduler = m.scheduler;
+    Copied::Moved {
+        scheduler,
+        n: m.len,
     }
 }
 
-// The operations' places in the ring, one after the other, are filled from the front of `src`.
-fn put_list(list: ScheduledOperations, ring: &mut [u8], src: &[u8]) -> u64
-    requires { ⌜ Fits list (length (now ring)) (length (now src)) ⌝ }
-    ensures { λ r. ⌜ r ≡ totalIn list ⌝ }
-    ensures { λ _. ⌜ now (ring .exit) ≡ putList list (now (ring .entry)) (now (src .entry)) ⌝ }
+// The first n bytes of `src` go to the ring's places from `at` on, and go on at its start where it ends.
+fn put_round(src: &[u8], ring: &mut [u8], at: usize, n: usize)
+    requires { ⌜ (at < length (now ring)) × (n ≤ length (now ring)) × (n ≤ length (now src)) ⌝ }
+    ensures { λ _. ⌜ now (ring .exit) ≡ put (length (now (ring .entry))) (now (ring .entry)) at (take n (now (src .entry))) ⌝ }
 {
-    match list {
-        ScheduledOperations::None => 0,
-        ScheduledOperations::One(a) => {
-            copy_part(src, 0, ring, a.off.0 as usize, a.len as usize);
-            a.len
-        }
-        ScheduledOperations::Two(a, b) => {
-            copy_part(src, 0, ring, a.off.0 as usize, a.len as usize);
-            copy_part(src, a.len as usize, ring, b.off.0 as usize, b.len as usize);
-            a.len + b.len
-        }
+    let room = ring.len() - at;
+    if n <= room {
+        copy_part(src, 0, ring, at, n);
+        return;
     }
+    copy_part(src, 0, ring, at, room);
+    copy_part(src, room, ring, 0, n - room);
 }
 
-// The operations' places in the ring, one after the other, go to the front of `dst`.
-fn get_list(list: ScheduledOperations, ring: &[u8], dst: &mut [u8]) -> u64
-    requires { ⌜ Fits list (length (now ring)) (length (now dst)) ⌝ }
-    ensures { λ r. ⌜ r ≡ totalIn list ⌝ }
-    ensures { λ _. ⌜ now (dst .exit) ≡ getList list (now (ring .entry)) (now (dst .entry)) ⌝ }
+// The n bytes at the ring's places from `at` on, which go on at its start where it ends, go to the front of `dst`.
+fn get_round(ring: &[u8], at: usize, dst: &mut [u8], n: usize)
+    requires { ⌜ (at < length (now ring)) × (n ≤ length (now ring)) × (n ≤ length (now dst)) ⌝ }
+    ensures { λ _. ⌜ now (dst .exit) ≡ get (length (now (ring .entry))) (now (ring .entry)) at n ++ drop n (now (dst .entry)) ⌝ }
 {
-    match list {
-        ScheduledOperations::None => 0,
-        ScheduledOperations::One(a) => {
-            copy_part(ring, a.off.0 as usize, dst, 0, a.len as usize);
-            a.len
-        }
-        ScheduledOperations::Two(a, b) => {
-            copy_part(ring, a.off.0 as usize, dst, 0, a.len as usize);
-            copy_part(ring, b.off.0 as usize, dst, a.len as usize, b.len as usize);
-            a.len + b.len
-        }
+    let room = ring.len() - at;
+    if n <= room {
+        copy_part(ring, at, dst, 0, n);
+        return;
     }
+    copy_part(ring, at, dst, 0, room);
+    copy_part(ring, 0, dst, room, n - room);
 }
 
 // The n bytes of `from` at a become those of `to` at b.

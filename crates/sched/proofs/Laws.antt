@@ -20,6 +20,8 @@ use Rattle.sched.specs.declared.refusal.Refusal.the-variants.{ZeroBuffer
 use Rattle.sched.specs.declared.scheduler.Checked.{Checked}
 use Rattle.sched.specs.declared.scheduler.Checked.the-variants as checked
 use Rattle.sched.specs.declared.scheduler.RingBufferScheduler.{RingBufferScheduler}
+use Rattle.sched.specs.declared.scheduler.Move.{Move}
+use Rattle.sched.specs.declared.scheduler.MoveAnswer.the-variants as moves
 use Rattle.sched.specs.declared.scheduler.Registered.the-variants as registered
 use Rattle.sched.specs.declared.operation.ScheduledOperation.{ScheduledOperation}
 use Rattle.sched.specs.declared.operation.NextOperation.the-variants as next
@@ -28,7 +30,7 @@ use Rattle.sched.specs.declared.list.ScheduledOperations.the-variants as
 use Rattle.sched.specs.declared.list.OperationsAnswer.the-variants as operations
 use Rattle.sched.specs.List.{sameTypeOf, soundTwoOf, soundListOf, Summed}
 use Rattle.sched.specs.Operation.{operationOf}
-use Rattle.sched.specs.Scheduler.{counterIn, Sized, IsSound, soundOf, dataIn, offsetIn, greatestIn, layoutIn, nextBlockIn, someOf, nextIn, cutOf, scheduleIn, advancedIn, registerIn}
+use Rattle.sched.specs.Scheduler.{counterIn, Sized, IsSound, soundOf, dataIn, offsetIn, greatestIn, layoutIn, nextBlockIn, someOf, nextIn, cutOf, scheduleIn, advancedIn, registerIn, moveIn, moveFrom, moveOf}
 
 -- ---- the modulus of the counters
 module _ (l : ℕ) (h : Sized l) (m : Modulus) (e : m ≡ record { 0 = l }) where
@@ -470,3 +472,22 @@ summed l (list.Two a b) p = go (ltb (2 ^ 64 - 1) (a .len + b .len)) refl (sameTy
     go true q y p = let z : _≡_ {A = ℕ} 0 1 = cc in absurd (omega arith)
     go false q true p = let e : l ≡ list.Two a b = cc in rw e (omega (arith, ltb-false, q))
     go false q false p = let z : _≡_ {A = ℕ} 0 1 = cc in absurd (omega arith)
+
+-- ---- a move is of a sound record, or refused as the tests refuse
+module _ (s : RingBufferScheduler) (t : OperationType) (m : ℕ) where
+  pub move-of : (v : Move) → moves.Of v ≡ moveOf s t m → IsSound s × (v ≡ moveIn s t m)
+  move-of v p = go (soundOf s) refl p
+    where
+      go : (c : Checked) → soundOf s ≡ c → moves.Of v ≡ moveFrom t m c → IsSound s × (v ≡ moveIn s t m)
+      go (checked.Sound u) q p =
+          let b : IsSound s × (u ≡ s) = sound-both u s (sym q) in
+          let e : v ≡ moveIn u t m = cc in
+          (b .0, e ∙ ap (λ (x : RingBufferScheduler). moveIn x t m) (b .1))
+      go (checked.Refused e) q p = let z : _≡_ {A = ℕ} 0 1 = cc in absurd (omega arith)
+
+  pub move-refused : (e : Refusal) → moves.Refused e ≡ moveOf s t m → soundOf s ≡ checked.Refused e
+  move-refused e p = go (soundOf s) refl p
+    where
+      go : (c : Checked) → soundOf s ≡ c → moves.Refused e ≡ moveFrom t m c → soundOf s ≡ checked.Refused e
+      go (checked.Sound u) q p = let z : _≡_ {A = ℕ} 0 1 = cc in absurd (omega arith)
+      go (checked.Refused r) q p = let f : e ≡ r = cc in q ∙ ap checked.Refused (sym f)

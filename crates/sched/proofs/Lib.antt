@@ -6,6 +6,7 @@ pub mod GivenLists
 pub mod Refuses
 pub mod Counting
 pub mod Promised
+pub mod PromisedMoves
 pub mod Parts
 pub mod PromisedParts
 pub mod PromisedLists

@@ -3,12 +3,12 @@
 use mathlib.Core.Path.{refl}
 use Rattle.modular.proofs.Saying.{Keeps}
 use Rattle.sched.specs.declared.operation.OperationType.the-variants.{Read, Write}
-use Rattle.sched.specs.Given.{Exactly, Given, GivenRegister, GivenList, GivenOperations, ofChecked, ofRegistered, ofAmount, ofBool, ofCounter, ofOffset, ofFillState, ofLayout, ofBlock, ofBlocks, ofNext, ofOperations, ofCumulativeOffsets, ofOutsideRanges}
+use Rattle.sched.specs.Given.{Exactly, Given, GivenRegister, GivenList, GivenOperations, ofChecked, ofRegistered, ofMove, ofAmount, ofBool, ofCounter, ofOffset, ofFillState, ofLayout, ofBlock, ofBlocks, ofNext, ofOperations, ofCumulativeOffsets, ofOutsideRanges}
 use Rattle.sched.specs.List.{cumulativeLengthFrom, cumulativeOffsetsFrom, outsideRangesFrom}
-use Rattle.sched.specs.Scheduler.{schedulerOf, bufLenFrom, counterFrom, offsetFrom, greatestFrom, isZeroFrom, isPositiveFrom, fillStateFrom, layoutFrom, blocksFrom, block0From, block1From, block2From, offFrom, lenFrom, nextBlockFrom, nextFrom, scheduleFrom}
+use Rattle.sched.specs.Scheduler.{schedulerOf, bufLenFrom, counterFrom, offsetFrom, greatestFrom, isZeroFrom, isPositiveFrom, fillStateFrom, layoutFrom, blocksFrom, block0From, block1From, block2From, offFrom, lenFrom, nextBlockFrom, nextFrom, scheduleFrom, moveFrom}
 use Rattle.sched.proofs.Given.{record-exactly, tested, register-exactly}
 use Rattle.sched.proofs.GivenLists.{list-exactly, listed, operations-exactly}
-use Rattle.sched.proofs.Says.{try-new-says, try-from-counters-says, demand-soundness-says, buf-len-says, is-zero-sized-says, items-read-says, items-written-says, operation-counter-says, read-off-says, write-off-says, operation-offset-says, data-avail-says, space-avail-says, max-operation-len-says, fill-state-says, is-empty-says, is-full-says, is-nonempty-says, is-nonfull-says, layout-says, blocks-says, block-0-says, block-1-says, block-2-says, block-0-off-says, block-1-off-says, block-2-off-says, block-0-len-says, block-1-len-says, block-2-len-says, next-operation-block-says, next-read-block-says, next-write-block-says, schedule-next-contiguous-operation-says, schedule-next-read-says, schedule-next-write-says, schedule-contiguous-operations-says, schedule-reads-says, schedule-writes-says, try-register-read-says, try-register-write-says, try-register-operation-manually-says, try-register-operation-says, try-register-operations-says, ScheduledOperations-try-new-says, container-says, into-container-says, cumulative-operation-length-says, with-cumulative-offset-says, with-outside-buffer-range-says}
+use Rattle.sched.proofs.Says.{try-new-says, try-from-counters-says, demand-soundness-says, buf-len-says, is-zero-sized-says, items-read-says, items-written-says, operation-counter-says, read-off-says, write-off-says, operation-offset-says, data-avail-says, space-avail-says, max-operation-len-says, fill-state-says, is-empty-says, is-full-says, is-nonempty-says, is-nonfull-says, layout-says, blocks-says, block-0-says, block-1-says, block-2-says, block-0-off-says, block-1-off-says, block-2-off-says, block-0-len-says, block-1-len-says, block-2-len-says, next-operation-block-says, next-read-block-says, next-write-block-says, schedule-next-contiguous-operation-says, schedule-next-read-says, schedule-next-write-says, schedule-contiguous-operations-says, schedule-reads-says, schedule-writes-says, try-register-read-says, try-register-write-says, try-register-operation-manually-says, try-register-operation-says, try-register-operations-says, schedule-and-register-says, ScheduledOperations-try-new-says, container-says, into-container-says, cumulative-operation-length-says, with-cumulative-offset-says, with-outside-buffer-range-says}
 use Rattle.sched.proofs.scheduler.RingBufferScheduler.try_new.Kinds as try-new-kinds
 use Rattle.sched.proofs.scheduler.RingBufferScheduler.try_new.Reads as try-new
 use Rattle.sched.proofs.scheduler.RingBufferScheduler.try_from_counters.Kinds as try-from-counters-kinds
@@ -97,6 +97,8 @@ use Rattle.sched.proofs.scheduler.RingBufferScheduler.try_register_oper
 use Rattle.sched.proofs.scheduler.RingBufferScheduler.try_register_operation.Reads as try-register-operation
 use Rattle.sched.proofs.scheduler.RingBufferScheduler.try_register_operations.Kinds as try-register-operations-kinds
 use Rattle.sched.proofs.scheduler.RingBufferScheduler.try_register_operations.Reads as try-register-operations
+use Rattle.sched.proofs.scheduler.RingBufferScheduler.schedule_and_register.Kinds as schedule-and-register-kinds
+use Rattle.sched.proofs.scheduler.RingBufferScheduler.schedule_and_register.Reads as schedule-and-register
 use Rattle.sched.proofs.list.ScheduledOperations.try_new.Kinds as ScheduledOperations-try-new-kinds
 use Rattle.sched.proofs.list.ScheduledOperations.try_new.Reads as ScheduledOperations-try-new
 use Rattle.sched.proofs.list.ScheduledOperations.container.Kinds as container-kinds
@@ -228,6 +230,9 @@ schedule-reads-refuses κs a z q = rw (schedule-reads-says κs a z (q .0) (q .1)
 
 pub schedule-writes-refuses : Keeps 0 schedule-writes-kinds.ps schedule-writes-kinds.r schedule-writes.Learnt (λ κs a z. Exactly (Given (a .0)) (ofOperations z))
 schedule-writes-refuses κs a z q = rw (schedule-writes-says κs a z (q .0) (q .1)) (tested ofOperations (scheduleFrom Write (a .1 .0)) (λ s. refl) (λ e. refl) (a .0))
+
+pub schedule-and-register-refuses : Keeps 0 schedule-and-register-kinds.ps schedule-and-register-kinds.r schedule-and-register.Learnt (λ κs a z. Exactly (Given (a .0)) (ofMove z))
+schedule-and-register-refuses κs a z q = rw (schedule-and-register-says κs a z (q .0) (q .1)) (tested ofMove (moveFrom (a .1 .0) (a .1 .1 .0)) (λ s. refl) (λ e. refl) (a .0))
 
 -- ---- registering: then 6
 pub try-register-read-refuses : Keeps 0 try-register-read-kinds.ps try-register-read-kinds.r try-register-read.Learnt (λ κs a z. Exactly (GivenRegister (a .0) Read (a .1 .0)) (ofRegistered z))

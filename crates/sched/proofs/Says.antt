@@ -9,7 +9,7 @@ use Rattle.sched.specs.Diff.{diffOf, isSameOf, isDifferentOf, oldValueOf
 use Rattle.sched.specs.List.{soundListOf, cumulativeLengthOf, cumulativeOffsetsOf, outsideRangesOf}
 use Rattle.sched.specs.Operation.{operationOf, defaultOperation}
 use Rattle.sched.specs.Refusal.{typeNumber, numberOf, valuesOf, packed}
-use Rattle.sched.specs.Scheduler.{schedulerOf, soundOf, bufLenOf, counterAnswerOf, offsetAnswerOf, greatestOf, isZeroFrom, isPositiveFrom, fillStateOf, layoutOf, blocksOf, block0From, block1From, block2From, offFrom, lenFrom, nextBlockOf, nextOf, scheduleOf, registerOf, registerListOf}
+use Rattle.sched.specs.Scheduler.{schedulerOf, soundOf, bufLenOf, counterAnswerOf, offsetAnswerOf, greatestOf, isZeroFrom, isPositiveFrom, fillStateOf, layoutOf, blocksOf, block0From, block1From, block2From, offFrom, lenFrom, nextBlockOf, nextOf, scheduleOf, registerOf, registerListOf, moveOf}
 use Rattle.sched.proofs.scheduler.RingBufferScheduler.try_new.Kinds as try-new-kinds
 use Rattle.sched.proofs.scheduler.RingBufferScheduler.try_new.Reads as try-new
 use Rattle.sched.proofs.scheduler.RingBufferScheduler.try_from_counters.Kinds as try-from-counters-kinds
@@ -104,6 +104,8 @@ use Rattle.sched.proofs.scheduler.RingBufferScheduler.try_register_oper
 use Rattle.sched.proofs.scheduler.RingBufferScheduler.try_register_operation.Reads as try-register-operation
 use Rattle.sched.proofs.scheduler.RingBufferScheduler.try_register_operations.Kinds as try-register-operations-kinds
 use Rattle.sched.proofs.scheduler.RingBufferScheduler.try_register_operations.Reads as try-register-operations
+use Rattle.sched.proofs.scheduler.RingBufferScheduler.schedule_and_register.Kinds as schedule-and-register-kinds
+use Rattle.sched.proofs.scheduler.RingBufferScheduler.schedule_and_register.Reads as schedule-and-register
 use Rattle.sched.proofs.list.ScheduledOperations.try_new.Kinds as ScheduledOperations-try-new-kinds
 use Rattle.sched.proofs.list.ScheduledOperations.try_new.Reads as ScheduledOperations-try-new
 use Rattle.sched.proofs.list.ScheduledOperations.container.Kinds as container-kinds
@@ -286,6 +288,9 @@ try-register-operation-says κs a z ws p = p
 
 pub try-register-operations-says : Says 0 try-register-operations-kinds.ps try-register-operations-kinds.r try-register-operations.Learnt (λ κs a. registerListOf (a .0) (a .1 .0))
 try-register-operations-says κs a z ws p = p
+
+pub schedule-and-register-says : Says 0 schedule-and-register-kinds.ps schedule-and-register-kinds.r schedule-and-register.Learnt (λ κs a. moveOf (a .0) (a .1 .0) (a .1 .1 .0))
+schedule-and-register-says κs a z ws p = p
 
 -- ---- the two-place list
 pub ScheduledOperations-try-new-says : Says 0 ScheduledOperations-try-new-kinds.ps ScheduledOperations-try-new-kinds.r ScheduledOperations-try-new.Learnt (λ κs a. soundListOf (a .0))

@@ -34,6 +34,8 @@ use Rattle.sched.specs.declared.operation.ScheduledOperation.{ScheduledO
 use Rattle.sched.specs.declared.refusal.Refusal.{Refusal}
 use Rattle.sched.specs.declared.scheduler.Checked.{Checked}
 use Rattle.sched.specs.declared.scheduler.Checked.the-variants as checked
+use Rattle.sched.specs.declared.scheduler.MoveAnswer.{MoveAnswer}
+use Rattle.sched.specs.declared.scheduler.MoveAnswer.the-variants as moves
 use Rattle.sched.specs.declared.scheduler.Registered.{Registered}
 use Rattle.sched.specs.declared.scheduler.Registered.the-variants as registered
 use Rattle.sched.specs.declared.scheduler.RingBufferScheduler.{RingBufferScheduler}
@@ -117,6 +119,10 @@ ofChecked (checked.Refused e) = refused e
 abbrev pub ofRegistered : Registered → Verdict
 ofRegistered (registered.Advanced s) = accepted
 ofRegistered (registered.Refused e) = refused e
+
+abbrev pub ofMove : MoveAnswer → Verdict
+ofMove (moves.Of v) = accepted
+ofMove (moves.Refused e) = refused e
 
 abbrev pub ofAmount : AmountAnswer → Verdict
 ofAmount (amount.Of n) = accepted

@@ -14,6 +14,9 @@ use Rattle.sched.specs.declared.operation.NextOperationAnswer.the-varian
 use Rattle.sched.specs.declared.operation.OperationType.{OperationType}
 use Rattle.sched.specs.declared.operation.OperationType.the-variants.{Read, Write}
 use Rattle.sched.specs.declared.operation.ScheduledOperation.{ScheduledOperation}
+use Rattle.sched.specs.declared.scheduler.Move.{Move}
+use Rattle.sched.specs.declared.scheduler.MoveAnswer.{MoveAnswer}
+use Rattle.sched.specs.declared.scheduler.MoveAnswer.the-variants as moves
 use Rattle.sched.specs.declared.scheduler.Registered.{Registered}
 use Rattle.sched.specs.declared.scheduler.Registered.the-variants as registered
 use Rattle.sched.specs.declared.scheduler.RingBufferScheduler.{RingBufferScheduler}
@@ -133,3 +136,15 @@ pub data MovedByList (s : RingBufferScheduler) : ScheduledOperations → RingBuf
   by-none : MovedByList s list.None s
   by-one : {a : ScheduledOperation} {u : RingBufferScheduler} → MovedBy s (a .typ) (a .len) u → MovedByList s (list.One a) u
   by-two : {a b : ScheduledOperation} {u : RingBufferScheduler} (v : RingBufferScheduler) → MovedBy s (a .typ) (a .len) v → MovedBy v (b .typ) (b .len) u → MovedByList s (list.Two a b) u
+
+-- ---- scheduling and registering at once
+-- it starts at the offset; no more is moved than is asked and there, and all of one of the two; and just that is registered
+pub record MovePromise (s : RingBufferScheduler) (t : OperationType) (m : ℕ) (v : Move) : Type 0 where
+  pub starts : v .off ≡ offsetIn s t
+  pub asked : v .len ≤ m
+  pub there : v .len ≤ greatestIn s t
+  pub all : (v .len ≡ m) ⊎ (v .len ≡ greatestIn s t)
+  pub registered : MovedBy s t (v .len) (v .scheduler)
+
+abbrev pub MovesAtOnce : RingBufferScheduler → OperationType → ℕ → MoveAnswer → Type 0
+MovesAtOnce s t m z = IsSound s → (v : Move) × (z ≡ moves.Of v) × MovePromise s t m v

@@ -42,6 +42,9 @@ use Rattle.sched.specs.declared.operation.ScheduledOperation.{ScheduledO
 use Rattle.sched.specs.declared.refusal.Refusal.the-variants.{ZeroBufferLength, BufferTooLarge, ItemsWrittenOutOfBounds, ItemsReadOutofBounds, DataAvailOutOfBounds, OperationTooLarge}
 use Rattle.sched.specs.declared.scheduler.Checked.{Checked}
 use Rattle.sched.specs.declared.scheduler.Checked.the-variants as checked
+use Rattle.sched.specs.declared.scheduler.Move.{Move}
+use Rattle.sched.specs.declared.scheduler.MoveAnswer.{MoveAnswer}
+use Rattle.sched.specs.declared.scheduler.MoveAnswer.the-variants as moves
 use Rattle.sched.specs.declared.scheduler.Registered.{Registered}
 use Rattle.sched.specs.declared.scheduler.Registered.the-variants as registered
 use Rattle.sched.specs.declared.scheduler.RingBufferScheduler.{RingBufferScheduler}
@@ -169,6 +172,10 @@ registerListIn s list.None = registered.Advanced s
 registerListIn s (list.One a) = registerIn s (a .typ) (a .len)
 registerListIn s (list.Two a b) = thenRegister (registerIn s (a .typ) (a .len)) b
 
+-- ---- scheduling and registering at once: from the offset, the smaller of m and the greatest length, and the scheduler after it
+abbrev pub moveIn : RingBufferScheduler → OperationType → ℕ → Move
+moveIn s t m = record { off = offsetIn s t; len = min m (greatestIn s t); scheduler = advancedIn s t (min m (greatestIn s t)) }
+
 -- ---- what the calls answer: the first refusal of the tests, else the above
 abbrev pub bufLenFrom : Checked → AmountAnswer
 bufLenFrom (checked.Sound s) = amount.Of (s .«buf_len»)
@@ -286,3 +293,10 @@ registerListFrom ops (checked.Refused e) = registered.Refused e
 
 abbrev pub registerListOf : RingBufferScheduler → ScheduledOperations → Registered
 registerListOf s ops = registerListFrom ops (soundOf s)
+
+abbrev pub moveFrom : OperationType → ℕ → Checked → MoveAnswer
+moveFrom t m (checked.Sound s) = moves.Of (moveIn s t m)
+moveFrom t m (checked.Refused e) = moves.Refused e
+
+abbrev pub moveOf : RingBufferScheduler → OperationType → ℕ → MoveAnswer
+moveOf s t m = moveFrom t m (soundOf s)

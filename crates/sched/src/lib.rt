@@ -39,6 +39,8 @@ pub use operation::OperationType;
 pub use operation::ScheduledOperation;
 pub use refusal::Refusal;
 pub use scheduler::Checked;
+pub use scheduler::Move;
+pub use scheduler::MoveAnswer;
 pub use scheduler::Registered;
 pub use scheduler::RingBufferScheduler;
 pub use values::Values;

@@ -4,7 +4,7 @@ ghost use mathlib.Core.Path.{_≡_};
 ghost use Prim.Native.Nat.{_*_, _<_, _≤_, min, max};
 ghost use Rattle.modular.specs.Modulus.{wholeOf};
 ghost use Rattle.sched.specs.Counter.{offsetOf, laterOf};
-ghost use Rattle.sched.specs.Scheduler.{cutOf, schedulerOf, Sized, IsSound, soundOf, dataIn, counterIn, offsetIn, greatestIn, fillStateIn, layoutIn, lowIn, highIn, blocksIn, nextBlockIn, someOf, nextIn, scheduleIn, advancedIn, registerIn, registerListIn, bufLenOf, counterAnswerOf, offsetAnswerOf, greatestOf, isZeroFrom, isPositiveFrom, fillStateOf, layoutOf, blocksOf, block0From, block1From, block2From, offFrom, lenFrom, nextBlockOf, nextOf, scheduleOf, registerOf, registerListOf};
+ghost use Rattle.sched.specs.Scheduler.{cutOf, schedulerOf, Sized, IsSound, soundOf, dataIn, counterIn, offsetIn, greatestIn, fillStateIn, layoutIn, lowIn, highIn, blocksIn, nextBlockIn, someOf, nextIn, scheduleIn, advancedIn, registerIn, registerListIn, bufLenOf, counterAnswerOf, offsetAnswerOf, greatestOf, isZeroFrom, isPositiveFrom, fillStateOf, layoutOf, blocksOf, block0From, block1From, block2From, offFrom, lenFrom, nextBlockOf, nextOf, scheduleOf, registerOf, registerListOf, moveIn, moveOf};
 use crate::block::Bit;
 use crate::block::Block;
 use crate::block::BlockAnswer;
@@ -46,6 +46,19 @@ pub enum Checked {
 // The scheduler after an operation, or why there is none.
 pub enum Registered {
     Advanced(RingBufferScheduler),
+    Refused(Refusal),
+}
+
+// All that is asked and there, scheduled and registered at once: `len` items from `off` on, which may go round the buffer's end, and the
+// scheduler after them.
+pub struct Move {
+    pub off: Offset,
+    pub len: u64,
+    pub scheduler: RingBufferScheduler,
+}
+
+pub enum MoveAnswer {
+    Of(Move),
     Refused(Refusal),
 }
 
@@ -532,6 +545,19 @@ impl RingBufferScheduler {
         self.schedule_contiguous_operations(OperationType::Write, src_len)
     }
 
+    // ---- scheduling and registering at once
+
+    // What `schedule_contiguous_operations` answers, uncut, and what `try_register_operations` of that answers, from one test of the
+    // record.
+    pub fn schedule_and_register(self, op: OperationType, max_len: u64) -> MoveAnswer
+        ensures { λ r. ⌜ r ≡ moveOf self op «max_len» ⌝ }
+    {
+        match self.demand_soundness() {
+            Checked::Sound(s) => MoveAnswer::Of(s.move_in(op, max_len)),
+            Checked::Refused(e) => MoveAnswer::Refused(e),
+        }
+    }
+
     // ---- of a sound scheduler
 
     fn data(self) -> u64
@@ -692,6 +718,20 @@ impl RingBufferScheduler {
                 items_read,
                 items_written: later(items_written, buf_len, n),
             },
+        }
+    }
+
+    fn move_in(self, op: OperationType, max_len: u64) -> Move
+        requires { ⌜ IsSound self ⌝ }
+        ensures { λ r. ⌜ r ≡ moveIn self op «max_len» ⌝ }
+    {
+        let off = self.off(op);
+        let len = least(max_len, self.greatest(op));
+        let scheduler = self.advanced(op, len);
+        Move {
+            off,
+            len,
+            scheduler,
         }
     }
 

@@ -1,20 +1,29 @@
--- The tests' refusal leaves all as it was; else the copy is of the scheduler that they took.
+-- The record's refusal, then that of the memory, leave all as it was; else the scheduler's move is made.
 use mathlib.Core.Path.{sym, _∙_}
-use Rattle.copies.proofs.Laws.{ready-is}
+use Rattle.copies.proofs.Laws.{refused-by-record, refused-by-memory, move-fits, got}
+use Rattle.sched.specs.declared.operation.OperationType.the-variants.{Read}
 use borrow.Author.Needs.{needs}
 use Rattle.copies.proofs.read.Statement.{statement}
 use Rattle.copies.proofs.read.Tie as tie
 
-demand-ring-memory-requires : tie.Need-demand-ring-memory-requires
-demand-ring-memory-requires c κs = search needs
+schedule-and-register-requires : tie.Need-schedule-and-register-requires
+schedule-and-register-requires c κs = search needs
 
-enum-known-s : tie.Need-enum-known-s
-enum-known-s c = search needs
+enum-known-m : tie.Need-enum-known-m
+enum-known-m c = search needs
 
-read-ready-requires : tie.Need-read-ready-requires
-read-ready-requires c κs =
-    let k = ready-is _ _ _ (sym (c .before .before .s .given .1) ∙ c .before .before .before .before .demand-ring-memory .ensures) in
-    (k .0, k .1)
+returns : tie.Need-returns
+returns c =
+    let at-m = c .before .before .before in
+    rw (refused-by-memory _ Read _ _ _ (sym (at-m .m .given .1) ∙ at-m .before .before .schedule-and-register .ensures) (c .if1 .taken))
+
+get-round-requires : tie.Need-get-round-requires
+get-round-requires c κs =
+    let at-m = c .before .before .before .before in
+    move-fits _ Read _ _ _ (sym (at-m .m .given .1) ∙ at-m .before .before .schedule-and-register .ensures) (c .before .if1 .left)
+
+moved-requires : tie.Need-moved-requires
+moved-requires c κs = search needs
 
 enum-known-e : tie.Need-enum-known-e
 enum-known-e c = search needs
@@ -22,20 +31,27 @@ enum-known-e c = search needs
 same-length : tie.Need-same-length
 same-length c = search needs
 
-returns : tie.Need-returns
-returns c = rw (← (sym (c .before .before .before .before .before .s .given .1) ∙ c .before .before .before .before .before .before .before .demand-ring-memory .ensures)) (c .before .before .read-ready .ensures)
-
 returns-2 : tie.Need-returns-2
-returns-2 c = rw (← (sym (c .before .e .given .1) ∙ c .before .before .before .demand-ring-memory .ensures))
+returns-2 c =
+    let at-m = c .before .before .before .before .before .before .before .before in
+    let s = at-m .before .before .before .before .before .args in
+    got _ (s .ring .now) (s .dst .now) (c .before .before .before .before .before .if1 .left) _ _ _ (c .moved .ensures) (sym (at-m .m .given .1) ∙ at-m .before .before .schedule-and-register .ensures) (c .before .before .before .get-round .ensures)
+
+returns-3 : tie.Need-returns-3
+returns-3 c =
+    let at-e = c .before in
+    rw (refused-by-record _ Read _ _ _ (sym (at-e .e .given .1) ∙ at-e .before .before .schedule-and-register .ensures))
 
 pub read-spec : {M : Type 1} → statement M
 read-spec =
     tie.close
     (tie.spec
-    demand-ring-memory-requires
-    enum-known-s
-    read-ready-requires
+    schedule-and-register-requires
+    enum-known-m
+    returns
+    get-round-requires
+    moved-requires
     enum-known-e
     same-length
-    returns
-    returns-2)
+    returns-2
+    returns-3)

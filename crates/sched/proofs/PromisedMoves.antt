@@ -1,0 +1,84 @@
+-- Of the call that schedules and registers at once: every outcome that its attached contract allows is what the two calls that it
+-- stands for answer, and what `MovePromise` of specs/ says in other words than the definition.
+use Prim.Native.Nat.{ℕ, min}
+use mathlib.Core.Path.{_≡_, refl, sym, ap, _∙_}
+use mathlib.Core.Logic.{_⊎_, inl, inr, ⊎-elim}
+use native.Mathlib.Omega.{arith}
+use Rattle.modular.proofs.Laws.{lt-or-le}
+use Rattle.modular.proofs.Saying.{Allows, Keeps}
+use Rattle.sched.specs.declared.list.OperationsAnswer.{OperationsAnswer}
+use Rattle.sched.specs.declared.list.OperationsAnswer.the-variants as operations
+use Rattle.sched.specs.declared.list.ScheduledOperations.{ScheduledOperations}
+use Rattle.sched.specs.declared.operation.OperationType.{OperationType}
+use Rattle.sched.specs.declared.refusal.Refusal.{Refusal}
+use Rattle.sched.specs.declared.scheduler.Move.{Move}
+use Rattle.sched.specs.declared.scheduler.MoveAnswer.{MoveAnswer}
+use Rattle.sched.specs.declared.scheduler.MoveAnswer.the-variants as moves
+use Rattle.sched.specs.declared.scheduler.Registered.{Registered}
+use Rattle.sched.specs.declared.scheduler.Registered.the-variants as registered
+use Rattle.sched.specs.declared.scheduler.RingBufferScheduler.{RingBufferScheduler}
+use Rattle.sched.specs.Promise.{MovePromise, MovesAtOnce}
+use Rattle.sched.specs.Scheduler.{IsSound, greatestIn, cutOf, scheduleIn, scheduleFrom, registerListOf, moveIn, moveFrom}
+use Rattle.sched.proofs.Counting.{moved}
+use Rattle.sched.proofs.Laws.{sound-is, move-of, move-refused}
+use Rattle.sched.proofs.Promises.{scheduling}
+use Rattle.sched.proofs.Promised.{Schedule}
+use Rattle.sched.proofs.Says.{schedule-and-register-says, schedule-contiguous-operations-says, try-register-operations-says}
+use Rattle.sched.proofs.scheduler.RingBufferScheduler.schedule_and_register.Kinds as schedule-and-register-kinds
+use Rattle.sched.proofs.scheduler.RingBufferScheduler.schedule_and_register.Reads as schedule-and-register
+use Rattle.sched.proofs.scheduler.RingBufferScheduler.try_register_operations.Kinds as try-register-operations-kinds
+use Rattle.sched.proofs.scheduler.RingBufferScheduler.try_register_operations.Reads as try-register-operations
+
+abbrev pub ScheduleAndRegister : RingBufferScheduler → OperationType → ℕ → MoveAnswer → Type 0
+ScheduleAndRegister s t m z = Allows 0 schedule-and-register-kinds.ps schedule-and-register-kinds.r schedule-and-register.Learnt tt (s, (t, (m, tt))) z
+
+-- ---- in other words
+all-of-one : (m g : ℕ) → (min m g ≡ m) ⊎ (min m g ≡ g)
+all-of-one m g = ⊎-elim (λ l. inl (omega arith)) (λ l. inr (omega arith)) (lt-or-le m g)
+
+move-keeps : (s : RingBufferScheduler) → IsSound s → (t : OperationType) (m : ℕ) → MovePromise s t m (moveIn s t m)
+move-keeps s h t m =
+    record {
+      starts = refl;
+      asked = omega arith;
+      there = omega arith;
+      all = all-of-one m (greatestIn s t);
+      registered = moved s h (min m (greatestIn s t)) t (omega arith);
+    }
+
+pub move-promised : Keeps 0 schedule-and-register-kinds.ps schedule-and-register-kinds.r schedule-and-register.Learnt (λ κs a z. MovesAtOnce (a .0) (a .1 .0) (a .1 .1 .0) z)
+move-promised κs a z q h = (
+  moveIn (a .0) (a .1 .0) (a .1 .1 .0),
+  schedule-and-register-says κs a z (q .0) (q .1) ∙ ap (moveFrom (a .1 .0) (a .1 .1 .0)) (sym (sound-is (a .0) h)),
+  move-keeps (a .0) h (a .1 .0) (a .1 .1 .0),
+)
+
+-- ---- of the two calls that it stands for
+module _ (s : RingBufferScheduler) (t : OperationType) (m : ℕ) where
+  module _ (v : Move) (p : ScheduleAndRegister s t m (moves.Of v)) where
+    is : IsSound s × (v ≡ moveIn s t m)
+    is = move-of s t m v (schedule-and-register-says tt (s, (t, (m, tt))) (moves.Of v) (p .0) (p .1))
+
+    scheduled : (z : OperationsAnswer) → Schedule s t m z → z ≡ operations.Of (scheduleIn s t m)
+    scheduled z q = schedule-contiguous-operations-says tt (s, (t, (m, tt))) z (q .0) (q .1) ∙ ap (scheduleFrom t m) (sym (sound-is s (is .0)))
+
+    -- cut where the buffer ends it is the list that is scheduled
+    pub move-cut : (z : OperationsAnswer) → Schedule s t m z → z ≡ operations.Of (cutOf t (s .«buf_len») (v .off) (v .len))
+    move-cut z q = scheduled z q ∙ ap (λ (x : Move). operations.Of (cutOf t (s .«buf_len») (x .off) (x .len))) (sym (is .1))
+
+    -- and registering that list answers its scheduler
+    pub move-registers :
+        (ops : ScheduledOperations) → Schedule s t m (operations.Of ops) →
+        (z : Registered) → Allows 0 try-register-operations-kinds.ps try-register-operations-kinds.r try-register-operations.Learnt tt (s, (ops, tt)) z →
+        z ≡ registered.Advanced (v .scheduler)
+    move-registers ops q z r =
+        let e : operations.Of ops ≡ operations.Of (scheduleIn s t m) = scheduled (operations.Of ops) q in
+        let o : ops ≡ scheduleIn s t m = cc in
+        try-register-operations-says tt (s, (ops, tt)) z (r .0) (r .1) ∙ ap (registerListOf s) o ∙ scheduling s (is .0) t m .registers
+        ∙ ap (λ (x : Move). registered.Advanced (x .scheduler)) (sym (is .1))
+
+  -- it is refused as scheduling is
+  pub move-refused-too : (e : Refusal) → ScheduleAndRegister s t m (moves.Refused e) → (z : OperationsAnswer) → Schedule s t m z → z ≡ operations.Refused e
+  move-refused-too e p z q =
+      schedule-contiguous-operations-says tt (s, (t, (m, tt))) z (q .0) (q .1)
+      ∙ ap (scheduleFrom t m) (move-refused s t m e (schedule-and-register-says tt (s, (t, (m, tt))) (moves.Refused e) (p .0) (p .1)))

@@ -1,7 +1,7 @@
 -- "Given exactly when", 1 to 5, 9 and 11 to 13, of every export of the receiver, of a call in progress, and of states and failures:
 -- whatever its attached contract allows carries a refusal exactly when the table gives it, of what the host's numbers stand for.
 use Prim.Native.Nat.{ℕ}
-use mathlib.Core.Path.{_≡_, refl, subst, _∙_}
+use mathlib.Core.Path.{_≡_, refl, sym, subst, _∙_}
 use mathlib.Core.List.{List, []}
 use mathlib.Core.Logic.{Dec·and, by-cases}
 use lib.ListN.{length}
@@ -18,7 +18,7 @@ use Rattle.receiver.specs.State.{advanceOf, failureOf, normalizeFailureOf, norm
 use Rattle.receiver.specs.declared.admission.Memory.the-variants as memory
 use Rattle.receiver.specs.declared.answer.Answer.{Answer}
 use Rattle.receiver.specs.declared.receiver.Ended.{Ended}
-use Rattle.receiver.specs.declared.receiver.Outcome.{Outcome}
+use Rattle.receiver.specs.declared.receiver.Ended.the-variants as ended
 use Rattle.receiver.specs.declared.receiver.ReceiverState.{ReceiverState}
 use Rattle.receiver.specs.declared.state.OperationalState.{OperationalState}
 use Rattle.receiver.specs.declared.state.OperationalState.the-variants.{Normal}

@@ -274,6 +274,12 @@ typedef struct stripring_got_answer {
   uint64_t n;
 } stripring_got_answer;
 
+/* What a copy in place answers: how many bytes were moved. The end after it is in the host's struct. */
+typedef struct stripring_moved_answer {
+  stripring_refusal refusal;
+  uint64_t n;
+} stripring_moved_answer;
+
 typedef struct stripring_written_counter_answer {
   stripring_refusal refusal;
   stripring_written_counter counter;
@@ -323,7 +329,11 @@ typedef struct stripring_step_answer {
 /* ---- The two ends: refused with 1 to 5, and with what is named ----
  *
  * Both are made with one length and start empty. A host writes, sends the counter to the other process, and takes the one
- * that comes back; counters may be lost, late or repeated. */
+ * that comes back; counters may be lost, late or repeated.
+ *
+ * A call that moves bytes or takes a counter comes twice: by value, with the end after it in the answer, and in place, which
+ * changes the host's struct. `end` may not be NULL there, and lies in no memory that the call is lent beside it. A refused
+ * call leaves the struct as it was. */
 
 /* An empty writing end of a ring of buf_len bytes. */
 stripring_writing_end_answer stripring_writing_end_new(uint64_t buf_len);
@@ -339,11 +349,18 @@ stripring_writing_end_answer stripring_writing_end_from_scheduler(stripring_sche
 stripring_wrote_answer stripring_writing_end_write(stripring_writing_end e, uint8_t *ring, size_t ring_len,
                                                    const uint8_t *src, size_t src_len);
 
+/* The same, and the end after it is stored in *end. 9. */
+stripring_moved_answer stripring_writing_end_write_in_place(stripring_writing_end *end, uint8_t *ring, size_t ring_len,
+                                                            const uint8_t *src, size_t src_len);
+
 /* The counter to send to the reading end. */
 stripring_written_counter_answer stripring_writing_end_send(stripring_writing_end e);
 
 /* Takes a counter of the reading end's; 10 if the space would be smaller than before. 3 to 5 are tested with it too. */
 stripring_writing_end_answer stripring_writing_end_take(stripring_writing_end e, stripring_read_counter counter);
+
+/* The same, and the end with the counter is stored in *end. 10. */
+stripring_refusal stripring_writing_end_take_in_place(stripring_writing_end *end, stripring_read_counter counter);
 
 /* An empty reading end of a ring of buf_len bytes. */
 stripring_reading_end_answer stripring_reading_end_new(uint64_t buf_len);
@@ -359,11 +376,18 @@ stripring_reading_end_answer stripring_reading_end_from_scheduler(stripring_sche
 stripring_got_answer stripring_reading_end_read(stripring_reading_end e, const uint8_t *ring, size_t ring_len,
                                                 uint8_t *dst, size_t dst_len);
 
+/* The same, and the end after it is stored in *end. 9. */
+stripring_moved_answer stripring_reading_end_read_in_place(stripring_reading_end *end, const uint8_t *ring, size_t ring_len,
+                                                           uint8_t *dst, size_t dst_len);
+
 /* The counter to send to the writing end. */
 stripring_read_counter_answer stripring_reading_end_send(stripring_reading_end e);
 
 /* Takes a counter of the writing end's; 10 if the data would be less than before. 3 to 5 are tested with it too. */
 stripring_reading_end_answer stripring_reading_end_take(stripring_reading_end e, stripring_written_counter counter);
+
+/* The same, and the end with the counter is stored in *end. 10. */
+stripring_refusal stripring_reading_end_take_in_place(stripring_reading_end *end, stripring_written_counter counter);
 
 /* ---- Copies by a scheduler: refused with 1 to 5, then 9 ---- */
 

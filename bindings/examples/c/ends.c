@@ -31,9 +31,8 @@ static enum came receive_counter(int socket, int flags, uint64_t *counter) {
 }
 
 static size_t write_some(struct camera *c, stripring_writing_end *end, const uint8_t *src, size_t len) {
-  stripring_wrote_answer wrote = stripring_writing_end_write(*end, c->ring, c->ring_len, src, len);
+  stripring_moved_answer wrote = stripring_writing_end_write_in_place(end, c->ring, c->ring_len, src, len);
   demand(wrote.refusal);
-  *end = wrote.end;
   return wrote.n;
 }
 
@@ -48,9 +47,7 @@ static enum came take_counter(struct camera *c, stripring_writing_end *end, int 
   enum came came = receive_counter(c->socket, flags, &counter.counter);
   if (came != COUNTER)
     return came;
-  stripring_writing_end_answer taken = stripring_writing_end_take(*end, counter);
-  demand(taken.refusal);
-  *end = taken.end;
+  demand(stripring_writing_end_take_in_place(end, counter));
   return came;
 }
 
@@ -99,9 +96,8 @@ void film_by_ends(struct camera *c) {
 }
 
 static size_t read_some(struct classifier *c, stripring_reading_end *end) {
-  stripring_got_answer got = stripring_reading_end_read(*end, c->ring, c->ring_len, next_place(c), next_len(c));
+  stripring_moved_answer got = stripring_reading_end_read_in_place(end, c->ring, c->ring_len, next_place(c), next_len(c));
   demand(got.refusal);
-  *end = got.end;
   return got.n;
 }
 
@@ -112,14 +108,14 @@ static void tell_camera(struct classifier *c, stripring_reading_end end) {
 }
 
 void classify_by_ends(struct classifier *c) {
-  stripring_reading_end_answer taken = stripring_reading_end_new(c->ring_len);
-  demand(taken.refusal);
+  stripring_reading_end_answer made = stripring_reading_end_new(c->ring_len);
+  demand(made.refusal);
+  stripring_reading_end end = made.end;
   stripring_written_counter counter;
   while (receive_counter(c->socket, 0, &counter.counter) == COUNTER) {
-    taken = stripring_reading_end_take(taken.end, counter);
-    demand(taken.refusal);
-    for (size_t n; (n = read_some(c, &taken.end)) > 0;)
+    demand(stripring_reading_end_take_in_place(&end, counter));
+    for (size_t n; (n = read_some(c, &end)) > 0;)
       classified(c, n);
-    tell_camera(c, taken.end);
+    tell_camera(c, end);
   }
 }

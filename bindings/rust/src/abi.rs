@@ -271,6 +271,13 @@ pub struct GotAnswer {
 
 #[repr(C)]
 #[derive(Clone, Copy, Debug, Default, PartialEq, Eq)]
+pub struct MovedAnswer {
+    pub refusal: Refusal,
+    pub n: u64,
+}
+
+#[repr(C)]
+#[derive(Clone, Copy, Debug, Default, PartialEq, Eq)]
 pub struct WrittenCounterAnswer {
     pub refusal: Refusal,
     pub counter: WrittenCounter,
@@ -343,9 +350,17 @@ unsafe extern "C" {
         src: *const u8,
         src_len: usize,
     ) -> WroteAnswer;
+    fn stripring_writing_end_write_in_place(
+        end: *mut WritingEnd,
+        ring: *mut u8,
+        ring_len: usize,
+        src: *const u8,
+        src_len: usize,
+    ) -> MovedAnswer;
     pub safe fn stripring_writing_end_send(e: WritingEnd) -> WrittenCounterAnswer;
     pub safe fn stripring_writing_end_take(e: WritingEnd, counter: ReadCounter)
     -> WritingEndAnswer;
+    fn stripring_writing_end_take_in_place(end: *mut WritingEnd, counter: ReadCounter) -> Refusal;
     pub safe fn stripring_reading_end_new(buf_len: u64) -> ReadingEndAnswer;
     pub safe fn stripring_reading_end_from_counters(
         buf_len: u64,
@@ -360,11 +375,22 @@ unsafe extern "C" {
         dst: *mut u8,
         dst_len: usize,
     ) -> GotAnswer;
+    fn stripring_reading_end_read_in_place(
+        end: *mut ReadingEnd,
+        ring: *const u8,
+        ring_len: usize,
+        dst: *mut u8,
+        dst_len: usize,
+    ) -> MovedAnswer;
     pub safe fn stripring_reading_end_send(e: ReadingEnd) -> ReadCounterAnswer;
     pub safe fn stripring_reading_end_take(
         e: ReadingEnd,
         counter: WrittenCounter,
     ) -> ReadingEndAnswer;
+    fn stripring_reading_end_take_in_place(
+        end: *mut ReadingEnd,
+        counter: WrittenCounter,
+    ) -> Refusal;
     fn stripring_copies_write(
         s: Scheduler,
         ring: *mut u8,
@@ -546,6 +572,28 @@ pub fn writing_end_write(e: WritingEnd, ring: &mut [u8], src: &[u8]) -> WroteAns
 
 pub fn reading_end_read(e: ReadingEnd, ring: &[u8], dst: &mut [u8]) -> GotAnswer {
     unsafe { stripring_reading_end_read(e, ring.as_ptr(), ring.len(), dst.as_mut_ptr(), dst.len()) }
+}
+
+pub fn writing_end_write_in_place(end: &mut WritingEnd, ring: &mut [u8], src: &[u8]) -> MovedAnswer {
+    let (ring_len, src_len) = (ring.len(), src.len());
+    unsafe {
+        stripring_writing_end_write_in_place(end, ring.as_mut_ptr(), ring_len, src.as_ptr(), src_len)
+    }
+}
+
+pub fn writing_end_take_in_place(end: &mut WritingEnd, counter: ReadCounter) -> Refusal {
+    unsafe { stripring_writing_end_take_in_place(end, counter) }
+}
+
+pub fn reading_end_read_in_place(end: &mut ReadingEnd, ring: &[u8], dst: &mut [u8]) -> MovedAnswer {
+    let (ring_len, dst_len) = (ring.len(), dst.len());
+    unsafe {
+        stripring_reading_end_read_in_place(end, ring.as_ptr(), ring_len, dst.as_mut_ptr(), dst_len)
+    }
+}
+
+pub fn reading_end_take_in_place(end: &mut ReadingEnd, counter: WrittenCounter) -> Refusal {
+    unsafe { stripring_reading_end_take_in_place(end, counter) }
 }
 
 pub fn copies_write(s: Scheduler, ring: &mut [u8], src: &[u8]) -> CopyAnswer {

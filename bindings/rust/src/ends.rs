@@ -54,9 +54,10 @@ impl WritingEnd {
 
     /// Writes as much of `src` as this end knows to be free.
     pub fn write(&mut self, ring: &mut [u8], src: &[u8]) -> Result<usize, Refusal> {
-        let a = abi::writing_end_write(self.flat(), ring, src);
-        *self = accepted(a.refusal, Self::of(a.end))?;
-        Ok(a.n as usize)
+        let mut end = self.flat();
+        let a = abi::writing_end_write_in_place(&mut end, ring, src);
+        *self = Self::of(end);
+        accepted(a.refusal, a.n as usize)
     }
 
     /// The counter to send to the reading end.
@@ -67,9 +68,10 @@ impl WritingEnd {
 
     /// Takes a counter that the reading end sent.
     pub fn take(&mut self, ReadCounter(counter): ReadCounter) -> Result<(), Refusal> {
-        let a = abi::stripring_writing_end_take(self.flat(), abi::ReadCounter { counter });
-        *self = accepted(a.refusal, Self::of(a.end))?;
-        Ok(())
+        let mut end = self.flat();
+        let refusal = abi::writing_end_take_in_place(&mut end, abi::ReadCounter { counter });
+        *self = Self::of(end);
+        accepted(refusal, ())
     }
 
     /// How many bytes this end knows to be free.
@@ -141,9 +143,10 @@ impl ReadingEnd {
 
     /// Fills the first bytes of `dst` with as much as this end knows to be there; the rest of `dst` stays.
     pub fn read(&mut self, ring: &[u8], dst: &mut [u8]) -> Result<usize, Refusal> {
-        let a = abi::reading_end_read(self.flat(), ring, dst);
-        *self = accepted(a.refusal, Self::of(a.end))?;
-        Ok(a.n as usize)
+        let mut end = self.flat();
+        let a = abi::reading_end_read_in_place(&mut end, ring, dst);
+        *self = Self::of(end);
+        accepted(a.refusal, a.n as usize)
     }
 
     /// The counter to send to the writing end.
@@ -154,9 +157,10 @@ impl ReadingEnd {
 
     /// Takes a counter that the writing end sent.
     pub fn take(&mut self, WrittenCounter(counter): WrittenCounter) -> Result<(), Refusal> {
-        let a = abi::stripring_reading_end_take(self.flat(), abi::WrittenCounter { counter });
-        *self = accepted(a.refusal, Self::of(a.end))?;
-        Ok(())
+        let mut end = self.flat();
+        let refusal = abi::reading_end_take_in_place(&mut end, abi::WrittenCounter { counter });
+        *self = Self::of(end);
+        accepted(refusal, ())
     }
 
     /// How many bytes this end knows to be there.

@@ -4,6 +4,8 @@ pub mod AnyBits
 pub mod SentLaws
 pub mod FlatRun
 pub mod FlatReading
+mod InPlaceLaws
+mod InPlaceTypes
 pub mod SaysEnds
 pub mod SaysReceiver
 pub mod SaysScheduler

@@ -1,11 +1,20 @@
 -- What each export of the ends and of the copies says, in the order of the C header: whatever its attached contract allows is the
 -- flat form of this definition of what the host's numbers stand for, and what it leaves in the lent memory is this one.
-use mathlib.Core.Path.{ap}
+use Prim.Native.Nat.{ℕ}
+use mathlib.Core.Path.{_≡_, ap}
+use mathlib.Core.List.{List}
 use Rattle.modular.proofs.Saying.{Says, Leaves}
 use Rattle.copies.specs.Copies.{readOf, writeOf}
 use Rattle.ends.specs.Ends.{gotOf, readingEndOf, readSentOf, takeReadOf, takeWrittenOf, writingEndOf, writtenSentOf, wroteOf}
 use Rattle.sched.specs.Scheduler.{schedulerOf}
 use Rattle.stripring.specs.Copy.{CopyAnswerLeft, flatCopied}
+use Rattle.stripring.specs.declared.flat.MovedAnswer.{MovedAnswer}
+use Rattle.stripring.specs.declared.flat.ReadCounter.{ReadCounter}
+use Rattle.stripring.specs.declared.flat.ReadingEnd.{ReadingEnd}
+use Rattle.stripring.specs.declared.flat.Refusal.{Refusal}
+use Rattle.stripring.specs.declared.flat.WritingEnd.{WritingEnd}
+use Rattle.stripring.specs.declared.flat.WrittenCounter.{WrittenCounter}
+use Rattle.stripring.specs.InPlace.{movedWrote, writerAfter, WriteInPlace, writerRefusal, writerTook, TakeReadInPlace, movedGot, readerAfter, ReadInPlace, readerRefusal, readerTook, TakeWrittenInPlace}
 use Rattle.stripring.specs.ReadingEnd.{flatGot, flatReadCounter, flatReadingEndAnswer, GotAnswerLeft, readCounterAt, readingEndAt}
 use Rattle.stripring.specs.Scheduler.{schedulerAt}
 use Rattle.stripring.specs.WritingEnd.{flatWritingEndAnswer, flatWrittenCounter, flatWrote, writingEndAt, writtenCounterAt, WroteAnswerLeft}
@@ -90,3 +99,20 @@ pub copies-read-says : Leaves 2 copies-read-kinds.ps copies-read-kinds.r copies-
     (λ κs a. flatCopied (readOf (schedulerAt (a .0)) (a .1 .0 .now) (a .1 .1 .0 .now) .answer))
     (λ κs a. (tt, (tt, (readOf (schedulerAt (a .0)) (a .1 .0 .now) (a .1 .1 .0 .now) .memory, tt))))
 copies-read-says κs a z ws p = (ap (λ (x : CopyAnswerLeft). x .answer) p, ap (λ (x : CopyAnswerLeft). (tt, (tt, (x .memory, tt)))) p)
+
+-- ---- in place: the toolchain reads no such contract, so each cites one predicate of its outcome
+pub writing-end-write-in-place-says : (e : WritingEnd) (ring src : List ℕ) (r : MovedAnswer) (after : WritingEnd) (memory : List ℕ) → WriteInPlace e ring src r after memory →
+    (r ≡ movedWrote (wroteOf (writingEndAt e) ring src .answer)) × (after ≡ writerAfter e (wroteOf (writingEndAt e) ring src .answer)) × (memory ≡ wroteOf (writingEndAt e) ring src .memory)
+writing-end-write-in-place-says e ring src r after memory p = p
+
+pub writing-end-take-in-place-says : (e : WritingEnd) (c : ReadCounter) (r : Refusal) (after : WritingEnd) → TakeReadInPlace e c r after →
+    (r ≡ writerRefusal (takeReadOf (writingEndAt e) (readCounterAt c))) × (after ≡ writerTook e (takeReadOf (writingEndAt e) (readCounterAt c)))
+writing-end-take-in-place-says e c r after p = p
+
+pub reading-end-read-in-place-says : (e : ReadingEnd) (ring dst : List ℕ) (r : MovedAnswer) (after : ReadingEnd) (memory : List ℕ) → ReadInPlace e ring dst r after memory →
+    (r ≡ movedGot (gotOf (readingEndAt e) ring dst .answer)) × (after ≡ readerAfter e (gotOf (readingEndAt e) ring dst .answer)) × (memory ≡ gotOf (readingEndAt e) ring dst .memory)
+reading-end-read-in-place-says e ring dst r after memory p = p
+
+pub reading-end-take-in-place-says : (e : ReadingEnd) (c : WrittenCounter) (r : Refusal) (after : ReadingEnd) → TakeWrittenInPlace e c r after →
+    (r ≡ readerRefusal (takeWrittenOf (readingEndAt e) (writtenCounterAt c))) × (after ≡ readerTook e (takeWrittenOf (readingEndAt e) (writtenCounterAt c)))
+reading-end-take-in-place-says e c r after p = p

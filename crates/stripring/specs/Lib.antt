@@ -9,6 +9,7 @@ pub mod Scheduler
 pub mod Copy
 pub mod WritingEnd
 pub mod ReadingEnd
+pub mod InPlace
 pub mod Failure
 pub mod State
 pub mod Outcome

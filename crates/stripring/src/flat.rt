@@ -245,6 +245,13 @@ pub struct GotAnswer {
     pub n: u64,
 }
 
+// What a copy in place answers: the end after it is in the host's struct.
+#[repr(C)]
+pub struct MovedAnswer {
+    pub refusal: Refusal,
+    pub n: u64,
+}
+
 #[repr(C)]
 pub struct WrittenCounterAnswer {
     pub refusal: Refusal,

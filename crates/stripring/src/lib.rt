@@ -6,6 +6,7 @@ mod counter;
 mod diff;
 mod failure;
 mod flat;
+mod in_place;
 mod list;
 mod modulus;
 mod operation;

@@ -27,7 +27,7 @@ pub(crate) fn read_counter(c: ReadCounter) -> ends::ReadCounter
     ends::ReadCounter(Counter(c.counter))
 }
 
-fn reading_end(e: ReadingEnd) -> ends::ReadingEnd
+pub(crate) fn reading_end(e: ReadingEnd) -> ends::ReadingEnd
     ensures { λ r. ⌜ r ≡ readingEndAt e ⌝ }
 {
     let s = e.scheduler;
@@ -44,7 +44,7 @@ fn no_reading_end() -> ReadingEnd
     }
 }
 
-fn flat_reading_end(e: ends::ReadingEnd) -> ReadingEnd
+pub(crate) fn flat_reading_end(e: ends::ReadingEnd) -> ReadingEnd
     ensures { λ r. ⌜ r ≡ flatReadingEnd e ⌝ }
 {
     let s = e.scheduler;

@@ -27,7 +27,7 @@ pub(crate) fn written_counter(c: WrittenCounter) -> ends::WrittenCounter
     ends::WrittenCounter(Counter(c.counter))
 }
 
-fn writing_end(e: WritingEnd) -> ends::WritingEnd
+pub(crate) fn writing_end(e: WritingEnd) -> ends::WritingEnd
     ensures { λ r. ⌜ r ≡ writingEndAt e ⌝ }
 {
     let s = e.scheduler;
@@ -44,7 +44,7 @@ fn no_writing_end() -> WritingEnd
     }
 }
 
-fn flat_writing_end(e: ends::WritingEnd) -> WritingEnd
+pub(crate) fn flat_writing_end(e: ends::WritingEnd) -> WritingEnd
     ensures { λ r. ⌜ r ≡ flatWritingEnd e ⌝ }
 {
     let s = e.scheduler;

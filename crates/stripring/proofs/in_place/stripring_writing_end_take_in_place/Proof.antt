@@ -1,0 +1,24 @@
+-- The walk of `takes`, over the host's end: what `take_read_kept` leaves by value is left in the host's struct.
+use contract.Running.{givenOf, tables, tablesOf}
+use denote.Triple.Spec.{tripleOf}
+use denote.Triple.Table.{entered, cited}
+use mathlib.Core.Path.{refl}
+use Rattle.ends.proofs.LentTake.{ByValue, takes}
+use Rattle.stripring.specs.InPlace.{TakeReadInPlace}
+use Rattle.stripring.proofs.InPlaceTypes.{writing-taker, writing-taker-returned}
+use Rattle.stripring.proofs.flat.ReadCounter as P
+use Rattle.stripring.proofs.flat.ReadCounter.Laws as P′
+use Rattle.stripring.proofs.in_place.take_read_kept.Symbol as g-def
+use Rattle.stripring.proofs.in_place.take_read_kept.Met as g-thm
+use Rattle.stripring.proofs.in_place.stripring_writing_end_take_in_place as f
+use Rattle.stripring.proofs.in_place.stripring_writing_end_take_in_place.Key.{name}
+use Rattle.stripring.proofs.in_place.stripring_writing_end_take_in_place.Statement as stated
+use Rattle.stripring.proofs.in_place.stripring_writing_end_take_in_place.Code as code
+
+pub stripring-writing-end-take-in-place-spec : {M : Type 1} → stated.statement M
+unfolding code.routine tablesOf
+stripring-writing-end-take-in-place-spec 𝓤 H 𝓜 𝓖 𝓡 =
+    entered 𝓤 H (tripleOf 𝓤 H (𝓖 .A) f.signature (f.spec 𝓤 H (𝓖 .A) (𝓜 .mem) (𝓡 .run)))
+    (tables 𝓤 H 𝓜 𝓡 code.env .C) (tables 𝓤 H 𝓜 𝓡 code.env .Λ) name code.function (code.unfolded 𝓤 H 𝓜 𝓡)
+    (takes writing-taker P.the-type P′.the-laws (λ c. tt) g-def.name TakeReadInPlace 𝓤 H (𝓖 .A) (givenOf 𝓤 H 𝓜 𝓖) (writing-taker-returned 𝓤 H (𝓖 .A) (givenOf 𝓤 H 𝓜 𝓖)) (λ κs x f. refl) (tablesOf 𝓤 H 𝓜 (tables 𝓤 H 𝓜 𝓡 code.env))
+    (cited 𝓤 H (ByValue writing-taker P.the-type P′.the-laws (λ c. tt) g-def.name TakeReadInPlace 𝓤 H (𝓖 .A)) 𝓜 𝓡 code.env g-def.name g-def.routine code.calls-stripring·in-place·take-read-kept (g-thm.met 𝓤 H 𝓜 𝓖 𝓡)))

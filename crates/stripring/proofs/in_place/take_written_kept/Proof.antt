@@ -1,0 +1,62 @@
+-- Whether the counter is taken and which struct is kept, by the answer's two cases.
+use mathlib.Core.Path.{sym, ap, _∙_}
+use Rattle.stripring.specs.InPlace.{readerRefusal, readerTook}
+use Rattle.stripring.proofs.InPlaceLaws.{took-reader}
+use borrow.Author.Needs.{needs}
+use Rattle.stripring.proofs.in_place.take_written_kept.Statement.{statement}
+use Rattle.stripring.proofs.in_place.take_written_kept.Tie as tie
+
+reading-end-requires : tie.Need-reading-end-requires
+reading-end-requires c κs = search needs
+
+written-counter-requires : tie.Need-written-counter-requires
+written-counter-requires c κs = search needs
+
+take-requires : tie.Need-take-requires
+take-requires c κs = search needs
+
+enum-known-next : tie.Need-enum-known-next
+enum-known-next c = search needs
+
+flat-reading-end-requires : tie.Need-flat-reading-end-requires
+flat-reading-end-requires c κs = search needs
+
+no-refusal-requires : tie.Need-no-refusal-requires
+no-refusal-requires c κs = search needs
+
+enum-known-e : tie.Need-enum-known-e
+enum-known-e c = search needs
+
+flat-end-refusal-requires : tie.Need-flat-end-refusal-requires
+flat-end-refusal-requires c κs = search needs
+
+returns : tie.Need-returns
+returns c =
+    let at-next = c .before .before .before in
+    let at-take = at-next .before .before in
+    let s = at-take .before .before .before .args in
+    took-reader (s .end) (s .counter) _ _ _ _ _ (at-take .before .before .reading-end .ensures) (at-take .before .written-counter .ensures) (at-take .take .ensures)
+    (c .no-refusal .ensures ∙ sym (ap readerRefusal (at-next .next .given .1))) (c .before .flat-reading-end .ensures ∙ sym (ap (readerTook (s .end)) (at-next .next .given .1)))
+
+returns-2 : tie.Need-returns-2
+returns-2 c =
+    let at-e = c .before .before in
+    let at-take = at-e .before .before in
+    let s = at-take .before .before .before .args in
+    took-reader (s .end) (s .counter) _ _ _ _ _ (at-take .before .before .reading-end .ensures) (at-take .before .written-counter .ensures) (at-take .take .ensures)
+    (c .flat-end-refusal .ensures ∙ sym (ap readerRefusal (at-e .e .given .1))) (sym (ap (readerTook (s .end)) (at-e .e .given .1)))
+
+pub take-written-kept-spec : {M : Type 1} → statement M
+take-written-kept-spec =
+    tie.close
+    (tie.spec
+    reading-end-requires
+    written-counter-requires
+    take-requires
+    enum-known-next
+    flat-reading-end-requires
+    no-refusal-requires
+    enum-known-e
+    flat-end-refusal-requires
+    returns
+    returns-2)

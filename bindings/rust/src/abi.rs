@@ -574,10 +574,19 @@ pub fn reading_end_read(e: ReadingEnd, ring: &[u8], dst: &mut [u8]) -> GotAnswer
     unsafe { stripring_reading_end_read(e, ring.as_ptr(), ring.len(), dst.as_mut_ptr(), dst.len()) }
 }
 
-pub fn writing_end_write_in_place(end: &mut WritingEnd, ring: &mut [u8], src: &[u8]) -> MovedAnswer {
-    let (ring_len, src_len) = (ring.len(), src.len());
+pub fn writing_end_write_in_place(
+    end: &mut WritingEnd,
+    ring: &mut [u8],
+    src: &[u8],
+) -> MovedAnswer {
     unsafe {
-        stripring_writing_end_write_in_place(end, ring.as_mut_ptr(), ring_len, src.as_ptr(), src_len)
+        stripring_writing_end_write_in_place(
+            end,
+            ring.as_mut_ptr(),
+            ring.len(),
+            src.as_ptr(),
+            src.len(),
+        )
     }
 }
 
@@ -586,9 +595,14 @@ pub fn writing_end_take_in_place(end: &mut WritingEnd, counter: ReadCounter) -> 
 }
 
 pub fn reading_end_read_in_place(end: &mut ReadingEnd, ring: &[u8], dst: &mut [u8]) -> MovedAnswer {
-    let (ring_len, dst_len) = (ring.len(), dst.len());
     unsafe {
-        stripring_reading_end_read_in_place(end, ring.as_ptr(), ring_len, dst.as_mut_ptr(), dst_len)
+        stripring_reading_end_read_in_place(
+            end,
+            ring.as_ptr(),
+            ring.len(),
+            dst.as_mut_ptr(),
+            dst.len(),
+        )
     }
 }
 

@@ -7,6 +7,7 @@ pub mod FlatReading
 mod InPlaceLaws
 mod InPlaceTypes
 pub mod SaysEnds
+pub mod PromisedInPlace
 pub mod SaysReceiver
 pub mod SaysScheduler
 pub mod SaysValues

@@ -10,6 +10,7 @@ pub mod Copy
 pub mod WritingEnd
 pub mod ReadingEnd
 pub mod InPlace
+pub mod PromiseInPlace
 pub mod Failure
 pub mod State
 pub mod Outcome

@@ -155,8 +155,9 @@ typedef struct stripring_answer {
   uint64_t descriptors;
 } stripring_answer;
 
-/* What an accepted call of the receiver comes to. `kind` 0: `n` bytes read, with `fds` descriptors. 1: done. Any other (2 in
- * answers): the failure. What a kind does not use is 0 in answers and not looked at otherwise. */
+/* What an accepted call of the receiver comes to, and beside it `fds`, how many descriptors came with it: none but with a read.
+ * `kind` 0: `n` bytes read. 1: done. Any other (2 in answers): the failure. An `n` or a `failure` that a kind does not use is 0 in
+ * answers and not looked at otherwise. */
 typedef struct stripring_outcome {
   uint64_t kind;
   uint64_t n;

@@ -4,7 +4,7 @@ use mathlib.Core.Path.{_≡_, sym, ap, _∙_}
 use mathlib.Core.Bool.{Bool}
 use mathlib.Core.List.{List}
 use Rattle.sched.specs.declared.scheduler.RingBufferScheduler.{RingBufferScheduler}
-use Rattle.driver.specs.Drive.{retriesIn, answeredIn, endedBy, endedIn, endedFor, Delivery, delivery, deliveredFor, deliveredBy, deliveryFor, endOfStreamFor, endOfStreamIn}
+use Rattle.driver.specs.Drive.{retriesIn, answeredIn, endedBy, endedIn, endedFor, Delivery, delivery, deliveredFor, deliveredBy, deliveryFor, endOfStreamBy, endOfStreamFor, endOfStreamIn}
 use Rattle.receiver.specs.declared.answer.Answer.{Answer}
 use Rattle.receiver.specs.declared.call.Phase.{Phase}
 use Rattle.receiver.specs.declared.call.Step.{Step}
@@ -12,6 +12,7 @@ use Rattle.receiver.specs.declared.call.Step.the-variants.{Of}
 use Rattle.receiver.specs.declared.call.Call.{Call}
 use Rattle.receiver.specs.declared.receiver.Ended.{Ended}
 use Rattle.receiver.specs.declared.receiver.Ended.the-variants.{Accepted, Refused}
+use Rattle.receiver.specs.declared.receiver.Came.{Came}
 use Rattle.receiver.specs.declared.receiver.Outcome.{Outcome}
 use Rattle.receiver.specs.declared.receiver.ReceiverState.{ReceiverState}
 use Rattle.receiver.specs.declared.refusal.Refusal.{Refusal}
@@ -39,18 +40,18 @@ delivered-in c i ring dst e p r q = q ∙ ap (λ (x : Ended). deliveredBy x (c .
 pub ends-by : (e f : Ended) → e ≡ f → (r : Ended) → r ≡ endOfStreamIn f → r ≡ endOfStreamIn e
 ends-by e f h r p = p ∙ ap endOfStreamIn (sym h)
 
-pub turns-by : (o x : Outcome) → o ≡ x → (r : Outcome) → r ≡ endOfStreamFor x → r ≡ endOfStreamFor o
-turns-by o x h r p = p ∙ ap endOfStreamFor (sym h)
+pub turns-by : (o : Outcome) (x : Came) → o .came ≡ x → (r : Outcome) → r ≡ endOfStreamBy x o → r ≡ endOfStreamFor o
+turns-by o x h r p = p ∙ ap (λ (y : Came). endOfStreamBy y o) (sym h)
 
 module _ (s : RingBufferScheduler) (ring dst left : List ℕ) where
-  pub delivered-by : (o x : Outcome) → o ≡ x → left ≡ deliveredFor x s ring dst → left ≡ deliveredFor o s ring dst
-  delivered-by o x e p = p ∙ ap (λ (y : Outcome). deliveredFor y s ring dst) (sym e)
+  pub delivered-by : (o x : Came) → o ≡ x → left ≡ deliveredFor x s ring dst → left ≡ deliveredFor o s ring dst
+  delivered-by o x e p = p ∙ ap (λ (y : Came). deliveredFor y s ring dst) (sym e)
 
 module _ (s : RingBufferScheduler) (ring dst : List ℕ) (e : Ended) where
   picked : (x : Ended) → e ≡ x → deliveredBy x s ring dst ≡ deliveredBy e s ring dst
   picked x p = ap (λ (y : Ended). deliveredBy y s ring dst) (sym p)
 
-  pub delivered : (q : ReceiverState) (o : Outcome) (used : ℕ) (left : List ℕ) → e ≡ Accepted q o used → left ≡ deliveredFor o s ring dst → delivery (Accepted q o used) left ≡ deliveredBy e s ring dst
+  pub delivered : (q : ReceiverState) (o : Outcome) (used : ℕ) (left : List ℕ) → e ≡ Accepted q o used → left ≡ deliveredFor (o .came) s ring dst → delivery (Accepted q o used) left ≡ deliveredBy e s ring dst
   delivered q o used left p l = ap (delivery (Accepted q o used)) l ∙ picked _ p
 
   pub not-delivered : (r : Refusal) → e ≡ Refused r → delivery (Refused r) dst ≡ deliveredBy e s ring dst

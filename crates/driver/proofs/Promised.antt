@@ -19,13 +19,14 @@ use Rattle.copies.specs.Copies.{readFrom}
 use Rattle.copies.specs.Promises.{CellsOf}
 use Rattle.copies.specs.Ring.{get}
 use Rattle.receiver.proofs.AdmissionLaws.{sized-ready}
-use Rattle.receiver.proofs.ByteLaws.{Source, unasked, own, chunk, Copies, OnTheWay, step-on, read-on, source-sound, chunk-offset}
+use Rattle.receiver.proofs.ByteLaws.{Source, unasked, own, chunk, CopiesBy, Copies, OnTheWay, step-on, read-on, source-sound, chunk-offset}
 use Rattle.receiver.proofs.CaseSteps.{made-takes, begins-at, read-admitted}
 use Rattle.receiver.proofs.HandedSum.{MadeBy, begin-read-made}
 use Rattle.receiver.proofs.Made.{Made}
 use Rattle.receiver.specs.Call.{overOf, answeredOf, beginReadOf, beginServiceOf, beginShutdownOf}
 use Rattle.receiver.specs.Cases.{BeginsRead, Takes, Goes}
 use Rattle.receiver.specs.Handed.{sentBy, comingTo}
+use Rattle.receiver.specs.Receiver.{readOutcome}
 use Rattle.receiver.specs.State.{isErrno}
 use Rattle.receiver.specs.declared.answer.Answer.{Answer}
 use Rattle.receiver.specs.declared.call.Call.{Call}
@@ -35,12 +36,13 @@ use Rattle.receiver.specs.declared.call.Step.{Step}
 use Rattle.receiver.specs.declared.call.Step.the-variants.{Of, Refused}
 use Rattle.receiver.specs.declared.receiver.Ended.{Ended}
 use Rattle.receiver.specs.declared.receiver.Ended.the-variants as ended
+use Rattle.receiver.specs.declared.receiver.Came.{Came}
+use Rattle.receiver.specs.declared.receiver.Came.the-variants as came
 use Rattle.receiver.specs.declared.receiver.Outcome.{Outcome}
-use Rattle.receiver.specs.declared.receiver.Outcome.the-variants as outcome
 use Rattle.receiver.specs.declared.receiver.ReceiverState.{ReceiverState}
 use Rattle.receiver.specs.declared.state.Failure.{Failure}
 use Rattle.receiver.specs.declared.state.Failure.the-variants.{Io, Protocol}
-use Rattle.driver.specs.Drive.{drivenOf, endedBy, endedOf, Delivery, delivery, deliveredFor, deliveredBy, deliveryFor, deliveryOf, endOfStreamFor, endOfStreamIn}
+use Rattle.driver.specs.Drive.{drivenOf, endedBy, endedOf, Delivery, delivery, deliveredFor, deliveredBy, deliveryFor, deliveryOf, endOfStreamBy, endOfStreamFor, endOfStreamIn}
 use Rattle.driver.specs.Pending.{sentIn}
 use Rattle.driver.specs.Promise.{Uses, Begins, at-data, behind-header, FillsBy, Fills, TurnedTo, ended-stream, stays, Turned, accepted, same-refusal}
 use Rattle.driver.specs.Run.{readOf, readImplDelivery, endOfStream, readDelivery, ServiceLeaves, ShutdownLeaves, ReadImplLeaves, ReadLeaves}
@@ -113,21 +115,21 @@ module _ (s : RingBufferScheduler) (sound : IsSound s) (ring dst : List ℕ) whe
 
   -- what the copy leaves
   module _ (sized : length ring ≡ s .«buf_len») where
-    filled : (o : Outcome) (u : RingBufferScheduler) → Copies (length dst) s o u → FillsBy s ring dst (deliveredFor o u ring dst) o
-    filled (outcome.Read n fds) u (e, k) =
+    filled : (o : Came) (u : RingBufferScheduler) → CopiesBy (length dst) s o u → FillsBy s ring dst (deliveredFor o u ring dst) o
+    filled (came.Read n) u (e, k) =
         let l = source-sound (length dst) s sound u k in
         let bytes = get (u .«buf_len») ring (offsetIn u Read .0) n in
-        let left : deliveredFor (outcome.Read n fds) u ring dst ≡ bytes ++ drop n dst =
+        let left : deliveredFor (came.Read n) u ring dst ≡ bytes ++ drop n dst =
         ap (λ (x : Ready). readFrom ring dst x .memory) (sized-ready u (l .0) (length ring) (sized ∙ sym (l .1)))
         ∙ ap (λ (m : ℕ). get (u .«buf_len») ring (offsetIn u Read .0) m ++ drop m dst) (sym e) in
         let front : take n (bytes ++ drop n dst) ≡ bytes = take-at bytes (drop n dst) n (length-get (u .«buf_len») ring (offsetIn u Read .0) n) in
-        subst (λ (x : List ℕ). FillsBy s ring dst x (outcome.Read n fds)) (sym left) (
+        subst (λ (x : List ℕ). FillsBy s ring dst x (came.Read n)) (sym left) (
           omega (arith, e),
           get-own (u .«buf_len») ring (offsetIn u Read .0) n dst (omega (arith, e)),
           (λ at b. subst (CellsOf (s .«buf_len») ring at) (sym front) (got n u e k at b)),
         )
-    filled outcome.Done u h = refl
-    filled (outcome.Failed f) u h = refl
+    filled came.Done u h = refl
+    filled (came.Failed f) u h = refl
 
 -- of a run: each step keeps which bytes are copied
 module _ (q : ReceiverState) (ring : List ℕ) (asked top : ℕ) where
@@ -154,7 +156,7 @@ module _ (q : ReceiverState) (ring dst : List ℕ) (top : ℕ) where
     fills-by c i (phase.Receive top asked) p h = refl
     fills-by c i (phase.Send batch e) p h = refl
     fills-by c i (phase.Shutdown e) p h = refl
-    fills-by c i (phase.Finished o) p h = filled (q .scheduler) sound ring dst sized o (c .source) (subst (λ (x : Phase). Copies n (q .scheduler) (comingTo x) (c .source)) p (h .copies))
+    fills-by c i (phase.Finished o) p h = filled (q .scheduler) sound ring dst sized (o .came) (c .source) (subst (λ (x : Phase). Copies n (q .scheduler) (comingTo x) (c .source)) p (h .copies))
 
     fills-for : (x : Step) (i sent : ℕ) → Holds ring (On q ring n top) (keeps-on q ring n top) x sent → Fills (q .scheduler) ring dst (deliveryFor x i ring dst .memory) (deliveryFor x i ring dst .answer)
     fills-for (Of c) i sent h = fills-by c i (c .phase) refl (h .1)
@@ -169,13 +171,19 @@ module _ (q : ReceiverState) (ring dst : List ℕ) (top : ℕ) where
 
   -- the end of the stream fills nothing
   turned-fills : (left : List ℕ) (r : Ended) → Fills (q .scheduler) ring dst left r → Fills (q .scheduler) ring dst left (endOfStreamIn r)
-  turned-fills left (ended.Accepted p (outcome.Read m fds) used) h = h
-  turned-fills left (ended.Accepted p outcome.Done used) h = h
-  turned-fills left (ended.Accepted p (outcome.Failed f) used) h = by (isErrno f 32)
+  turned-fills left (ended.Accepted p o used) h = turned (o .came) refl
     where
-      by : (b : Bool) → FillsBy (q .scheduler) ring dst left (cond b (outcome.Read 0 0) (outcome.Failed f))
-      by true = subst (λ (x : List ℕ). FillsBy (q .scheduler) ring dst x (outcome.Read 0 0)) (sym h) (omega arith, (refl, refl), (λ at k j l. absurd (omega (arith, l))))
-      by false = h
+      turned : (x : Came) → o .came ≡ x → FillsBy (q .scheduler) ring dst left (endOfStreamBy x o .came)
+      turned (came.Read m) k = h
+      turned came.Done k = h
+      turned (came.Failed f) k = by (isErrno f 32)
+        where
+          same : left ≡ dst
+          same = subst (FillsBy (q .scheduler) ring dst left) k h
+
+          by : (b : Bool) → FillsBy (q .scheduler) ring dst left (cond b (readOutcome 0 0) o .came)
+          by true = subst (λ (x : List ℕ). FillsBy (q .scheduler) ring dst x (came.Read 0)) (sym same) (omega arith, (refl, refl), (λ at k j l. absurd (omega (arith, l))))
+          by false = h
   turned-fills left (ended.Refused r) h = h
 
   module _ (answers : List Answer) (r : Ended) (left : List ℕ) where
@@ -189,18 +197,18 @@ module _ (q : ReceiverState) (ring dst : List ℕ) (top : ℕ) where
     read-fills p = by-delivery (readDelivery q ring dst top answers) p (turned-fills (readImplDelivery q ring dst top answers .memory) (readImplDelivery q ring dst top answers .answer) (fills answers))
 
 -- ---- the end of the stream
-turned-failure : (f : Failure) → TurnedTo (outcome.Failed f) (endOfStreamFor (outcome.Failed f))
-turned-failure (Protocol v) = stays (outcome.Failed (Protocol v)) (λ e. let z : _≡_ {A = ℕ} 0 1 = cc in omega arith)
-turned-failure (Io e) = by (eqb e 32) refl
-  where
-    by : (b : Bool) → eqb e 32 ≡ b → TurnedTo (outcome.Failed (Io e)) (cond b (outcome.Read 0 0) (outcome.Failed (Io e)))
-    by true k = subst (λ (n : ℕ). TurnedTo (outcome.Failed (Io n)) (outcome.Read 0 0)) (sym (eqb-true e 32 k)) ended-stream
-    by false k = stays (outcome.Failed (Io e)) (λ p. eqb-false e 32 k (let n : e ≡ 32 = cc in n))
-
 turned-outcome : (o : Outcome) → TurnedTo o (endOfStreamFor o)
-turned-outcome (outcome.Read n fds) = stays (outcome.Read n fds) (λ e. let z : _≡_ {A = ℕ} 0 1 = cc in omega arith)
-turned-outcome outcome.Done = stays outcome.Done (λ e. let z : _≡_ {A = ℕ} 0 1 = cc in omega arith)
-turned-outcome (outcome.Failed f) = turned-failure f
+turned-outcome o = by-came (o .came) refl
+  where
+    by-errno : (e : ℕ) → o .came ≡ came.Failed (Io e) → (b : Bool) → eqb e 32 ≡ b → TurnedTo o (cond b (readOutcome 0 0) o)
+    by-errno e h true k = ended-stream (h ∙ ap (λ (n : ℕ). came.Failed (Io n)) (eqb-true e 32 k))
+    by-errno e h false k = stays (λ p. let d : came.Failed (Io e) ≡ came.Failed (Io 32) = sym h ∙ p in eqb-false e 32 k (let n : e ≡ 32 = cc in n))
+
+    by-came : (x : Came) → o .came ≡ x → TurnedTo o (endOfStreamBy x o)
+    by-came (came.Read n) h = stays (λ e. let d : came.Read n ≡ came.Failed (Io 32) = sym h ∙ e in let z : _≡_ {A = ℕ} 0 1 = cc in omega arith)
+    by-came came.Done h = stays (λ e. let d : came.Done ≡ came.Failed (Io 32) = sym h ∙ e in let z : _≡_ {A = ℕ} 0 1 = cc in omega arith)
+    by-came (came.Failed (Protocol v)) h = stays (λ e. let d : came.Failed (Protocol v) ≡ came.Failed (Io 32) = sym h ∙ e in let z : _≡_ {A = ℕ} 0 1 = cc in omega arith)
+    by-came (came.Failed (Io e)) h = by-errno e h (eqb e 32) refl
 
 pub turned-answer : (r : Ended) → Turned r (endOfStreamIn r)
 turned-answer (ended.Accepted q o used) = accepted (turned-outcome o)

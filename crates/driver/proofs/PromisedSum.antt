@@ -12,7 +12,8 @@ use Rattle.receiver.proofs.StepLaws.{QuietIn, whole}
 use Rattle.receiver.proofs.SumLaws.{step-sums, Begun, service-begun, shutdown-begun, read-begun}
 use Rattle.receiver.specs.Call.{overOf, answeredOf, beginReadOf, beginServiceOf, beginShutdownOf}
 use Rattle.receiver.specs.Cases.{BeginsRead, BeginsService, BeginsShutdown, Takes, Goes}
-use Rattle.receiver.specs.Handed.{sentBy, wholeIn, comingTo}
+use Rattle.receiver.specs.Handed.{sentBy, wholeBy, wholeIn, comingTo}
+use Rattle.receiver.specs.Receiver.{readOutcome}
 use Rattle.receiver.specs.State.{isErrno}
 use Rattle.receiver.specs.declared.answer.Answer.{Answer}
 use Rattle.receiver.specs.declared.call.Call.{Call}
@@ -22,9 +23,10 @@ use Rattle.receiver.specs.declared.call.Step.{Step}
 use Rattle.receiver.specs.declared.call.Step.the-variants.{Of, Refused}
 use Rattle.receiver.specs.declared.receiver.Ended.{Ended}
 use Rattle.receiver.specs.declared.receiver.Ended.the-variants as ended
-use Rattle.receiver.specs.declared.receiver.Outcome.the-variants as outcome
+use Rattle.receiver.specs.declared.receiver.Came.{Came}
+use Rattle.receiver.specs.declared.receiver.Came.the-variants as came
 use Rattle.receiver.specs.declared.receiver.ReceiverState.{ReceiverState}
-use Rattle.driver.specs.Drive.{drivenOf, endedBy, endedFor, endedOf, endOfStreamIn}
+use Rattle.driver.specs.Drive.{drivenOf, endedBy, endedFor, endedOf, endOfStreamBy, endOfStreamIn}
 use Rattle.driver.specs.Pending.{Asked, reads, readsImpl, services, shuts, endsOf, answersOf, sentIn, sentOver, wholeOver, nextOver, after, allSent, allWhole}
 use Rattle.driver.specs.Promise.{MayLeave}
 use Rattle.driver.specs.Run.{readOf}
@@ -73,13 +75,16 @@ read-summed q ring asked top answers =
 
 -- the end of the stream hands nothing out
 turned-summed : (q : ReceiverState) (answers : List Answer) (r : Ended) → Sums q answers r → Sums q answers (endOfStreamIn r)
-turned-summed q answers (ended.Accepted p (outcome.Read n fds) used) h = h
-turned-summed q answers (ended.Accepted p outcome.Done used) h = h
-turned-summed q answers (ended.Accepted p (outcome.Failed f) used) h = by (isErrno f 32)
+turned-summed q answers (ended.Accepted p o used) h = h ∙ ap (λ (n : ℕ). q .«pending_ack_count» + n) (turned (o .came) refl)
   where
-    by : (b : Bool) → p .«pending_ack_count» + sentIn (take used answers) ≡ q .«pending_ack_count» + wholeIn p (cond b (outcome.Read 0 0) (outcome.Failed f))
-    by true = h
-    by false = h
+    turned : (x : Came) → o .came ≡ x → wholeIn p o ≡ wholeIn p (endOfStreamBy x o)
+    turned (came.Read n) k = refl
+    turned came.Done k = refl
+    turned (came.Failed f) k = by (isErrno f 32)
+      where
+        by : (b : Bool) → wholeIn p o ≡ wholeIn p (cond b (readOutcome 0 0) o)
+        by true = ap (wholeBy p) k
+        by false = refl
 turned-summed q answers (ended.Refused r) h = h
 
 call-summed : (q : ReceiverState) (c : Asked) → Sums q (answersOf c) (endsOf q c)

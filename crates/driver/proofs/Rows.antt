@@ -11,7 +11,6 @@ use Rattle.copies.specs.Copies.{readyFrom}
 use Rattle.receiver.specs.declared.answer.Answer.{Answer}
 use Rattle.receiver.specs.declared.receiver.Ended.{Ended}
 use Rattle.receiver.specs.declared.receiver.Ended.the-variants.{Accepted, Refused}
-use Rattle.receiver.specs.declared.receiver.Outcome.the-variants as outcome
 use Rattle.receiver.specs.declared.refusal.Refusal.the-variants.{AnswerMissing, Misfit, PendingFull}
 use Rattle.receiver.specs.declared.state.Failure.the-variants.{Io, Protocol}
 use Rattle.receiver.specs.declared.state.OperationalState.{OperationalState}
@@ -20,7 +19,7 @@ use Rattle.receiver.specs.declared.state.Violation.the-variants.{InvalidChunkAn
 use Rattle.receiver.specs.State.{fitsErrno, normalizeIn, towardsErrorIn}
 use Rattle.receiver.specs.Answer.{interruptedOf, receivedOf, sentOf, shutOf}
 use Rattle.receiver.specs.Call.{flushCall}
-use Rattle.receiver.specs.Receiver.{receiver, numberFrom}
+use Rattle.receiver.specs.Receiver.{readOutcome, failedOutcome, doneOutcome, receiver, numberFrom}
 use Rattle.driver.specs.Drive.{endedOf, delivery, endOfStreamIn}
 use Rattle.driver.specs.Run.{readOf, serviceOf, shutdownOf, readDelivery}
 use Rattle.receiver.specs.Refusal.{numberOf}
@@ -70,7 +69,7 @@ shuts st issued answers = shutdownOf (receiver empty st 0 issued) answers
 -- ---- an answer at a place that cannot have it
 an-errno-is-1-to-4095 :
     (service Normal 1 false (fails 0 ∷ []) ≡ Refused (Misfit 1)) ×
-    (service Normal 1 true (fails 4095 ∷ []) ≡ Accepted (receiver empty (Draining (Io 4095)) 1 true) (outcome.Failed (Io 4095)) 1) ×
+    (service Normal 1 true (fails 4095 ∷ []) ≡ Accepted (receiver empty (Draining (Io 4095)) 1 true) (failedOutcome (Io 4095)) 1) ×
     (service Normal 1 false (fails 4096 ∷ []) ≡ Refused (Misfit 1))
 unfolding flushCall soundOf subMod fitsErrno normalizeIn towardsErrorIn interruptedOf sentOf
 an-errno-is-1-to-4095 = (refl, refl, refl)
@@ -87,9 +86,9 @@ an-answer-fits-its-place = (refl, refl, refl, refl, refl, refl)
 
 -- ---- acknowledgements
 batches-are-sent-until-nothing-is-pending :
-    (service Normal 300 false (sends 128 ∷ sends 128 ∷ fails 11 ∷ []) ≡ Accepted (receiver empty Normal 44 false) outcome.Done 3) ×
-    (service Normal 128 false (sends 128 ∷ []) ≡ Accepted (receiver empty Normal 0 false) outcome.Done 1) ×
-    (service Normal 0 false (byte 9 9 ∷ []) ≡ Accepted (receiver empty Normal 0 false) outcome.Done 0) ×
+    (service Normal 300 false (sends 128 ∷ sends 128 ∷ fails 11 ∷ []) ≡ Accepted (receiver empty Normal 44 false) doneOutcome 3) ×
+    (service Normal 128 false (sends 128 ∷ []) ≡ Accepted (receiver empty Normal 0 false) doneOutcome 1) ×
+    (service Normal 0 false (byte 9 9 ∷ []) ≡ Accepted (receiver empty Normal 0 false) doneOutcome 0) ×
     (service Normal 5 false (sends 6 ∷ []) ≡ Refused (Misfit 1)) ×
     (service Normal 130 false (sends 100 ∷ sends 31 ∷ []) ≡ Refused (Misfit 2)) ×
     (service Normal 1 false [] ≡ Refused AnswerMissing) ×
@@ -98,48 +97,48 @@ unfolding flushCall soundOf subMod fitsErrno interruptedOf sentOf
 batches-are-sent-until-nothing-is-pending = (refl, refl, refl, refl, refl, refl, refl)
 
 a-failed-send-drains :
-    (service Normal 300 false (sends 128 ∷ fails 104 ∷ done ∷ []) ≡ Accepted (receiver empty (Draining (Io 104)) 172 true) (outcome.Failed (Io 104)) 3) ×
-    (service Normal 1 false (sends 0 ∷ fails 4 ∷ []) ≡ Accepted (receiver empty (Draining (Io 5)) 1 false) (outcome.Failed (Io 4)) 2)
+    (service Normal 300 false (sends 128 ∷ fails 104 ∷ done ∷ []) ≡ Accepted (receiver empty (Draining (Io 104)) 172 true) (failedOutcome (Io 104)) 3) ×
+    (service Normal 1 false (sends 0 ∷ fails 4 ∷ []) ≡ Accepted (receiver empty (Draining (Io 5)) 1 false) (failedOutcome (Io 4)) 2)
 unfolding flushCall soundOf subMod fitsErrno normalizeIn towardsErrorIn interruptedOf sentOf shutOf
 a-failed-send-drains = (refl, refl)
 
 an-interruption-is-waited-out-but-not-by-a-shutdown :
-    (service Normal 5 false (fails 4 ∷ sends 5 ∷ []) ≡ Accepted (receiver empty Normal 0 false) outcome.Done 2) ×
-    (reads empty Normal 0 false zeros 2 (fails 4 ∷ fails 4 ∷ fails 11 ∷ []) ≡ Accepted (receiver empty Normal 0 false) (outcome.Failed (Io 11)) 3) ×
-    (shuts Normal false (fails 4 ∷ []) ≡ Accepted (receiver empty (Draining (Io 32)) 0 false) (outcome.Failed (Io 4)) 1)
+    (service Normal 5 false (fails 4 ∷ sends 5 ∷ []) ≡ Accepted (receiver empty Normal 0 false) doneOutcome 2) ×
+    (reads empty Normal 0 false zeros 2 (fails 4 ∷ fails 4 ∷ fails 11 ∷ []) ≡ Accepted (receiver empty Normal 0 false) (failedOutcome (Io 11)) 3) ×
+    (shuts Normal false (fails 4 ∷ []) ≡ Accepted (receiver empty (Draining (Io 32)) 0 false) (failedOutcome (Io 4)) 1)
 unfolding flushCall readyFrom soundOf subMod fitsErrno normalizeIn towardsErrorIn interruptedOf receivedOf sentOf shutOf
 an-interruption-is-waited-out-but-not-by-a-shutdown = (refl, refl, refl)
 
 nothing-is-sent-while-draining :
-    (service (Draining (Io 5)) 3 true (sends 3 ∷ []) ≡ Accepted (receiver empty (Draining (Io 5)) 3 true) (outcome.Failed (Io 5)) 0) ×
-    (reads (ring 64 3 0) (Draining (Io 5)) 0 true zeros 9 [] ≡ Accepted (receiver (ring 64 3 3) (Draining (Io 5)) 1 true) (outcome.Read 3 0) 0)
+    (service (Draining (Io 5)) 3 true (sends 3 ∷ []) ≡ Accepted (receiver empty (Draining (Io 5)) 3 true) (failedOutcome (Io 5)) 0) ×
+    (reads (ring 64 3 0) (Draining (Io 5)) 0 true zeros 9 [] ≡ Accepted (receiver (ring 64 3 3) (Draining (Io 5)) 1 true) (readOutcome 3 0) 0)
 unfolding readyFrom soundOf subMod addMod fitsErrno
 nothing-is-sent-while-draining = (refl, refl)
 
 -- ---- errno 11
 a-stored-11-is-taken-as-it-stands :
-    (service (Draining (Io 11)) 3 false [] ≡ Accepted (receiver empty (Draining (Io 11)) 3 false) (outcome.Failed (Io 11)) 0) ×
-    (reads empty (Terminated (Io 11)) 0 false zeros 2 [] ≡ Accepted (receiver empty (Terminated (Io 11)) 0 false) (outcome.Failed (Io 11)) 0)
+    (service (Draining (Io 11)) 3 false [] ≡ Accepted (receiver empty (Draining (Io 11)) 3 false) (failedOutcome (Io 11)) 0) ×
+    (reads empty (Terminated (Io 11)) 0 false zeros 2 [] ≡ Accepted (receiver empty (Terminated (Io 11)) 0 false) (failedOutcome (Io 11)) 0)
 unfolding readyFrom soundOf subMod fitsErrno
 a-stored-11-is-taken-as-it-stands = (refl, refl)
 
 advancing-normalises-11 :
-    (shuts (Terminated (Io 11)) true [] ≡ Accepted (receiver empty (Draining (Io 32)) 0 true) outcome.Done 0) ×
-    (reads empty (Draining (Io 11)) 0 false zeros 2 (fails 11 ∷ []) ≡ Accepted (receiver empty Normal 0 false) (outcome.Failed (Io 11)) 1)
+    (shuts (Terminated (Io 11)) true [] ≡ Accepted (receiver empty (Draining (Io 32)) 0 true) doneOutcome 0) ×
+    (reads empty (Draining (Io 11)) 0 false zeros 2 (fails 11 ∷ []) ≡ Accepted (receiver empty Normal 0 false) (failedOutcome (Io 11)) 1)
 unfolding readyFrom soundOf subMod fitsErrno normalizeIn towardsErrorIn interruptedOf receivedOf shutOf
 advancing-normalises-11 = (refl, refl)
 
 refusal-11-is-not-failure-11 :
     (reads empty Normal 0 false zeros 2 [] ≡ Refused AnswerMissing) ×
     (numberOf AnswerMissing ≡ 11) ×
-    (reads empty Normal 0 false zeros 2 (fails 11 ∷ []) ≡ Accepted (receiver empty Normal 0 false) (outcome.Failed (Io 11)) 1)
+    (reads empty Normal 0 false zeros 2 (fails 11 ∷ []) ≡ Accepted (receiver empty Normal 0 false) (failedOutcome (Io 11)) 1)
 unfolding readyFrom soundOf subMod fitsErrno interruptedOf receivedOf
 refusal-11-is-not-failure-11 = (refl, refl, refl)
 
 -- ---- a read
 terminated-then-the-empty-destination-then-13-then-the-announcement :
-    (reads (ring 64 5 0) (Terminated (Io 7)) (2 ^ 64 - 1) false zeros 0 [] ≡ Accepted (receiver (ring 64 5 0) (Terminated (Io 7)) (2 ^ 64 - 1) false) (outcome.Failed (Io 7)) 0) ×
-    (reads (ring 64 5 0) Normal (2 ^ 64 - 1) false zeros 0 [] ≡ Accepted (receiver (ring 64 5 0) Normal (2 ^ 64 - 1) false) (outcome.Read 0 0) 0) ×
+    (reads (ring 64 5 0) (Terminated (Io 7)) (2 ^ 64 - 1) false zeros 0 [] ≡ Accepted (receiver (ring 64 5 0) (Terminated (Io 7)) (2 ^ 64 - 1) false) (failedOutcome (Io 7)) 0) ×
+    (reads (ring 64 5 0) Normal (2 ^ 64 - 1) false zeros 0 [] ≡ Accepted (receiver (ring 64 5 0) Normal (2 ^ 64 - 1) false) (readOutcome 0 0) 0) ×
     (reads empty Normal (2 ^ 64 - 1) false zeros 2 (byte 300 0 ∷ []) ≡ Refused PendingFull) ×
     (reads empty Normal 0 false zeros 2 (byte 7 2 ∷ []) ≡ Refused (Misfit 1)) ×
     (reads empty (Terminated (Io 4096)) 0 false zeros 2 [] ≡ Refused (Misfit 0))
@@ -147,14 +146,14 @@ unfolding readyFrom soundOf subMod fitsErrno interruptedOf receivedOf
 terminated-then-the-empty-destination-then-13-then-the-announcement = (refl, refl, refl, refl, refl)
 
 the-end-of-the-stream-is-a-read-of-nothing :
-    (reads empty (Draining (Io 5)) 0 false zeros 2 (closed ∷ done ∷ []) ≡ Accepted (receiver empty (Terminated (Io 5)) 0 true) (outcome.Read 0 0) 2) ×
-    (reads empty (Terminated (Io 32)) 0 false zeros 2 [] ≡ Accepted (receiver empty (Terminated (Io 32)) 0 false) (outcome.Read 0 0) 0)
+    (reads empty (Draining (Io 5)) 0 false zeros 2 (closed ∷ done ∷ []) ≡ Accepted (receiver empty (Terminated (Io 5)) 0 true) (readOutcome 0 0) 2) ×
+    (reads empty (Terminated (Io 32)) 0 false zeros 2 [] ≡ Accepted (receiver empty (Terminated (Io 32)) 0 false) (readOutcome 0 0) 0)
 unfolding readyFrom soundOf subMod fitsErrno normalizeIn towardsErrorIn interruptedOf receivedOf shutOf
 the-end-of-the-stream-is-a-read-of-nothing = (refl, refl)
 
 draining-and-blocked-terminates-with-the-cached-reason :
     (reads empty (Draining (Io 5)) 0 false zeros 2 (fails 11 ∷ []) ≡ Refused AnswerMissing) ×
-    (reads empty (Draining (Io 5)) 0 true zeros 2 (fails 11 ∷ []) ≡ Accepted (receiver empty (Terminated (Io 5)) 0 true) (outcome.Failed (Io 5)) 1)
+    (reads empty (Draining (Io 5)) 0 true zeros 2 (fails 11 ∷ []) ≡ Accepted (receiver empty (Terminated (Io 5)) 0 true) (failedOutcome (Io 5)) 1)
 unfolding readyFrom soundOf subMod fitsErrno normalizeIn towardsErrorIn interruptedOf receivedOf shutOf
 draining-and-blocked-terminates-with-the-cached-reason = (refl, refl)
 
@@ -162,40 +161,40 @@ draining-and-blocked-terminates-with-the-cached-reason = (refl, refl)
 a-late-refusal-changes-nothing :
     (readDelivery (receiver (ring 64 5 0) Normal 300 false) (memory zeros) (1 ∷ 2 ∷ 3 ∷ []) 1 (sends 128 ∷ []) ≡ delivery (Refused AnswerMissing) (1 ∷ 2 ∷ 3 ∷ [])) ×
     (readDelivery (receiver (ring 64 5 0) Normal 300 false) (memory zeros) (1 ∷ 2 ∷ 3 ∷ []) 1 (sends 128 ∷ sends 129 ∷ []) ≡ delivery (Refused (Misfit 2)) (1 ∷ 2 ∷ 3 ∷ [])) ×
-    (readDelivery (receiver (ring 64 5 0) Normal 0 false) (memory (7 ∷ 8 ∷ 9 ∷ replicate 5 0)) (1 ∷ 2 ∷ []) 1 [] ≡ delivery (Accepted (receiver (ring 64 5 2) Normal 0 false) (outcome.Read 2 0) 0) (7 ∷ 8 ∷ []))
+    (readDelivery (receiver (ring 64 5 0) Normal 0 false) (memory (7 ∷ 8 ∷ 9 ∷ replicate 5 0)) (1 ∷ 2 ∷ []) 1 [] ≡ delivery (Accepted (receiver (ring 64 5 2) Normal 0 false) (readOutcome 2 0) 0) (7 ∷ 8 ∷ []))
 unfolding flushCall readyFrom soundOf subMod addMod fitsErrno interruptedOf sentOf
 a-late-refusal-changes-nothing = (refl, refl, refl)
 
 -- ---- an announcement
 a-violation-puts-the-scheduler-back :
-    (reads empty Normal 0 false (header 0 65) 2 (byte 0 1 ∷ done ∷ []) ≡ Accepted (receiver empty (Terminated (Protocol ControlOverflow)) 0 true) (outcome.Failed (Protocol ControlOverflow)) 2) ×
-    (reads empty Normal 0 true (header 0 0) 2 (byte 0 1 ∷ []) ≡ Accepted (receiver empty (Terminated (Protocol InvalidChunkLength)) 0 true) (outcome.Failed (Protocol InvalidChunkLength)) 1) ×
-    (reads empty Normal 0 true (header 64 5) 2 (byte 0 1 ∷ []) ≡ Accepted (receiver empty (Terminated (Protocol UnknownHeader)) 0 true) (outcome.Failed (Protocol UnknownHeader)) 1) ×
-    (reads empty Normal 0 true zeros 2 (byte 7 1 ∷ []) ≡ Accepted (receiver empty (Terminated (Protocol InvalidChunkAnnouncement)) 0 true) (outcome.Failed (Protocol InvalidChunkAnnouncement)) 1)
+    (reads empty Normal 0 false (header 0 65) 2 (byte 0 1 ∷ done ∷ []) ≡ Accepted (receiver empty (Terminated (Protocol ControlOverflow)) 0 true) (failedOutcome (Protocol ControlOverflow)) 2) ×
+    (reads empty Normal 0 true (header 0 0) 2 (byte 0 1 ∷ []) ≡ Accepted (receiver empty (Terminated (Protocol InvalidChunkLength)) 0 true) (failedOutcome (Protocol InvalidChunkLength)) 1) ×
+    (reads empty Normal 0 true (header 64 5) 2 (byte 0 1 ∷ []) ≡ Accepted (receiver empty (Terminated (Protocol UnknownHeader)) 0 true) (failedOutcome (Protocol UnknownHeader)) 1) ×
+    (reads empty Normal 0 true zeros 2 (byte 7 1 ∷ []) ≡ Accepted (receiver empty (Terminated (Protocol InvalidChunkAnnouncement)) 0 true) (failedOutcome (Protocol InvalidChunkAnnouncement)) 1)
 unfolding numberFrom readyFrom soundOf subMod addMod fitsErrno normalizeIn towardsErrorIn interruptedOf receivedOf shutOf
 a-violation-puts-the-scheduler-back = (refl, refl, refl, refl)
 
 eight-bytes-stay-free-behind-a-body :
-    (reads empty Normal 0 true (header 0 56) 2 (byte 0 1 ∷ []) ≡ Accepted (receiver (ring 64 64 10) Normal 0 true) (outcome.Read 2 1) 1) ×
-    (reads empty Normal 0 true (header 0 57) 2 (byte 0 1 ∷ []) ≡ Accepted (receiver empty (Terminated (Protocol ControlOverflow)) 0 true) (outcome.Failed (Protocol ControlOverflow)) 1)
+    (reads empty Normal 0 true (header 0 56) 2 (byte 0 1 ∷ []) ≡ Accepted (receiver (ring 64 64 10) Normal 0 true) (readOutcome 2 1) 1) ×
+    (reads empty Normal 0 true (header 0 57) 2 (byte 0 1 ∷ []) ≡ Accepted (receiver empty (Terminated (Protocol ControlOverflow)) 0 true) (failedOutcome (Protocol ControlOverflow)) 1)
 unfolding flushCall numberFrom readyFrom soundOf subMod addMod fitsErrno normalizeIn towardsErrorIn interruptedOf receivedOf shutOf
 eight-bytes-stay-free-behind-a-body = (refl, refl)
 
 a-chunk-read-to-its-end-is-acknowledged :
-    reads empty Normal 0 true (header 0 3) 9 (byte 0 1 ∷ sends 1 ∷ []) ≡ Accepted (receiver (ring 64 11 11) Normal 0 true) (outcome.Read 3 1) 2
+    reads empty Normal 0 true (header 0 3) 9 (byte 0 1 ∷ sends 1 ∷ []) ≡ Accepted (receiver (ring 64 11 11) Normal 0 true) (readOutcome 3 1) 2
 unfolding flushCall numberFrom readyFrom soundOf subMod addMod fitsErrno interruptedOf receivedOf sentOf
 a-chunk-read-to-its-end-is-acknowledged = refl
 
 -- five bytes of it at the ring's end and three at its start, the body behind them
 a-header-wraps-around-the-ring's-end :
     readDelivery (receiver (ring 20 15 15) Normal 0 true) (0 ∷ 0 ∷ 3 ∷ 7 ∷ 8 ∷ 9 ∷ replicate 14 0) (1 ∷ 2 ∷ []) 0 (byte 0 0 ∷ []) ≡
-    delivery (Accepted (receiver (ring 20 26 25) Normal 0 true) (outcome.Read 2 0) 1) (7 ∷ 8 ∷ [])
+    delivery (Accepted (receiver (ring 20 26 25) Normal 0 true) (readOutcome 2 0) 1) (7 ∷ 8 ∷ [])
 unfolding flushCall numberFrom readyFrom soundOf subMod addMod fitsErrno interruptedOf receivedOf
 a-header-wraps-around-the-ring's-end = refl
 
 -- ---- a shutdown
 a-shutdown-drains-with-32 :
-    (shuts Normal false (done ∷ []) ≡ Accepted (receiver empty (Draining (Io 32)) 0 true) outcome.Done 1) ×
-    (shuts (Draining (Io 5)) true [] ≡ Accepted (receiver empty (Draining (Io 5)) 0 true) outcome.Done 0)
+    (shuts Normal false (done ∷ []) ≡ Accepted (receiver empty (Draining (Io 32)) 0 true) doneOutcome 1) ×
+    (shuts (Draining (Io 5)) true [] ≡ Accepted (receiver empty (Draining (Io 5)) 0 true) doneOutcome 0)
 unfolding soundOf subMod fitsErrno normalizeIn towardsErrorIn shutOf
 a-shutdown-drains-with-32 = (refl, refl)

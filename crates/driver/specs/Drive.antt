@@ -5,6 +5,7 @@ use mathlib.Core.List.{List, [], _∷_}
 use Rattle.sched.specs.declared.scheduler.RingBufferScheduler.{RingBufferScheduler}
 use Rattle.copies.specs.Copies as copies
 use Rattle.receiver.specs.Call.{answeredOf, overOf, retriesOf}
+use Rattle.receiver.specs.Receiver.{readOutcome}
 use Rattle.receiver.specs.State.{isErrno}
 use Rattle.receiver.specs.declared.answer.Answer.{Answer}
 use Rattle.receiver.specs.declared.call.Call.{Call}
@@ -17,8 +18,9 @@ use Rattle.driver.specs.declared.drive.Fetched.{Fetched}
 use Rattle.driver.specs.declared.drive.Fetched.the-variants.{Got, Missing}
 use Rattle.receiver.specs.declared.receiver.Ended.{Ended}
 use Rattle.receiver.specs.declared.receiver.Ended.the-variants as ended
+use Rattle.receiver.specs.declared.receiver.Came.{Came}
+use Rattle.receiver.specs.declared.receiver.Came.the-variants as came
 use Rattle.receiver.specs.declared.receiver.Outcome.{Outcome}
-use Rattle.receiver.specs.declared.receiver.Outcome.the-variants as outcome
 use Rattle.receiver.specs.declared.refusal.Refusal.the-variants.{AnswerMissing}
 
 -- answer i of a run, if there is one
@@ -86,13 +88,13 @@ abbrev pub delivery : Ended → List ℕ → Delivery
 delivery r dst = record { answer = r; memory = dst }
 
 -- the destination is written last, by a read that is accepted
-abbrev pub deliveredFor : Outcome → RingBufferScheduler → List ℕ → List ℕ → List ℕ
-deliveredFor (outcome.Read n fds) s ring dst = copies.readOf s ring dst .memory
-deliveredFor outcome.Done s ring dst = dst
-deliveredFor (outcome.Failed f) s ring dst = dst
+abbrev pub deliveredFor : Came → RingBufferScheduler → List ℕ → List ℕ → List ℕ
+deliveredFor (came.Read n) s ring dst = copies.readOf s ring dst .memory
+deliveredFor came.Done s ring dst = dst
+deliveredFor (came.Failed f) s ring dst = dst
 
 abbrev pub deliveredBy : Ended → RingBufferScheduler → List ℕ → List ℕ → Delivery
-deliveredBy (ended.Accepted q o used) s ring dst = delivery (ended.Accepted q o used) (deliveredFor o s ring dst)
+deliveredBy (ended.Accepted q o used) s ring dst = delivery (ended.Accepted q o used) (deliveredFor (o .came) s ring dst)
 deliveredBy (ended.Refused r) s ring dst = delivery (ended.Refused r) dst
 
 abbrev pub deliveryFor : Step → ℕ → List ℕ → List ℕ → Delivery
@@ -103,10 +105,13 @@ abbrev pub deliveryOf : Driven → List ℕ → List ℕ → Delivery
 deliveryOf d ring dst = deliveryFor (d .step) (d .used) ring dst
 
 -- last, failure 32 becomes a read of 0 bytes
+abbrev pub endOfStreamBy : Came → Outcome → Outcome
+endOfStreamBy (came.Read n) o = o
+endOfStreamBy came.Done o = o
+endOfStreamBy (came.Failed f) o = cond (isErrno f 32) (readOutcome 0 0) o
+
 abbrev pub endOfStreamFor : Outcome → Outcome
-endOfStreamFor (outcome.Read n fds) = outcome.Read n fds
-endOfStreamFor outcome.Done = outcome.Done
-endOfStreamFor (outcome.Failed f) = cond (isErrno f 32) (outcome.Read 0 0) (outcome.Failed f)
+endOfStreamFor o = endOfStreamBy (o .came) o
 
 abbrev pub endOfStreamIn : Ended → Ended
 endOfStreamIn (ended.Accepted q o used) = ended.Accepted q (endOfStreamFor o) used

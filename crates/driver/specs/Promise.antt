@@ -19,8 +19,9 @@ use Rattle.receiver.specs.declared.call.Step.{Step}
 use Rattle.receiver.specs.declared.call.Step.the-variants as step
 use Rattle.receiver.specs.declared.receiver.Ended.{Ended}
 use Rattle.receiver.specs.declared.receiver.Ended.the-variants as ended
+use Rattle.receiver.specs.declared.receiver.Came.{Came}
+use Rattle.receiver.specs.declared.receiver.Came.the-variants as came
 use Rattle.receiver.specs.declared.receiver.Outcome.{Outcome}
-use Rattle.receiver.specs.declared.receiver.Outcome.the-variants as outcome
 use Rattle.receiver.specs.declared.receiver.ReceiverState.{ReceiverState}
 use Rattle.receiver.specs.declared.refusal.Refusal.{Refusal}
 use Rattle.receiver.specs.declared.refusal.Refusal.the-variants.{AnswerMissing}
@@ -53,19 +54,19 @@ pub data Begins (s : RingBufferScheduler) : ℕ → Type 0 where
 -- A read of n bytes, no more than were asked for, leaves those of the ring at the front of the destination; nothing else changes any.
 -- `s` is the scheduler of the record that was passed.
 module _ (s : RingBufferScheduler) (ring dst left : List ℕ) where
-  abbrev pub FillsBy : Outcome → Type 0
-  FillsBy (outcome.Read n fds) = (n ≤ length dst) × OnlyFront n dst left × ((at : ℕ) → Begins s at → CellsOf (s .«buf_len») ring at (take n left))
-  FillsBy outcome.Done = left ≡ dst
-  FillsBy (outcome.Failed f) = left ≡ dst
+  abbrev pub FillsBy : Came → Type 0
+  FillsBy (came.Read n) = (n ≤ length dst) × OnlyFront n dst left × ((at : ℕ) → Begins s at → CellsOf (s .«buf_len») ring at (take n left))
+  FillsBy came.Done = left ≡ dst
+  FillsBy (came.Failed f) = left ≡ dst
 
   abbrev pub Fills : Ended → Type 0
-  Fills (ended.Accepted q o used) = FillsBy o
+  Fills (ended.Accepted q o used) = FillsBy (o .came)
   Fills (ended.Refused r) = left ≡ dst
 
 -- ---- the end of the stream: failure 32 becomes a read of no bytes and no descriptors, and every other outcome stays
 pub data TurnedTo : Outcome → Outcome → Type 0 where
-  ended-stream : TurnedTo (outcome.Failed (Io 32)) (outcome.Read 0 0)
-  stays : (o : Outcome) → o ≢ outcome.Failed (Io 32) → TurnedTo o o
+  ended-stream : {o : Outcome} → o .came ≡ came.Failed (Io 32) → TurnedTo o (record { came = came.Read 0; fds = 0 })
+  stays : {o : Outcome} → o .came ≢ came.Failed (Io 32) → TurnedTo o o
 
 -- nothing else of an answer changes
 pub data Turned : Ended → Ended → Type 0 where

@@ -4,6 +4,7 @@ ghost use Rattle.driver.specs.Drive.{overIn, retriesIn, answeredIn, driv
 ghost use Rattle.driver.specs.Run.{FetchLeaves};
 use receiver::Answer;
 use receiver::Call;
+use receiver::Came;
 use receiver::Ended;
 use receiver::Failure;
 use receiver::Outcome;
@@ -139,7 +140,8 @@ fn deliver_ended(ended: Ended, source: RingBufferScheduler, ring: &[u8], dst: &m
             outcome,
             used,
         } => {
-            deliver_by(outcome, source, ring, dst);
+            let came = outcome.came;
+            deliver_by(came, source, ring, dst);
             Ended::Accepted {
                 receiver,
                 outcome,
@@ -150,15 +152,15 @@ fn deliver_ended(ended: Ended, source: RingBufferScheduler, ring: &[u8], dst: &m
     }
 }
 
-fn deliver_by(outcome: Outcome, source: RingBufferScheduler, ring: &[u8], dst: &mut [u8])
-    ensures { λ _. ⌜ now (dst .exit) ≡ deliveredFor outcome source (now (ring .entry)) (now (dst .entry)) ⌝ }
+fn deliver_by(came: Came, source: RingBufferScheduler, ring: &[u8], dst: &mut [u8])
+    ensures { λ _. ⌜ now (dst .exit) ≡ deliveredFor came source (now (ring .entry)) (now (dst .entry)) ⌝ }
 {
-    match outcome {
-        Outcome::Read { .. } => {
+    match came {
+        Came::Read(_) => {
             copies::read(source, ring, dst);
         }
-        Outcome::Done => {}
-        Outcome::Failed(_) => {}
+        Came::Done => {}
+        Came::Failed(_) => {}
     }
 }
 
@@ -166,14 +168,18 @@ fn deliver_by(outcome: Outcome, source: RingBufferScheduler, ring: &[u8], dst: &
 fn end_of_stream_for(outcome: Outcome) -> Outcome
     ensures { λ r. ⌜ r ≡ endOfStreamFor outcome ⌝ }
 {
-    match outcome {
-        Outcome::Read { n, fds } => Outcome::Read { n, fds },
-        Outcome::Done => Outcome::Done,
-        Outcome::Failed(f) => {
+    let came = outcome.came;
+    match came {
+        Came::Read(_) => outcome,
+        Came::Done => outcome,
+        Came::Failed(f) => {
             if f.is_errno(Failure::SHUTDOWN) {
-                return Outcome::Read { n: 0, fds: 0 };
+                return Outcome {
+                    came: Came::Read(0),
+                    fds: 0,
+                };
             }
-            Outcome::Failed(f)
+            outcome
         }
     }
 }

@@ -2,7 +2,8 @@
 ghost use mathlib.Core.Path.{_≡_};
 ghost use mathlib.Core.List.{[]};
 ghost use Rattle.driver.specs.Drive.{drivenOf, endedOf};
-ghost use Rattle.driver.specs.Run.{ServiceLeaves, ShutdownLeaves, ReadImplLeaves, ReadLeaves};
+ghost use Rattle.driver.specs.Run.{readOf, ServiceLeaves, ShutdownLeaves, ReadImplLeaves, ReadLeaves};
+use crate::drive::Driven;
 use crate::drive::drive;
 use crate::drive::end_of_stream;
 use receiver::Answer;
@@ -32,6 +33,20 @@ pub fn shutdown(receiver: ReceiverState, answers: &[Answer]) -> Ended
     drive_without_ring(Call::begin_shutdown(receiver), answers)
 }
 
+// A read into a destination of `dst_len` bytes, which are still to be copied.
+pub(crate) fn drive_read(
+    receiver: ReceiverState,
+    ring: &[u8],
+    dst_len: u64,
+    max_new_fds: u64,
+    answers: &[Answer],
+) -> Driven
+    ensures { λ r. ⌜ r ≡ readOf receiver (now (ring .entry)) «dst_len» «max_new_fds» (now (answers .entry)) ⌝ }
+{
+    let begun = Call::begin_read(receiver, ring.len(), max_new_fds, dst_len);
+    drive(begun, ring, answers)
+}
+
 // A read that tells the end of the stream as failure 32.
 pub fn read_with_fds_impl(
     receiver: ReceiverState,
@@ -42,8 +57,7 @@ pub fn read_with_fds_impl(
 ) -> Ended
     ensures { λ r. ⌜ ReadImplLeaves receiver (now (ring .entry)) (now (dst .entry)) «max_new_fds» (now (answers .entry)) r (now (dst .exit)) ⌝ }
 {
-    let begun = Call::begin_read(receiver, ring.len(), max_new_fds, dst.len() as u64);
-    let driven = drive(begun, ring, answers);
+    let driven = drive_read(receiver, ring, dst.len() as u64, max_new_fds, answers);
     driven.deliver(ring, dst)
 }
 

@@ -6,6 +6,7 @@ use mathlib.Core.Logic.{_≢_, inl, inr}
 use native.Mathlib.Omega.{arith}
 use Rattle.sched.specs.declared.scheduler.RingBufferScheduler.{RingBufferScheduler}
 use Rattle.sched.specs.Scheduler.{dataIn}
+use Rattle.receiver.specs.Receiver.{failedOutcome}
 use Rattle.receiver.specs.Call.{outcomeIn}
 use Rattle.receiver.specs.Cases.{Chunk, BeginsRead, is-terminated, none-asked, awaits, holds-data, TakesIn}
 use Rattle.receiver.specs.Handed.{comingTo}
@@ -15,10 +16,11 @@ use Rattle.receiver.specs.declared.call.Ending.{Ending}
 use Rattle.receiver.specs.declared.call.Ending.the-variants.{Dropped}
 use Rattle.receiver.specs.declared.call.Phase.{Phase}
 use Rattle.receiver.specs.declared.call.Phase.the-variants as phase
+use Rattle.receiver.specs.declared.receiver.Came.{Came}
+use Rattle.receiver.specs.declared.receiver.Came.the-variants as came
 use Rattle.receiver.specs.declared.receiver.Outcome.{Outcome}
-use Rattle.receiver.specs.declared.receiver.Outcome.the-variants as outcome
 use Rattle.receiver.specs.declared.receiver.ReceiverState.{ReceiverState}
-use Rattle.receiver.proofs.StepLaws.{Settled, Ends, as-dropped, as-told, told-failure, Spends, sentIn, sent-spends, shut-spends, Hands, hands, Came, handed, failed, came}
+use Rattle.receiver.proofs.StepLaws.{Settled, Ends, as-dropped, as-told, told-failure, Spends, sentIn, sent-spends, shut-spends, Hands, hands, Took, handed, failed, took}
 use Prim.Native.Nat.{_%_, _*_}
 use Rattle.modular.proofs.Laws.{add-is}
 use Rattle.sched.proofs.Laws.{advanced-offset}
@@ -33,10 +35,13 @@ module _ (asked : ℕ) (t : RingBufferScheduler) where
     own : dataIn t ≢ 0 → Source t
     chunk : {s : RingBufferScheduler} {n : ℕ} → dataIn t ≡ 0 → Chunk t n s → Source s
 
+  abbrev pub CopiesBy : Came → RingBufferScheduler → Type 0
+  CopiesBy (came.Read n) s = (n ≡ min asked (dataIn s)) × Source s
+  CopiesBy came.Done s = Unit {0}
+  CopiesBy (came.Failed f) s = Unit {0}
+
   abbrev pub Copies : Outcome → RingBufferScheduler → Type 0
-  Copies (outcome.Read n fds) s = (n ≡ min asked (dataIn s)) × Source s
-  Copies outcome.Done s = Unit {0}
-  Copies (outcome.Failed f) s = Unit {0}
+  Copies o s = CopiesBy (o .came) s
 
   -- one that waits for its announcement is still as it was begun
   abbrev AwaitsIn : Phase → Call → Type 0
@@ -78,9 +83,9 @@ module _ (asked : ℕ) (t : RingBufferScheduler) where
       }
 
   module _ (c : Call) (ring : List ℕ) (a : Answer) (d : Call) (on : OnTheWay asked t c) where
-    came-on : (n : ℕ) → n ≡ asked → c .receiver .scheduler ≡ t → dataIn t ≡ 0 → Came (c .receiver) (c .source) n d → OnTheWay asked t d
-    came-on n e s z (handed r m fds k l h) = hands-on r fds d (subst (λ (x : ℕ). Hands r x fds d) e h) (chunk z (subst (λ (x : RingBufferScheduler). Chunk x m (r .scheduler)) s k))
-    came-on n e s z (failed f h) = spends-on (c .receiver) (c .source) (Dropped (outcome.Failed f)) 0 d h tt
+    took-on : (n : ℕ) → n ≡ asked → c .receiver .scheduler ≡ t → dataIn t ≡ 0 → Took (c .receiver) (c .source) n d → OnTheWay asked t d
+    took-on n e s z (handed r m fds k l h) = hands-on r fds d (subst (λ (x : ℕ). Hands r x fds d) e h) (chunk z (subst (λ (x : RingBufferScheduler). Chunk x m (r .scheduler)) s k))
+    took-on n e s z (failed f h) = spends-on (c .receiver) (c .source) (Dropped (failedOutcome f)) 0 d h tt
 
     still : d ≡ c → OnTheWay asked t d
     still e = subst (OnTheWay asked t) (sym e) on
@@ -92,7 +97,7 @@ module _ (asked : ℕ) (t : RingBufferScheduler) where
     step-on (phase.Receive top n) p (inl (i, e)) = still e
     step-on (phase.Receive top n) p (inr (i, (x, says, h))) =
         let w : AwaitsIn asked t (phase.Receive top n) c = subst (λ (y : Phase). AwaitsIn asked t y c) p (on .awaits) in
-        came-on n (w .0) (w .2) (w .3) (came (c .receiver) (c .source) ring n (λ z. w .1 (sym (w .0) ∙ z)) x d h .1)
+        took-on n (w .0) (w .2) (w .3) (took (c .receiver) (c .source) ring n (λ z. w .1 (sym (w .0) ∙ z)) x d h .1)
     step-on (phase.Send batch e) p (inl (i, k)) = still k
     step-on (phase.Send batch e) p (inr (i, (x, says, h))) = spends-on (c .receiver) (c .source) e (sentIn x) d (sent-spends (c .receiver) (c .source) e x d h) (copies-as (phase.Send batch e) p)
     step-on (phase.Shutdown e) p (x, says, h) = spends-on (c .receiver) (c .source) e 0 d (shut-spends (c .receiver) (c .source) e x d h) (copies-as (phase.Shutdown e) p)

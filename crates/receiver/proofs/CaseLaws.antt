@@ -19,7 +19,7 @@ use Rattle.receiver.specs.Call.{call, finishedCall, outcomeIn, toldIn, s
 use Rattle.receiver.specs.Cases as cases
 use Rattle.receiver.specs.Cases.{Meets, is-told, is-dropped, none-met, ComesTo, told-so, dropped-to, Closes, is-normal, shut-before, asks, Flushes, none-pending, sends, Serves, failed-before, flushes, Advances, TakesSent, none-went, some-went, send-blocks, send-fails, HandsOut, a-part, all-of-it, Fails, Blocks, goes-on, is-drained, Chunk, Numbered, violation-1, violation-2, violation-3, violation-4, Header, TakesReceived, announces, header-violates, receive-blocks, receive-fails, Reading, BeginsRead, is-terminated, none-asked, awaits, holds-data, Goes}
 use Rattle.receiver.specs.Promise.{Holds, body}
-use Rattle.receiver.specs.Receiver.{withScheduler, withState, withPending, batchIn, numberFrom, headerIn, announcedIn, byteIn, handedOut}
+use Rattle.receiver.specs.Receiver.{readOutcome, failedOutcome, withScheduler, withState, withPending, batchIn, numberFrom, headerIn, announcedIn, byteIn, handedOut}
 use Rattle.receiver.specs.State.{violationNumber, failureIn, advanceIn}
 use Rattle.receiver.specs.declared.announcement.Announced.{Announced}
 use Rattle.receiver.specs.declared.announcement.Announced.the-variants as announced
@@ -30,7 +30,6 @@ use Rattle.receiver.specs.declared.call.Ending.{Ending}
 use Rattle.receiver.specs.declared.call.Ending.the-variants.{Dropped, Told}
 use Rattle.receiver.specs.declared.call.Phase.the-variants as phase
 use Rattle.receiver.specs.declared.call.Step.{Step}
-use Rattle.receiver.specs.declared.receiver.Outcome.the-variants as outcome
 use Rattle.receiver.specs.declared.receiver.ReceiverState.{ReceiverState}
 use Rattle.receiver.specs.declared.state.Failure.{Failure}
 use Rattle.receiver.specs.declared.state.Failure.the-variants.{Io, Protocol}
@@ -143,19 +142,19 @@ module _ (q : ReceiverState) (sound : IsSound (q .scheduler)) (asked fds : ℕ) 
       by true z =
           let l : asked < d = ltb-true asked d z in
           let m : asked ≡ min asked d = omega (arith, l) in
-          subst (λ (n : ℕ). HandsOut q asked fds (serviceCall (handedOut q n) (q .scheduler) (Dropped (outcome.Read n fds)))) m
-          (subst (λ (r : ReceiverState). HandsOut q asked fds (serviceCall r (q .scheduler) (Dropped (outcome.Read asked fds)))) (sym (handed-part asked (omega (arith, l)) l))
+          subst (λ (n : ℕ). HandsOut q asked fds (serviceCall (handedOut q n) (q .scheduler) (Dropped (readOutcome n fds)))) m
+          (subst (λ (r : ReceiverState). HandsOut q asked fds (serviceCall r (q .scheduler) (Dropped (readOutcome asked fds)))) (sym (handed-part asked (omega (arith, l)) l))
           (a-part l (reads asked (omega (arith, l))) (serves _ _ _)))
       by false z =
           let l : d ≤ asked = ltb-false asked d z in
           let m : d ≡ min asked d = omega (arith, l) in
-          subst (λ (n : ℕ). HandsOut q asked fds (serviceCall (handedOut q n) (q .scheduler) (Dropped (outcome.Read n fds)))) m
-          (subst (λ (r : ReceiverState). HandsOut q asked fds (serviceCall r (q .scheduler) (Dropped (outcome.Read d fds)))) (sym (handed-all d (omega arith) refl))
+          subst (λ (n : ℕ). HandsOut q asked fds (serviceCall (handedOut q n) (q .scheduler) (Dropped (readOutcome n fds)))) m
+          (subst (λ (r : ReceiverState). HandsOut q asked fds (serviceCall r (q .scheduler) (Dropped (readOutcome d fds)))) (sym (handed-all d (omega arith) refl))
           (all-of-it l (reads d (omega arith)) (serves _ _ _)))
 
 module _ (q : ReceiverState) (s : RingBufferScheduler) where
   pub fails : (f : Failure) → Fails f q s (failedCall f q s)
-  fails f = advances (Terminated f) None q s (Dropped (outcome.Failed f)) (Dropped (outcome.Failed f)) none-met
+  fails f = advances (Terminated f) None q s (Dropped (failedOutcome f)) (Dropped (failedOutcome f)) none-met
 
   blocks-by : (st : OperationalState) → q .state ≡ st → ((f : Failure) → st ≢ Terminated f) → Blocks q s (blockedBy st q s)
   blocks-by Normal p h = goes-on p

@@ -17,7 +17,7 @@ use Rattle.receiver.specs.Answer.{interruptedOf, receivedOf, sentOf, shu
 use Rattle.receiver.specs.Call.{serviceCall, advanceCall, sentCall, unsentCall, afterSend, afterShut, afterReceive, readCall, admittedStep, beginReadOf, beginServiceOf, beginShutdownOf, looksBy, looksAt, resumedBy, resumedOf, steppedBy, answeredFrom, answeredOf}
 use Rattle.receiver.specs.Cases.{none-met, Closes, is-normal, shut-before, asks, Flushes, none-pending, sends, Serves, failed-before, flushes, TakesSent, TakesReceived, TakesShut, is-shut, is-not, HandsOut, a-part, all-of-it, BeginsRead, is-terminated, none-asked, awaits, holds-data, BeginsService, BeginsShutdown, Looks, at-a-byte, at-no-byte, at-a-send, at-a-shutdown, at-the-end, ResumesIn, Resumes, Interrupts, TakesIn, Takes, Answered, Goes}
 use Rattle.receiver.specs.Promise.{AByte, SaysReceived, a-byte, closed, receive-failed, no-receive, SaysSent, so-many, Batch, all, most}
-use Rattle.receiver.specs.Receiver.{batchIn, bySent}
+use Rattle.receiver.specs.Receiver.{doneOutcome, batchIn, bySent}
 use Rattle.receiver.specs.declared.admission.Admission.{Admission}
 use Rattle.receiver.specs.declared.admission.Admission.the-variants as admission
 use Rattle.receiver.specs.declared.answer.Answer.{Answer}
@@ -38,7 +38,6 @@ use Rattle.receiver.specs.declared.state.Failure.{Failure}
 use Rattle.receiver.specs.declared.state.Failure.the-variants.{Io}
 use Rattle.receiver.specs.declared.state.OperationalState.the-variants.{Draining, Terminated}
 use Rattle.receiver.specs.declared.state.PotentialFailure.the-variants.{None}
-use Rattle.receiver.specs.declared.receiver.Outcome.the-variants as outcome
 use Rattle.receiver.specs.declared.call.Ending.the-variants.{Told}
 use Rattle.receiver.specs.declared.admission.Memory.the-variants as memory
 
@@ -182,12 +181,12 @@ module _ (q : ReceiverState) where
   begins-at n top asked = passing _ (admissionOf q (memory.Of n)) (readCall q top asked) (λ k. begins-read q (passed-sound q (memory.Of n) k) top asked)
 
   pub serves-at : Goes (BeginsService q) (beginServiceOf q)
-  serves-at = passing _ (admissionOf q memory.None) (Of (serviceCall q (q .scheduler) (Told outcome.Done))) (λ k. serves q (q .scheduler) (Told outcome.Done))
+  serves-at = passing _ (admissionOf q memory.None) (Of (serviceCall q (q .scheduler) (Told doneOutcome))) (λ k. serves q (q .scheduler) (Told doneOutcome))
 
   pub shuts-at : Goes (BeginsShutdown q) (beginShutdownOf q)
   shuts-at =
-      passing _ (admissionOf q memory.None) (Of (advanceCall (Draining (Io 32)) q (q .scheduler) (Told outcome.Done)))
-      (λ k. advances (Draining (Io 32)) None q (q .scheduler) (Told outcome.Done) (Told outcome.Done) none-met)
+      passing _ (admissionOf q memory.None) (Of (advanceCall (Draining (Io 32)) q (q .scheduler) (Told doneOutcome)))
+      (λ k. advances (Draining (Io 32)) None q (q .scheduler) (Told doneOutcome) (Told doneOutcome) none-met)
 
   -- a read that is begun is of a sound record, over a ring of its length
   pub read-admitted : (n top asked : ℕ) (c : Call) → beginReadOf q n top asked ≡ Of c → IsSound (q .scheduler) × (n ≡ q .scheduler .«buf_len»)

@@ -22,7 +22,7 @@ use Rattle.receiver.proofs.Spent.{interrupted-sends, sent-sends, failed
 use Rattle.receiver.specs.Admission.{admissionOf}
 use Rattle.receiver.specs.Answer.{interruptedOf, receivedOf, sentOf, shutOf}
 use Rattle.receiver.specs.State.{fitsFailure, fitsState, failureIn, isErrno, advanceIn}
-use Rattle.receiver.specs.Receiver.{withScheduler, withState, withPending, withShutdown, batchIn, bySent, byteIn, handedOut}
+use Rattle.receiver.specs.Receiver.{readOutcome, failedOutcome, doneOutcome, withScheduler, withState, withPending, withShutdown, batchIn, bySent, byteIn, handedOut}
 use Rattle.receiver.specs.Call.{call, finishedCall, outcomeIn, toldIn, advanceCall, flushCall, serviceCallBy, serviceCall, sentCall, unsentCall, afterShut, handOutCall, failedCall, blockedBy, announcedCall, afterReceive, liveCall, readBy, admittedStep, beginReadOf, beginServiceOf, beginShutdownOf, retriesIn, retriesOf, looksBy, looksAt, resumedBy, resumedOf, steppedBy, answeredFrom, answeredOf}
 use Rattle.receiver.specs.Promise.{SaysReceived, a-byte, closed, receive-failed, no-receive}
 use Rattle.receiver.specs.Handed.{Handed, wholeIn, stepOf, keptBy, handedTo, sentAt, allSentTo, comingTo, wholeAt, allWholeTo}
@@ -47,7 +47,6 @@ use Rattle.receiver.specs.declared.call.Phase.the-variants as phase
 use Rattle.receiver.specs.declared.call.Step.{Step}
 use Rattle.receiver.specs.declared.call.Step.the-variants.{Of, Refused}
 use Rattle.receiver.specs.declared.receiver.Outcome.{Outcome}
-use Rattle.receiver.specs.declared.receiver.Outcome.the-variants as outcome
 use Rattle.receiver.specs.declared.receiver.ReceiverState.{ReceiverState}
 use Rattle.receiver.specs.declared.refusal.Refusal.the-variants.{Misfit}
 use Rattle.receiver.specs.declared.state.Failure.{Failure}
@@ -82,11 +81,11 @@ module _ (c : Call) (h : Made c) (top asked : ℕ) (a : Answer) where
 
   fails : (f : Failure) → fitsFailure f ≡ true → Ok (failedCall f q (c .source))
   fails f k =
-      let d = advance-keeps (c .source) (Terminated f) k q (h .tested) (Dropped (outcome.Failed f)) in
-      (d .made, omega (arith, d .counts, ap (wholeIn (failedCall f q (c .source) .receiver)) (shutdown-coming (withState q (advanceIn (q .state) (Terminated f))) (c .source) (Dropped (outcome.Failed f)) (advanceIn (q .state) (Terminated f)))))
+      let d = advance-keeps (c .source) (Terminated f) k q (h .tested) (Dropped (failedOutcome f)) in
+      (d .made, omega (arith, d .counts, ap (wholeIn (failedCall f q (c .source) .receiver)) (shutdown-coming (withState q (advanceIn (q .state) (Terminated f))) (c .source) (Dropped (failedOutcome f)) (advanceIn (q .state) (Terminated f)))))
 
   blocks : (st : OperationalState) → fitsState st ≡ true → Ok (blockedBy st q (c .source))
-  blocks Normal k = let d = finished-keeps (c .source) q (h .tested) (Told outcome.Done) (outcome.Failed (Io 11)) in (d .made, omega arith)
+  blocks Normal k = let d = finished-keeps (c .source) q (h .tested) (Told doneOutcome) (failedOutcome (Io 11)) in (d .made, omega arith)
   blocks (Draining f) k = fails f k
   blocks (Terminated f) k = fails (Io 11) blocked-fits
 
@@ -112,14 +111,14 @@ module _ (c : Call) (h : Made c) (top asked : ℕ) (a : Answer) where
     handed-counts true = refl
     handed-counts false = omega arith
 
-    whole : (r : ReceiverState) → r .scheduler ≡ left → wholeIn r (outcome.Read n fds) ≡ cond (eqb (dataIn left) 0) 1 0
+    whole : (r : ReceiverState) → r .scheduler ≡ left → wholeIn r (readOutcome n fds) ≡ cond (eqb (dataIn left) 0) 1 0
     whole r e = rw (ne-eqb n 0 moved, ap (λ (x : RingBufferScheduler). eqb (dataIn x) 0) e)
 
     hands-out : Ok (handOutCall asked fds (withScheduler q u))
     hands-out =
-        let d = service-keeps u (handedOut (withScheduler q u) n) (handed-tested (withScheduler q u) n t (omega arith)) (Dropped (outcome.Read n fds)) in
+        let d = service-keeps u (handedOut (withScheduler q u) n) (handed-tested (withScheduler q u) n t (omega arith)) (Dropped (readOutcome n fds)) in
         let w = whole (handOutCall asked fds (withScheduler q u) .receiver) (d .same ∙ handed-left (eqb (dataIn left) 0)) in
-        let o = ap (wholeIn (handOutCall asked fds (withScheduler q u) .receiver)) (service-coming (handedOut (withScheduler q u) n) u (outcome.Read n fds) (failureIn (handedOut (withScheduler q u) n .state))) in
+        let o = ap (wholeIn (handOutCall asked fds (withScheduler q u) .receiver)) (service-coming (handedOut (withScheduler q u) n) u (readOutcome n fds) (failureIn (handedOut (withScheduler q u) n .state))) in
         (d .made, omega (arith, d .counts, handed-counts (eqb (dataIn left) 0), w, o))
 
   announces : eqb asked 0 ≡ false → (x : Announced) → Chunked (q .scheduler) x → FitsIn x → Ok (announcedCall x asked q (c .source))
@@ -286,26 +285,26 @@ module _ (q : ReceiverState) where
   begun m x f (admission.Refused r) e = tt
 
   pub service-made : MadeBy (beginServiceOf q)
-  service-made = begun memory.None (Of (serviceCall q (q .scheduler) (Told outcome.Done))) (λ h. service-keeps (q .scheduler) q h (Told outcome.Done) .made) (admissionOf q memory.None) refl
+  service-made = begun memory.None (Of (serviceCall q (q .scheduler) (Told doneOutcome))) (λ h. service-keeps (q .scheduler) q h (Told doneOutcome) .made) (admissionOf q memory.None) refl
 
   pub shutdown-made : MadeBy (beginShutdownOf q)
   shutdown-made =
-      begun memory.None (Of (advanceCall (Draining (Io 32)) q (q .scheduler) (Told outcome.Done)))
-      (λ h. advance-keeps (q .scheduler) (Draining (Io 32)) end-fits q h (Told outcome.Done) .made) (admissionOf q memory.None) refl
+      begun memory.None (Of (advanceCall (Draining (Io 32)) q (q .scheduler) (Told doneOutcome)))
+      (λ h. advance-keeps (q .scheduler) (Draining (Io 32)) end-fits q h (Told doneOutcome) .made) (admissionOf q memory.None) refl
 
   module _ (top asked : ℕ) (h : Tested q) where
     live-made : (st : OperationalState) → liveCall q top asked ≡ readBy st q top asked → readBy st q top asked ≡ readBy (q .state) q top asked → MadeBy (liveCall q top asked)
     live-made st l w =
-        either-made (eqb asked 0) _ _ (λ e. finished-keeps (q .scheduler) q h (Told outcome.Done) (outcome.Read 0 0) .made)
+        either-made (eqb asked 0) _ _ (λ e. finished-keeps (q .scheduler) q h (Told doneOutcome) (readOutcome 0 0) .made)
         (λ e. either-made (eqb (q .«pending_ack_count») (2 ^ 64 - 1)) _ _ (λ f. tt)
         (λ f. either-made (eqb (dataIn (q .scheduler)) 0) _ _
         (λ z. record { tested = h; resumes = sym (live-waits q top asked e f z ∙ l ∙ w) })
-        (λ z. service-keeps (q .scheduler) (handedOut q (min asked (dataIn (q .scheduler)))) (handed-tested q (min asked (dataIn (q .scheduler))) h (omega arith)) (Dropped (outcome.Read (min asked (dataIn (q .scheduler))) 0)) .made)))
+        (λ z. service-keeps (q .scheduler) (handedOut q (min asked (dataIn (q .scheduler)))) (handed-tested q (min asked (dataIn (q .scheduler))) h (omega arith)) (Dropped (readOutcome (min asked (dataIn (q .scheduler))) 0)) .made)))
 
     read-made : (st : OperationalState) → readBy st q top asked ≡ readBy (q .state) q top asked → MadeBy (readBy st q top asked)
     read-made Normal w = live-made Normal refl w
     read-made (Draining f) w = live-made (Draining f) refl w
-    read-made (Terminated f) w = finished-keeps (q .scheduler) q h (Told outcome.Done) (outcome.Failed f) .made
+    read-made (Terminated f) w = finished-keeps (q .scheduler) q h (Told doneOutcome) (failedOutcome f) .made
 
   pub begin-read-made : (ring-len top asked : ℕ) → MadeBy (beginReadOf q ring-len top asked)
   begin-read-made ring-len top asked =

@@ -18,7 +18,6 @@ use Rattle.receiver.specs.declared.call.Phase.{Phase}
 use Rattle.receiver.specs.declared.call.Phase.the-variants.{Receive, Send, Shutdown}
 use Rattle.receiver.specs.declared.call.Step.{Step}
 use Rattle.receiver.specs.declared.call.Step.the-variants.{Of, Refused}
-use Rattle.receiver.specs.declared.receiver.Outcome.the-variants as outcome
 use Rattle.receiver.specs.declared.receiver.ReceiverState.{ReceiverState}
 use Rattle.receiver.specs.declared.refusal.Refusal.the-variants.{Copy, Misfit}
 use Rattle.receiver.specs.declared.state.Failure.the-variants.{Io}
@@ -26,7 +25,7 @@ use Rattle.receiver.specs.declared.state.OperationalState.{OperationalSt
 use Rattle.receiver.specs.declared.state.OperationalState.the-variants.{Normal, Draining, Terminated}
 use Rattle.receiver.specs.Answer.{interruptedOf, receivedOf, sentOf, shutOf}
 use Rattle.receiver.specs.State.{fitsErrno, normalizeIn, towardsErrorIn}
-use Rattle.receiver.specs.Receiver.{receiver}
+use Rattle.receiver.specs.Receiver.{readOutcome, failedOutcome, doneOutcome, receiver}
 use Rattle.receiver.specs.Call.{call, finishedCall, flushCall, beginReadOf, answeredOf}
 use Rattle.receiver.specs.Refusal.{numberOf}
 
@@ -54,7 +53,7 @@ waits s st pending ph = call (receiver s st pending false) s ph
 
 -- three bytes were read to the end of their chunk, and are copied by (10, 3, 0)
 abbrev reading : ℕ → Call
-reading pending = call (receiver (ring 10 3 3) Normal pending false) (ring 10 3 0) (Send 128 (Dropped (outcome.Read 3 0)))
+reading pending = call (receiver (ring 10 3 3) Normal pending false) (ring 10 3 0) (Send 128 (Dropped (readOutcome 3 0)))
 
 -- the second answer does not fit: the call still waits to send, with pending 173, and goes on from there
 a-refused-answer-leaves-the-call :
@@ -62,24 +61,24 @@ a-refused-answer-leaves-the-call :
     (answeredOf (reading 301) [] (sends 128) 1 ≡ Of (reading 173)) ×
     (answeredOf (reading 173) [] done 2 ≡ Refused (Misfit 2)) ×
     (answeredOf (reading 173) [] (sends 129) 2 ≡ Refused (Misfit 2)) ×
-    (answeredOf (reading 173) [] (sends 100) 3 ≡ Of (call (receiver (ring 10 3 3) Normal 73 false) (ring 10 3 0) (Send 73 (Dropped (outcome.Read 3 0)))))
+    (answeredOf (reading 173) [] (sends 100) 3 ≡ Of (call (receiver (ring 10 3 3) Normal 73 false) (ring 10 3 0) (Send 73 (Dropped (readOutcome 3 0)))))
 unfolding flushCall readyFrom soundOf subMod addMod fitsErrno interruptedOf sentOf
 a-refused-answer-leaves-the-call = (refl, refl, refl, refl, refl)
 
 -- 1 to 5, then 12 with place 0, in every phase
 an-answer-tests-the-record-anew :
-    (answeredOf (waits (ring 10 11 0) (Draining (Io 5000)) 3 (Send 3 (Told outcome.Done))) [] (sends 3) 1 ≡
+    (answeredOf (waits (ring 10 11 0) (Draining (Io 5000)) 3 (Send 3 (Told doneOutcome))) [] (sends 3) 1 ≡
     Refused (Copy (Scheduler (DataAvailOutOfBounds 10 (record { 0 = 11 }) (record { 0 = 0 }))))) ×
-    (answeredOf (waits (ring 10 3 0) (Draining (Io 5000)) 3 (Send 3 (Told outcome.Done))) [] (sends 3) 1 ≡ Refused (Misfit 0)) ×
-    (answeredOf (waits (ring 10 3 0) (Draining (Io 5000)) 3 (Shutdown (Told outcome.Done))) [] done 1 ≡ Refused (Misfit 0)) ×
-    (answeredOf (waits (ring 10 11 0) (Draining (Io 5)) 3 (Shutdown (Told outcome.Done))) [] done 1 ≡
+    (answeredOf (waits (ring 10 3 0) (Draining (Io 5000)) 3 (Send 3 (Told doneOutcome))) [] (sends 3) 1 ≡ Refused (Misfit 0)) ×
+    (answeredOf (waits (ring 10 3 0) (Draining (Io 5000)) 3 (Shutdown (Told doneOutcome))) [] done 1 ≡ Refused (Misfit 0)) ×
+    (answeredOf (waits (ring 10 11 0) (Draining (Io 5)) 3 (Shutdown (Told doneOutcome))) [] done 1 ≡
     Refused (Copy (Scheduler (DataAvailOutOfBounds 10 (record { 0 = 11 }) (record { 0 = 0 })))))
 unfolding soundOf subMod fitsErrno
 an-answer-tests-the-record-anew = (refl, refl, refl, refl)
 
 -- 9 where a byte was received and the ring is another, and only there; before 12 with place 0
 the-ring-is-looked-at-where-a-byte-was-received :
-    (answeredOf (waits (ring 10 0 0) Normal 0 (Receive 0 9)) [] (fails 11) 1 ≡ Of (finishedCall (receiver (ring 10 0 0) Normal 0 false) (ring 10 0 0) (outcome.Failed (Io 11)))) ×
+    (answeredOf (waits (ring 10 0 0) Normal 0 (Receive 0 9)) [] (fails 11) 1 ≡ Of (finishedCall (receiver (ring 10 0 0) Normal 0 false) (ring 10 0 0) (failedOutcome (Io 11)))) ×
     (answeredOf (waits (ring 10 0 0) Normal 0 (Receive 0 9)) [] byte 1 ≡ Refused (Copy RingMemory)) ×
     (answeredOf (waits (ring 10 0 0) (Draining (Io 5000)) 0 (Receive 0 9)) [] byte 1 ≡ Refused (Copy RingMemory)) ×
     (answeredOf (waits (ring 10 0 0) (Draining (Io 5000)) 0 (Receive 0 9)) [] (fails 11) 1 ≡ Refused (Misfit 0))
@@ -89,10 +88,10 @@ the-ring-is-looked-at-where-a-byte-was-received = (refl, refl, refl, refl)
 -- a phase that the record cannot be in is answered by the rules of the record
 a-made-up-phase :
     (answeredOf (waits (ring 10 0 0) (Terminated (Io 9)) 0 (Receive 0 9)) (replicate 10 0) byte 1 ≡
-    Of (finishedCall (receiver (ring 10 0 0) (Terminated (Io 9)) 0 false) (ring 10 0 0) (outcome.Failed (Io 9)))) ×
-    (answeredOf (waits (ring 10 0 0) (Draining (Io 5)) 3 (Send 3 (Told outcome.Done))) [] (sends 3) 1 ≡
-    Of (finishedCall (receiver (ring 10 0 0) (Draining (Io 5)) 3 false) (ring 10 0 0) (outcome.Failed (Io 5)))) ×
-    (answeredOf (waits (ring 10 0 0) Normal 3 (Shutdown (Told outcome.Done))) [] done 1 ≡
-    Of (finishedCall (receiver (ring 10 0 0) Normal 3 false) (ring 10 0 0) outcome.Done))
+    Of (finishedCall (receiver (ring 10 0 0) (Terminated (Io 9)) 0 false) (ring 10 0 0) (failedOutcome (Io 9)))) ×
+    (answeredOf (waits (ring 10 0 0) (Draining (Io 5)) 3 (Send 3 (Told doneOutcome))) [] (sends 3) 1 ≡
+    Of (finishedCall (receiver (ring 10 0 0) (Draining (Io 5)) 3 false) (ring 10 0 0) (failedOutcome (Io 5)))) ×
+    (answeredOf (waits (ring 10 0 0) Normal 3 (Shutdown (Told doneOutcome))) [] done 1 ≡
+    Of (finishedCall (receiver (ring 10 0 0) Normal 3 false) (ring 10 0 0) doneOutcome))
 unfolding readyFrom soundOf subMod fitsErrno interruptedOf receivedOf sentOf shutOf
 a-made-up-phase = (refl, refl, refl)

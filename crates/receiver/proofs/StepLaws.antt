@@ -9,9 +9,10 @@ use lib.Dec.{eqb}
 use borrow.Author.Tests.{eq-eqb, ne-eqb}
 use Rattle.sched.specs.declared.scheduler.RingBufferScheduler.{RingBufferScheduler}
 use Rattle.sched.specs.Scheduler.{dataIn}
+use Rattle.receiver.specs.Receiver.{readOutcome, failedOutcome, doneOutcome}
 use Rattle.receiver.specs.Call.{outcomeIn}
 use Rattle.receiver.specs.Cases.{Meets, none-met, is-told, is-dropped, ComesTo, told-so, dropped-to, Closes, is-normal, shut-before, asks, Flushes, none-pending, sends, Serves, failed-before, flushes, Advances, TakesSent, none-went, some-went, send-blocks, send-fails, TakesShut, is-shut, is-not, HandsOut, a-part, all-of-it, goes-on, is-drained, Chunk, TakesReceived, announces, header-violates, byte-violates, receive-blocks, receive-fails}
-use Rattle.receiver.specs.Handed.{wholeIn, comingTo}
+use Rattle.receiver.specs.Handed.{wholeBy, wholeIn, comingTo}
 use Rattle.receiver.specs.Promise.{body, Announces, accepted}
 use Rattle.receiver.specs.declared.answer.Received.{Received}
 use Rattle.receiver.specs.declared.answer.Received.the-variants as received
@@ -23,8 +24,9 @@ use Rattle.receiver.specs.declared.call.Ending.{Ending}
 use Rattle.receiver.specs.declared.call.Ending.the-variants.{Dropped, Told}
 use Rattle.receiver.specs.declared.call.Phase.{Phase}
 use Rattle.receiver.specs.declared.call.Phase.the-variants as phase
+use Rattle.receiver.specs.declared.receiver.Came.{Came}
+use Rattle.receiver.specs.declared.receiver.Came.the-variants as came
 use Rattle.receiver.specs.declared.receiver.Outcome.{Outcome}
-use Rattle.receiver.specs.declared.receiver.Outcome.the-variants as outcome
 use Rattle.receiver.specs.declared.receiver.ReceiverState.{ReceiverState}
 use Rattle.receiver.specs.declared.state.Failure.{Failure}
 use Rattle.receiver.specs.declared.state.Failure.the-variants.{Io}
@@ -36,7 +38,7 @@ use Rattle.receiver.specs.declared.state.PotentialFailure.{PotentialFail
 pub data Ends : Ending → Outcome → Type 0 where
   as-dropped : {o : Outcome} → Ends (Dropped o) o
   as-told : {o : Outcome} → Ends (Told o) o
-  told-failure : {o : Outcome} {f : Failure} → Ends (Told o) (outcome.Failed f)
+  told-failure : {o : Outcome} {f : Failure} → Ends (Told o) (failedOutcome f)
 
 own-end : (e : Ending) → Ends e (outcomeIn e)
 own-end (Dropped o) = as-dropped
@@ -53,14 +55,14 @@ met-end _ _ _ _ is-told told-failure = told-failure
 met-end _ _ _ o is-dropped h = h
 
 -- no read is told: its outcome is dropped into the servicing
-abbrev Unread : Outcome → Type 0
-Unread (outcome.Read n fds) = ⊥
-Unread outcome.Done = Unit {0}
-Unread (outcome.Failed f) = Unit {0}
+abbrev Unread : Came → Type 0
+Unread (came.Read n) = ⊥
+Unread came.Done = Unit {0}
+Unread (came.Failed f) = Unit {0}
 
 abbrev pub Quiet : Ending → Type 0
 Quiet (Dropped o) = Unit {0}
-Quiet (Told o) = Unread o
+Quiet (Told o) = Unread (o .came)
 
 -- nor does one wait for an announcement that was asked for no bytes
 abbrev pub QuietIn : Phase → Type 0
@@ -131,25 +133,28 @@ module _ (q : ReceiverState) (s : RingBufferScheduler) (e : Ending) where
 abbrev pub whole : Call → ℕ
 whole c = wholeIn (c .receiver) (comingTo (c .phase))
 
-whole-same : (o : Outcome) (q r : ReceiverState) → q .scheduler ≡ r .scheduler → wholeIn q o ≡ wholeIn r o
-whole-same (outcome.Read n fds) q r e = ap (λ (s : RingBufferScheduler). cond (eqb n 0) 0 (cond (eqb (dataIn s) 0) 1 0)) e
-whole-same outcome.Done q r e = refl
-whole-same (outcome.Failed f) q r e = refl
+whole-same : (x : Came) (q r : ReceiverState) → q .scheduler ≡ r .scheduler → wholeBy q x ≡ wholeBy r x
+whole-same (came.Read n) q r e = ap (λ (s : RingBufferScheduler). cond (eqb n 0) 0 (cond (eqb (dataIn s) 0) 1 0)) e
+whole-same came.Done q r e = refl
+whole-same (came.Failed f) q r e = refl
 
 ends-whole : (q : ReceiverState) (e : Ending) (o : Outcome) → Quiet e → Ends e o → wholeIn q o ≡ wholeIn q (outcomeIn e)
 ends-whole q _ _ h as-dropped = refl
 ends-whole q _ _ h as-told = refl
-ends-whole q (Told (outcome.Read n fds)) _ h told-failure = absurd h
-ends-whole q (Told outcome.Done) _ h told-failure = refl
-ends-whole q (Told (outcome.Failed g)) _ h told-failure = refl
+ends-whole q (Told o) _ h told-failure = unread-whole (o .came) h
+  where
+    unread-whole : (x : Came) → Unread x → 0 ≡ wholeBy q x
+    unread-whole (came.Read n) k = absurd k
+    unread-whole came.Done k = refl
+    unread-whole (came.Failed f) k = refl
 
 pub spends-whole : (q : ReceiverState) (s : RingBufferScheduler) (e : Ending) (n : ℕ) (c : Call) → Spends q s e n c → Quiet e → whole c ≡ wholeIn q (outcomeIn e)
-spends-whole q s e n c h k = whole-same (comingTo (c .phase)) (c .receiver) q (h .scheduler) ∙ ends-whole q e (comingTo (c .phase)) k (h .ends)
+spends-whole q s e n c h k = whole-same (comingTo (c .phase) .came) (c .receiver) q (h .scheduler) ∙ ends-whole q e (comingTo (c .phase)) k (h .ends)
 
-read-whole : (r : ReceiverState) (n fds : ℕ) → n ≢ 0 → dataIn (r .scheduler) ≡ 0 → wholeIn r (outcome.Read n fds) ≡ 1
+read-whole : (r : ReceiverState) (n fds : ℕ) → n ≢ 0 → dataIn (r .scheduler) ≡ 0 → wholeIn r (readOutcome n fds) ≡ 1
 read-whole r n fds some z = rw (ne-eqb n 0 some, eq-eqb (dataIn (r .scheduler)) 0 z)
 
-read-part : (r : ReceiverState) (n fds : ℕ) → n ≢ 0 → dataIn (r .scheduler) ≢ 0 → wholeIn r (outcome.Read n fds) ≡ 0
+read-part : (r : ReceiverState) (n fds : ℕ) → n ≢ 0 → dataIn (r .scheduler) ≢ 0 → wholeIn r (readOutcome n fds) ≡ 0
 read-part r n fds some z = rw (ne-eqb n 0 some, ne-eqb (dataIn (r .scheduler)) 0 z)
 
 -- ---- bytes that are handed out
@@ -160,7 +165,7 @@ module _ (q : ReceiverState) (asked fds : ℕ) where
   pub record Hands (c : Call) : Type 0 where
     pub bytes : ℕ
     pub amount : bytes ≡ min asked (dataIn (q .scheduler))
-    pub comes : comingTo (c .phase) ≡ outcome.Read bytes fds
+    pub comes : comingTo (c .phase) ≡ readOutcome bytes fds
     pub source : c .source ≡ q .scheduler
     pub counts : c .receiver .«pending_ack_count» ≡ q .«pending_ack_count» + whole c
     pub quiet : QuietIn (c .phase)
@@ -168,39 +173,39 @@ module _ (q : ReceiverState) (asked fds : ℕ) where
 
   pub hands : asked ≢ 0 → 1 ≤ dataIn (q .scheduler) → (c : Call) → HandsOut q asked fds c → Hands c
   hands some holds c (a-part {u} l r h) =
-      let k = serves-spends _ (q .scheduler) (Dropped (outcome.Read asked fds)) c h in
-      let e = dropped-end (outcome.Read asked fds) (comingTo (c .phase)) (k .ends) in
+      let k = serves-spends _ (q .scheduler) (Dropped (readOutcome asked fds)) c h in
+      let e = dropped-end (readOutcome asked fds) (comingTo (c .phase)) (k .ends) in
       let left : dataIn (c .receiver .scheduler) ≢ 0 = λ z. omega (arith, ap dataIn (k .scheduler), r .fill, l, z) in
       let w : whole c ≡ 0 = ap (wholeIn (c .receiver)) e ∙ read-part (c .receiver) asked fds some left in
       record { bytes = asked; amount = omega (arith, l); comes = e; source = k .source; counts = omega (arith, k .counts, w); quiet = k .quiet tt; settled = k .settled }
   hands some holds c (all-of-it {u} l r h) =
       let d = dataIn (q .scheduler) in
-      let k = serves-spends _ (q .scheduler) (Dropped (outcome.Read d fds)) c h in
-      let e = dropped-end (outcome.Read d fds) (comingTo (c .phase)) (k .ends) in
+      let k = serves-spends _ (q .scheduler) (Dropped (readOutcome d fds)) c h in
+      let e = dropped-end (readOutcome d fds) (comingTo (c .phase)) (k .ends) in
       let none : dataIn (c .receiver .scheduler) ≡ 0 = omega (arith, ap dataIn (k .scheduler), r .fill) in
       let w : whole c ≡ 1 = ap (wholeIn (c .receiver)) e ∙ read-whole (c .receiver) d fds (λ z. omega (arith, holds, z)) none in
       record { bytes = d; amount = omega (arith, l); comes = e; source = k .source; counts = omega (arith, k .counts, w); quiet = k .quiet tt; settled = k .settled }
 
 -- ---- what comes of a receive: a chunk's bytes are handed out, or a failure is answered
-pub data Came (q : ReceiverState) (s : RingBufferScheduler) (asked : ℕ) (c : Call) : Type 0 where
-  handed : (r : ReceiverState) (n fds : ℕ) → Chunk (q .scheduler) n (r .scheduler) → r .«pending_ack_count» ≡ q .«pending_ack_count» → Hands r asked fds c → Came q s asked c
-  failed : (f : Failure) → Spends q s (Dropped (outcome.Failed f)) 0 c → Came q s asked c
+pub data Took (q : ReceiverState) (s : RingBufferScheduler) (asked : ℕ) (c : Call) : Type 0 where
+  handed : (r : ReceiverState) (n fds : ℕ) → Chunk (q .scheduler) n (r .scheduler) → r .«pending_ack_count» ≡ q .«pending_ack_count» → Hands r asked fds c → Took q s asked c
+  failed : (f : Failure) → Spends q s (Dropped (failedOutcome f)) 0 c → Took q s asked c
 
 some-body : (L h fds n : ℕ) → Announces L h fds (body n fds) → 1 ≤ n
 some-body L h fds _ (accepted k m l) = m
 
 module _ (q : ReceiverState) (s : RingBufferScheduler) (ring : List ℕ) (asked : ℕ) (some : asked ≢ 0) where
-  pub came : (x : Received) (c : Call) → TakesReceived q s ring asked x c → (x ≢ received.Misfit) × Came q s asked c
-  came _ c (announces {fds} {n} {u} h k o) =
+  pub took : (x : Received) (c : Call) → TakesReceived q s ring asked x c → (x ≢ received.Misfit) × Took q s asked c
+  took _ c (announces {fds} {n} {u} h k o) =
       let holds : 1 ≤ dataIn u = omega (arith, k .filling .fill, some-body _ _ fds n h) in (
         (λ z. let y : _≡_ {A = ℕ} 0 1 = cc in omega arith),
         handed _ n fds k refl (hands _ asked fds some holds c o),
       )
-  came _ c (header-violates h k o) = ((λ z. let y : _≡_ {A = ℕ} 0 1 = cc in omega arith), failed _ (advances-spends q s _ _ _ c o))
-  came _ c (byte-violates h k o) = ((λ z. let y : _≡_ {A = ℕ} 0 1 = cc in omega arith), failed _ (advances-spends q s _ _ _ c o))
-  came _ c (receive-fails h o) = ((λ z. let y : _≡_ {A = ℕ} 0 1 = cc in omega arith), failed _ (advances-spends q s _ _ _ c o))
-  came _ c (receive-blocks (is-drained p o)) = ((λ z. let y : _≡_ {A = ℕ} 0 1 = cc in omega arith), failed _ (advances-spends q s _ _ _ c o))
-  came _ _ (receive-blocks (goes-on p)) = (
+  took _ c (header-violates h k o) = ((λ z. let y : _≡_ {A = ℕ} 0 1 = cc in omega arith), failed _ (advances-spends q s _ _ _ c o))
+  took _ c (byte-violates h k o) = ((λ z. let y : _≡_ {A = ℕ} 0 1 = cc in omega arith), failed _ (advances-spends q s _ _ _ c o))
+  took _ c (receive-fails h o) = ((λ z. let y : _≡_ {A = ℕ} 0 1 = cc in omega arith), failed _ (advances-spends q s _ _ _ c o))
+  took _ c (receive-blocks (is-drained p o)) = ((λ z. let y : _≡_ {A = ℕ} 0 1 = cc in omega arith), failed _ (advances-spends q s _ _ _ c o))
+  took _ _ (receive-blocks (goes-on p)) = (
     (λ z. let y : _≡_ {A = ℕ} 0 1 = cc in omega arith),
     failed (Io 11) (record { source = refl; scheduler = refl; counts = omega arith; ends = as-dropped; quiet = λ h. tt; settled = tt }),
   )

@@ -7,6 +7,7 @@ use mathlib.Core.Logic.{_≢_, inl, inr}
 use native.Mathlib.Omega.{arith}
 use borrow.Author.Tests.{eq-eqb, ne-eqb}
 use Rattle.sched.specs.declared.scheduler.RingBufferScheduler.{RingBufferScheduler}
+use Rattle.receiver.specs.Receiver.{failedOutcome, doneOutcome}
 use Rattle.receiver.specs.Call.{outcomeIn, isOver}
 use Rattle.receiver.specs.Cases.{TakesSent, none-went, some-went, send-blocks, send-fails, TakesShut, is-shut, is-not, BeginsRead, is-terminated, none-asked, awaits, holds-data, BeginsService, BeginsShutdown, Interrupts, TakesIn}
 use Rattle.receiver.specs.Handed.{sentBy, wholeIn, comingTo}
@@ -23,9 +24,8 @@ use Rattle.receiver.specs.declared.call.Ending.{Ending}
 use Rattle.receiver.specs.declared.call.Ending.the-variants.{Dropped, Told}
 use Rattle.receiver.specs.declared.call.Phase.{Phase}
 use Rattle.receiver.specs.declared.call.Phase.the-variants as phase
-use Rattle.receiver.specs.declared.receiver.Outcome.the-variants as outcome
 use Rattle.receiver.specs.declared.receiver.ReceiverState.{ReceiverState}
-use Rattle.receiver.proofs.StepLaws.{Quiet, QuietIn, Spends, sentIn, serves-spends, advances-spends, sent-spends, shut-spends, whole, spends-whole, hands, Came, handed, failed, came}
+use Rattle.receiver.proofs.StepLaws.{Quiet, QuietIn, Spends, sentIn, serves-spends, advances-spends, sent-spends, shut-spends, whole, spends-whole, hands, Took, handed, failed, took}
 
 -- ---- what an answer sends
 other-sends : (a : Answer) → a .kind ≢ 3 → sentBy a ≡ 0
@@ -68,10 +68,10 @@ module _ (c : Call) (ring : List ℕ) (a : Answer) (d : Call) where
       subst (λ (x : Call). (x .receiver .«pending_ack_count» + sentBy a + whole c ≡ c .receiver .«pending_ack_count» + whole x) × QuietIn (x .phase)) (sym e)
       (omega (arith, other-sends a (λ z. omega (arith, i .0, z))), subst QuietIn (sym p) h)
 
-  came-sums : (top asked : ℕ) → c .phase ≡ phase.Receive top asked → sentBy a ≡ 0 → Came (c .receiver) (c .source) asked d → Sums
-  came-sums top asked p z (handed r n fds k e h) = (omega (arith, z, e, h .counts, ap (λ (x : Phase). wholeIn (c .receiver) (comingTo x)) p), h .quiet)
-  came-sums top asked p z (failed f h) = (
-    omega (arith, z, h .counts, ap (λ (x : Phase). wholeIn (c .receiver) (comingTo x)) p, spends-whole (c .receiver) (c .source) (Dropped (outcome.Failed f)) 0 d h tt),
+  took-sums : (top asked : ℕ) → c .phase ≡ phase.Receive top asked → sentBy a ≡ 0 → Took (c .receiver) (c .source) asked d → Sums
+  took-sums top asked p z (handed r n fds k e h) = (omega (arith, z, e, h .counts, ap (λ (x : Phase). wholeIn (c .receiver) (comingTo x)) p), h .quiet)
+  took-sums top asked p z (failed f h) = (
+    omega (arith, z, h .counts, ap (λ (x : Phase). wholeIn (c .receiver) (comingTo x)) p, spends-whole (c .receiver) (c .source) (Dropped (failedOutcome f)) 0 d h tt),
     h .quiet tt,
   )
 
@@ -81,8 +81,8 @@ module _ (c : Call) (ring : List ℕ) (a : Answer) (d : Call) where
   pub step-sums : (ph : Phase) → c .phase ≡ ph → isOver ph ≡ false → QuietIn ph → TakesIn ph c ring a d → Sums
   step-sums (phase.Receive top asked) p w h (inl t) = waited (phase.Receive top asked) p h t
   step-sums (phase.Receive top asked) p w h (inr (i, (x, says, t))) =
-      let k = came (c .receiver) (c .source) ring asked h x d t in
-      came-sums top asked p (says-received a top x says (k .0)) (k .1)
+      let k = took (c .receiver) (c .source) ring asked h x d t in
+      took-sums top asked p (says-received a top x says (k .0)) (k .1)
   step-sums (phase.Send batch e) p w h (inl t) = waited (phase.Send batch e) p h t
   step-sums (phase.Send batch e) p w h (inr (i, (x, says, t))) =
       spends-sums e (sentIn x) (ap (λ (y : Phase). wholeIn (c .receiver) (comingTo y)) p) h (says-sent a batch x says (sent-taken _ _ e x d t)) (sent-spends (c .receiver) (c .source) e x d t)
@@ -99,10 +99,10 @@ module _ (q : ReceiverState) where
   spends-begun s e c w k h = (omega (arith, h .counts, w, spends-whole q s e 0 c h k), h .quiet k)
 
   pub service-begun : (c : Call) → BeginsService q c → Begun c
-  service-begun c h = spends-begun (q .scheduler) (Told outcome.Done) c refl tt (serves-spends q (q .scheduler) (Told outcome.Done) c h)
+  service-begun c h = spends-begun (q .scheduler) (Told doneOutcome) c refl tt (serves-spends q (q .scheduler) (Told doneOutcome) c h)
 
   pub shutdown-begun : (c : Call) → BeginsShutdown q c → Begun c
-  shutdown-begun c h = spends-begun (q .scheduler) (Told outcome.Done) c refl tt (advances-spends q (q .scheduler) (Told outcome.Done) _ _ c h)
+  shutdown-begun c h = spends-begun (q .scheduler) (Told doneOutcome) c refl tt (advances-spends q (q .scheduler) (Told doneOutcome) _ _ c h)
 
   pub read-begun : (top asked : ℕ) (c : Call) → BeginsRead q top asked c → Begun c
   read-begun top asked _ (is-terminated p) = (omega arith, tt)

@@ -11,7 +11,7 @@ use Rattle.sched.specs.Scheduler.{IsSound, dataIn}
 use Rattle.receiver.specs.Admission.{admissionOf}
 use Rattle.receiver.specs.Answer.{interruptedOf, receivedOf, sentOf, shutOf}
 use Rattle.receiver.specs.State.{failureIn, isErrno, advanceIn}
-use Rattle.receiver.specs.Receiver.{withScheduler, withState, withPending, withShutdown, batchIn, bySent, byteIn, handedOut}
+use Rattle.receiver.specs.Receiver.{readOutcome, failedOutcome, doneOutcome, withScheduler, withState, withPending, withShutdown, batchIn, bySent, byteIn, handedOut}
 use Rattle.receiver.specs.declared.admission.Admission.{Admission}
 use Rattle.receiver.specs.declared.admission.Admission.the-variants as admission
 use Rattle.receiver.specs.declared.admission.Memory.{Memory}
@@ -31,7 +31,6 @@ use Rattle.receiver.specs.declared.call.Phase.the-variants as phase
 use Rattle.receiver.specs.declared.call.Step.{Step}
 use Rattle.receiver.specs.declared.call.Step.the-variants as step
 use Rattle.receiver.specs.declared.receiver.Outcome.{Outcome}
-use Rattle.receiver.specs.declared.receiver.Outcome.the-variants as outcome
 use Rattle.receiver.specs.declared.receiver.ReceiverState.{ReceiverState}
 use Rattle.receiver.specs.declared.refusal.Refusal.{Refusal}
 use Rattle.receiver.specs.declared.refusal.Refusal.the-variants.{Misfit, PendingFull}
@@ -55,7 +54,7 @@ outcomeIn (Told o) = o
 -- a failure is told where the ending is told, and else dropped
 abbrev pub toldIn : Failure → Ending → Ending
 toldIn f (Dropped o) = Dropped o
-toldIn f (Told o) = Told (outcome.Failed f)
+toldIn f (Told o) = Told (failedOutcome f)
 
 -- ---- shutting down
 abbrev pub shutOrFinishBy : Bool → ReceiverState → RingBufferScheduler → Ending → Call
@@ -123,13 +122,13 @@ pub record Handing (q : ReceiverState) (n : ℕ) : Type 0 where
 
 abbrev pub handOutCall : ℕ → ℕ → ReceiverState → Call
 handOutCall asked fds q =
-    serviceCall (handedOut q (min asked (dataIn (q .scheduler)))) (q .scheduler) (Dropped (outcome.Read (min asked (dataIn (q .scheduler))) fds))
+    serviceCall (handedOut q (min asked (dataIn (q .scheduler)))) (q .scheduler) (Dropped (readOutcome (min asked (dataIn (q .scheduler))) fds))
 
 abbrev pub failedCall : Failure → ReceiverState → RingBufferScheduler → Call
-failedCall f q s = advanceCall (Terminated f) q s (Dropped (outcome.Failed f))
+failedCall f q s = advanceCall (Terminated f) q s (Dropped (failedOutcome f))
 
 abbrev pub blockedBy : OperationalState → ReceiverState → RingBufferScheduler → Call
-blockedBy Normal q s = finishedCall q s (outcome.Failed (Io 11))
+blockedBy Normal q s = finishedCall q s (failedOutcome (Io 11))
 blockedBy (Draining f) q s = failedCall f q s
 blockedBy (Terminated f) q s = failedCall (Io 11) q s
 
@@ -159,14 +158,14 @@ ByteSized received.Misfit n q = Unit {0}
 -- in order: the empty destination, 13, the announcement if there is no data
 abbrev pub liveCall : ReceiverState → ℕ → ℕ → Step
 liveCall q top asked =
-    cond (eqb asked 0) (step.Of (finishedCall q (q .scheduler) (outcome.Read 0 0)))
+    cond (eqb asked 0) (step.Of (finishedCall q (q .scheduler) (readOutcome 0 0)))
     (cond (eqb (q .«pending_ack_count») (2 ^ 64 - 1)) (step.Refused PendingFull)
     (cond (eqb (dataIn (q .scheduler)) 0) (step.Of (call q (q .scheduler) (phase.Receive top asked))) (step.Of (handOutCall asked 0 q))))
 
 abbrev pub readBy : OperationalState → ReceiverState → ℕ → ℕ → Step
 readBy Normal q top asked = liveCall q top asked
 readBy (Draining f) q top asked = liveCall q top asked
-readBy (Terminated f) q top asked = step.Of (finishedCall q (q .scheduler) (outcome.Failed f))
+readBy (Terminated f) q top asked = step.Of (finishedCall q (q .scheduler) (failedOutcome f))
 
 abbrev pub readCall : ReceiverState → ℕ → ℕ → Step
 readCall q top asked = readBy (q .state) q top asked
@@ -180,10 +179,10 @@ abbrev pub beginReadOf : ReceiverState → ℕ → ℕ → ℕ → Step
 beginReadOf q n top asked = admittedStep (admissionOf q (memory.Of n)) (readCall q top asked)
 
 abbrev pub beginServiceOf : ReceiverState → Step
-beginServiceOf q = admittedStep (admissionOf q memory.None) (step.Of (serviceCall q (q .scheduler) (Told outcome.Done)))
+beginServiceOf q = admittedStep (admissionOf q memory.None) (step.Of (serviceCall q (q .scheduler) (Told doneOutcome)))
 
 abbrev pub beginShutdownOf : ReceiverState → Step
-beginShutdownOf q = admittedStep (admissionOf q memory.None) (step.Of (advanceCall (Draining (Io 32)) q (q .scheduler) (Told outcome.Done)))
+beginShutdownOf q = admittedStep (admissionOf q memory.None) (step.Of (advanceCall (Draining (Io 32)) q (q .scheduler) (Told doneOutcome)))
 
 -- ---- what a driver asks
 -- a call that is over waits for nothing more

@@ -26,8 +26,8 @@ use Rattle.receiver.specs.declared.call.Phase.{Phase}
 use Rattle.receiver.specs.declared.call.Phase.the-variants as phase
 use Rattle.receiver.specs.declared.call.Step.{Step}
 use Rattle.receiver.specs.declared.call.Step.the-variants as step
+use Rattle.receiver.specs.declared.receiver.Came.the-variants as came
 use Rattle.receiver.specs.declared.receiver.Outcome.{Outcome}
-use Rattle.receiver.specs.declared.receiver.Outcome.the-variants as outcome
 use Rattle.receiver.specs.declared.receiver.ReceiverState.{ReceiverState}
 use Rattle.receiver.specs.declared.state.Failure.{Failure}
 use Rattle.receiver.specs.declared.state.Failure.the-variants.{Io, Protocol}
@@ -45,10 +45,19 @@ abbrev a-call : ReceiverState → RingBufferScheduler → Phase → Call
 a-call q s ph = record { receiver = q; source = s; phase = ph }
 
 -- ---- what is answered
+abbrev a-read : ℕ → ℕ → Outcome
+a-read n fds = record { came = came.Read n; fds = fds }
+
+abbrev a-failure : Failure → Outcome
+a-failure f = record { came = came.Failed f; fds = 0 }
+
+abbrev all-done : Outcome
+all-done = record { came = came.Done; fds = 0 }
+
 -- a failure that is met on the way: told in place of the outcome, or dropped
 pub data Meets : PotentialFailure → Ending → Ending → Type 0 where
   none-met : {e : Ending} → Meets None e e
-  is-told : {f : Failure} {o : Outcome} → Meets (Some f) (Told o) (Told (outcome.Failed f))
+  is-told : {f : Failure} {o : Outcome} → Meets (Some f) (Told o) (Told (a-failure f))
   is-dropped : {f : Failure} {o : Outcome} → Meets (Some f) (Dropped o) (Dropped o)
 
 pub data ComesTo : Ending → Outcome → Type 0 where
@@ -98,18 +107,18 @@ module _ (q : ReceiverState) (s : RingBufferScheduler) (e : Ending) where
 -- servicing is dropped
 pub data HandsOut (q : ReceiverState) (asked fds : ℕ) : Call → Type 0 where
   a-part : {u : RingBufferScheduler} {c : Call} → asked < dataIn (q .scheduler) → ReadBy (q .scheduler) asked u →
-      Serves (a-record u (q .state) (q .«pending_ack_count») (q .«notification_socket_shutdown_issued»)) (q .scheduler) (Dropped (outcome.Read asked fds)) c → HandsOut q asked fds c
+      Serves (a-record u (q .state) (q .«pending_ack_count») (q .«notification_socket_shutdown_issued»)) (q .scheduler) (Dropped (a-read asked fds)) c → HandsOut q asked fds c
   all-of-it : {u : RingBufferScheduler} {c : Call} → dataIn (q .scheduler) ≤ asked → ReadBy (q .scheduler) (dataIn (q .scheduler)) u →
-      Serves (a-record u (q .state) (q .«pending_ack_count» + 1) (q .«notification_socket_shutdown_issued»)) (q .scheduler) (Dropped (outcome.Read (dataIn (q .scheduler)) fds)) c →
+      Serves (a-record u (q .state) (q .«pending_ack_count» + 1) (q .«notification_socket_shutdown_issued»)) (q .scheduler) (Dropped (a-read (dataIn (q .scheduler)) fds)) c →
       HandsOut q asked fds c
 
 -- a failure terminates, and is answered whatever comes of the shutdown
 abbrev pub Fails : Failure → ReceiverState → RingBufferScheduler → Call → Type 0
-Fails f q s c = Advances (Terminated f) None q s (Dropped (outcome.Failed f)) c
+Fails f q s c = Advances (Terminated f) None q s (Dropped (a-failure f)) c
 
 -- nothing to receive: 11 where the stream is normal; one that drains ends with the reason that it has
 pub data Blocks (q : ReceiverState) (s : RingBufferScheduler) : Call → Type 0 where
-  goes-on : q .state ≡ Normal → Blocks q s (a-call q s (phase.Finished (outcome.Failed (Io 11))))
+  goes-on : q .state ≡ Normal → Blocks q s (a-call q s (phase.Finished (a-failure (Io 11))))
   is-drained : {f : Failure} {c : Call} → q .state ≡ Draining f → Fails f q s c → Blocks q s c
 
 -- a chunk: 8 bytes of header and a body are written, and the header is read
@@ -147,17 +156,17 @@ pub record Reading (q : ReceiverState) (asked : ℕ) : Type 0 where
   pub counts : q .«pending_ack_count» ≢ 2 ^ 64 - 1
 
 pub data BeginsRead (q : ReceiverState) (top asked : ℕ) : Call → Type 0 where
-  is-terminated : {f : Failure} → q .state ≡ Terminated f → BeginsRead q top asked (a-call q (q .scheduler) (phase.Finished (outcome.Failed f)))
-  none-asked : ((f : Failure) → q .state ≢ Terminated f) → asked ≡ 0 → BeginsRead q top asked (a-call q (q .scheduler) (phase.Finished (outcome.Read 0 0)))
+  is-terminated : {f : Failure} → q .state ≡ Terminated f → BeginsRead q top asked (a-call q (q .scheduler) (phase.Finished (a-failure f)))
+  none-asked : ((f : Failure) → q .state ≢ Terminated f) → asked ≡ 0 → BeginsRead q top asked (a-call q (q .scheduler) (phase.Finished (a-read 0 0)))
   awaits : Reading q asked → dataIn (q .scheduler) ≡ 0 → BeginsRead q top asked (a-call q (q .scheduler) (phase.Receive top asked))
   holds-data : {c : Call} → Reading q asked → 1 ≤ dataIn (q .scheduler) → HandsOut q asked 0 c → BeginsRead q top asked c
 
 abbrev pub BeginsService : ReceiverState → Call → Type 0
-BeginsService q c = Serves q (q .scheduler) (Told outcome.Done) c
+BeginsService q c = Serves q (q .scheduler) (Told all-done) c
 
 -- draining with 32, the end of the stream
 abbrev pub BeginsShutdown : ReceiverState → Call → Type 0
-BeginsShutdown q c = Advances (Draining (Io 32)) None q (q .scheduler) (Told outcome.Done) c
+BeginsShutdown q c = Advances (Draining (Io 32)) None q (q .scheduler) (Told all-done) c
 
 -- ---- an answer
 -- the ring is looked at where a byte was received, and only there

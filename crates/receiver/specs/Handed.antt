@@ -5,6 +5,7 @@ use mathlib.Core.List.{List, [], _∷_}
 use mathlib.Core.Bool.{cond}
 use lib.Dec.{eqb}
 use Rattle.sched.specs.Scheduler.{dataIn}
+use Rattle.receiver.specs.Receiver.{doneOutcome}
 use Rattle.receiver.specs.Answer.{isSent}
 use Rattle.receiver.specs.Call.{outcomeIn, answeredOf}
 use Rattle.receiver.specs.declared.answer.Answer.{Answer}
@@ -13,8 +14,9 @@ use Rattle.receiver.specs.declared.call.Phase.{Phase}
 use Rattle.receiver.specs.declared.call.Phase.the-variants.{Receive, Send, Shutdown, Finished}
 use Rattle.receiver.specs.declared.call.Step.{Step}
 use Rattle.receiver.specs.declared.call.Step.the-variants.{Of, Refused}
+use Rattle.receiver.specs.declared.receiver.Came.{Came}
+use Rattle.receiver.specs.declared.receiver.Came.the-variants as came
 use Rattle.receiver.specs.declared.receiver.Outcome.{Outcome}
-use Rattle.receiver.specs.declared.receiver.Outcome.the-variants as outcome
 use Rattle.receiver.specs.declared.receiver.ReceiverState.{ReceiverState}
 
 pub record Handed : Type 0 where
@@ -35,10 +37,13 @@ abbrev pub sentBy : Answer → ℕ
 sentBy a = cond (isSent a) (a .value) 0
 
 -- a chunk is handed out whole by a read of some bytes that leaves no data
+abbrev pub wholeBy : ReceiverState → Came → ℕ
+wholeBy q (came.Read n) = cond (eqb n 0) 0 (cond (eqb (dataIn (q .scheduler)) 0) 1 0)
+wholeBy q came.Done = 0
+wholeBy q (came.Failed f) = 0
+
 abbrev pub wholeIn : ReceiverState → Outcome → ℕ
-wholeIn q (outcome.Read n fds) = cond (eqb n 0) 0 (cond (eqb (dataIn (q .scheduler)) 0) 1 0)
-wholeIn q outcome.Done = 0
-wholeIn q (outcome.Failed f) = 0
+wholeIn q o = wholeBy q (o .came)
 
 -- what was sent: by a call that waits to send, if it takes the answer
 abbrev pub sentAt : Phase → Step → Answer → ℕ
@@ -50,7 +55,7 @@ sentAt (Finished o) x a = 0
 
 -- the outcome that a call comes to if nothing fails; one that waits for a receive has none yet
 abbrev pub comingTo : Phase → Outcome
-comingTo (Receive top asked) = outcome.Done
+comingTo (Receive top asked) = doneOutcome
 comingTo (Send batch e) = outcomeIn e
 comingTo (Shutdown e) = outcomeIn e
 comingTo (Finished o) = o

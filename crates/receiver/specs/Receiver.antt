@@ -14,10 +14,13 @@ use Rattle.receiver.specs.declared.announcement.Announced.{Announced}
 use Rattle.receiver.specs.declared.announcement.Announced.the-variants as announced
 use Rattle.receiver.specs.declared.answer.Sent.{Sent}
 use Rattle.receiver.specs.declared.answer.Sent.the-variants as sent
+use Rattle.receiver.specs.declared.receiver.Came.the-variants as came
+use Rattle.receiver.specs.declared.receiver.Outcome.{Outcome}
 use Rattle.receiver.specs.declared.receiver.ReceiverAnswer.{ReceiverAnswer}
 use Rattle.receiver.specs.declared.receiver.ReceiverAnswer.the-variants as made
 use Rattle.receiver.specs.declared.receiver.ReceiverState.{ReceiverState}
 use Rattle.receiver.specs.declared.refusal.Refusal.the-variants.{Copy}
+use Rattle.receiver.specs.declared.state.Failure.{Failure}
 use Rattle.receiver.specs.declared.state.Failure.the-variants.{Protocol}
 use Rattle.receiver.specs.declared.state.OperationalState.{OperationalState}
 use Rattle.receiver.specs.declared.state.OperationalState.the-variants.{Normal}
@@ -39,6 +42,17 @@ withPending q n = receiver (q .scheduler) (q .state) n (q .«notification_socket
 
 abbrev pub withShutdown : ReceiverState → ReceiverState
 withShutdown q = receiver (q .scheduler) (q .state) (q .«pending_ack_count») true
+
+-- ---- what a call answers
+-- descriptors come with a read; the other outcomes carry none
+abbrev pub readOutcome : ℕ → ℕ → Outcome
+readOutcome n fds = record { came = came.Read n; fds = fds }
+
+abbrev pub doneOutcome : Outcome
+doneOutcome = record { came = came.Done; fds = 0 }
+
+abbrev pub failedOutcome : Failure → Outcome
+failedOutcome f = record { came = came.Failed f; fds = 0 }
 
 -- ---- making one
 -- 1 to 5, then a stream that is normal, with nothing pending

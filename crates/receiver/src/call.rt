@@ -73,7 +73,7 @@ impl Ending {
     {
         match self {
             Ending::Dropped(o) => Ending::Dropped(o),
-            Ending::Told(_) => Ending::Told(Outcome::Failed(failure)),
+            Ending::Told(_) => Ending::Told(Outcome::failed(failure)),
         }
     }
 }
@@ -324,7 +324,7 @@ fn read_chunk_bytes(receiver: ReceiverState, asked: u64, fds: u64) -> Call
     service(
         handed_out(receiver, n),
         source,
-        Ending::Dropped(Outcome::Read { n, fds }),
+        Ending::Dropped(Outcome::read(n, fds)),
     )
 }
 
@@ -340,7 +340,7 @@ fn terminate_immediately(
         receiver,
         source,
         OperationalState::Terminated(failure),
-        Ending::Dropped(Outcome::Failed(failure)),
+        Ending::Dropped(Outcome::failed(failure)),
     )
 }
 
@@ -353,7 +353,7 @@ fn terminate_draining(receiver: ReceiverState, source: RingBufferScheduler) -> C
         OperationalState::Normal => finish(
             receiver,
             source,
-            Outcome::Failed(Failure::Io(Failure::WOULDBLOCK)),
+            Outcome::failed(Failure::Io(Failure::WOULDBLOCK)),
         ),
         OperationalState::Draining(f) => terminate_immediately(receiver, source, f),
         OperationalState::Terminated(_) => terminate_immediately(
@@ -424,7 +424,7 @@ fn read_live(receiver: ReceiverState, max_new_fds: u64, dst_len: u64) -> Step
 {
     let source = receiver.scheduler;
     if dst_len == 0 {
-        return Step::Of(finish(receiver, source, Outcome::Read { n: 0, fds: 0 }));
+        return Step::Of(finish(receiver, source, Outcome::read(0, 0)));
     }
     if receiver.pending_ack_count == 18446744073709551615 {
         return Step::Refused(Refusal::PendingFull);
@@ -453,7 +453,7 @@ fn read(receiver: ReceiverState, max_new_fds: u64, dst_len: u64) -> Step
     match state {
         OperationalState::Normal => read_live(receiver, max_new_fds, dst_len),
         OperationalState::Draining(_) => read_live(receiver, max_new_fds, dst_len),
-        OperationalState::Terminated(f) => Step::Of(finish(receiver, source, Outcome::Failed(f))),
+        OperationalState::Terminated(f) => Step::Of(finish(receiver, source, Outcome::failed(f))),
     }
 }
 
@@ -489,7 +489,7 @@ impl Call {
     {
         let source = receiver.scheduler;
         match admit(receiver, Memory::None) {
-            Admission::Passed => Step::Of(service(receiver, source, Ending::Told(Outcome::Done))),
+            Admission::Passed => Step::Of(service(receiver, source, Ending::Told(Outcome::done()))),
             Admission::Refused(e) => Step::Refused(e),
         }
     }
@@ -503,7 +503,7 @@ impl Call {
                 receiver,
                 source,
                 OperationalState::Draining(Failure::Io(Failure::SHUTDOWN)),
-                Ending::Told(Outcome::Done),
+                Ending::Told(Outcome::done()),
             )),
             Admission::Refused(e) => Step::Refused(e),
         }

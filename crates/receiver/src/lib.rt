@@ -17,6 +17,7 @@ pub use call::Call;
 pub use call::Ending;
 pub use call::Phase;
 pub use call::Step;
+pub use receiver::Came;
 pub use receiver::Ended;
 pub use receiver::Outcome;
 pub use receiver::ReceiverAnswer;

@@ -1,6 +1,6 @@
 // The receiver's record, and what its calls come to.
 ghost use mathlib.Core.Path.{_≡_};
-ghost use Rattle.receiver.specs.Receiver.{receiverOf};
+ghost use Rattle.receiver.specs.Receiver.{readOutcome, doneOutcome, failedOutcome, receiverOf};
 use crate::refusal::Refusal;
 use crate::state::Failure;
 use crate::state::OperationalState;
@@ -19,11 +19,17 @@ pub enum ReceiverAnswer {
     Refused(Refusal),
 }
 
-// What an accepted call answers: bytes read with a count of descriptors, done, or a failure.
-pub enum Outcome {
-    Read { n: u64, fds: u64 },
+// What a call came to: bytes read, done, or a failure.
+pub enum Came {
+    Read(u64),
     Done,
     Failed(Failure),
+}
+
+// What an accepted call answers: what it came to, and beside it what every outcome carries, a count of descriptors.
+pub struct Outcome {
+    pub came: Came,
+    pub fds: u64,
 }
 
 // The record after a call, what it answers and how many of the socket's answers it used; or why it is refused.
@@ -34,6 +40,35 @@ pub enum Ended {
         used: u64,
     },
     Refused(Refusal),
+}
+
+impl Outcome {
+    pub(crate) fn read(n: u64, fds: u64) -> Outcome
+        ensures { λ r. ⌜ r ≡ readOutcome n fds ⌝ }
+    {
+        Outcome {
+            came: Came::Read(n),
+            fds,
+        }
+    }
+
+    pub(crate) fn done() -> Outcome
+        ensures { λ r. ⌜ r ≡ doneOutcome ⌝ }
+    {
+        Outcome {
+            came: Came::Done,
+            fds: 0,
+        }
+    }
+
+    pub(crate) fn failed(failure: Failure) -> Outcome
+        ensures { λ r. ⌜ r ≡ failedOutcome failure ⌝ }
+    {
+        Outcome {
+            came: Came::Failed(failure),
+            fds: 0,
+        }
+    }
 }
 
 impl ReceiverState {

@@ -1,6 +1,7 @@
 // The answers of the receiver, appended to what was asked: 0 and the numbers, or the refusal's number and its values.
 use crate::line::Line;
 use crate::sched_answers;
+use receiver::Came;
 use receiver::Failure;
 use receiver::FailureAnswer;
 use receiver::OperationalState;
@@ -90,10 +91,11 @@ fn with_failure(line: Line, failure: Failure) -> Line {
 }
 
 fn with_outcome(line: Line, outcome: Outcome) -> Line {
-    match outcome {
-        Outcome::Read { n, fds } => line.push(0).push(n).push(fds).push(0).push(0),
-        Outcome::Done => line.push(1).push(0).push(0).push(0).push(0),
-        Outcome::Failed(f) => with_failure(line.push(2).push(0).push(0), f),
+    let came = outcome.came;
+    match came {
+        Came::Read(n) => line.push(0).push(n).push(outcome.fds).push(0).push(0),
+        Came::Done => line.push(1).push(0).push(outcome.fds).push(0).push(0),
+        Came::Failed(f) => with_failure(line.push(2).push(0).push(outcome.fds), f),
     }
 }
 

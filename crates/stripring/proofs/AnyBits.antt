@@ -12,7 +12,7 @@ use Rattle.stripring.specs.Diff.{diffAt}
 use Rattle.stripring.specs.Failure.{violationAt, failureAt, potentialFailureAt}
 use Rattle.stripring.specs.List.{operationsAt}
 use Rattle.stripring.specs.Operation.{typeAt}
-use Rattle.stripring.specs.Outcome.{outcomeAt}
+use Rattle.stripring.specs.Outcome.{cameAt}
 use Rattle.stripring.specs.State.{stateAt}
 
 past : (k n : ℕ) → k < n → eqb n k ≡ false
@@ -23,7 +23,7 @@ far : (j k n : ℕ) → j < k → k < n → eqb n j ≡ false
 far j k n i l = ne-eqb n j (λ q. omega arith)
 
 pub any-bits : AnyBits
-unfolding typeAt blockTypeAt bitAt diffAt potentialFailureAt failureAt endingAt operationsAt violationAt stateAt outcomeAt phaseAt
+unfolding typeAt blockTypeAt bitAt diffAt potentialFailureAt failureAt endingAt operationsAt violationAt stateAt cameAt phaseAt
 any-bits =
     record {
       types = λ n l. rw (past 0 n l);

@@ -44,8 +44,9 @@ use Rattle.receiver.specs.declared.call.Ending.{Ending}
 use Rattle.receiver.specs.declared.call.Ending.the-variants.{Dropped, Told}
 use Rattle.receiver.specs.declared.call.Phase.{Phase}
 use Rattle.receiver.specs.declared.call.Phase.the-variants as phase
+use Rattle.receiver.specs.declared.receiver.Came.{Came}
+use Rattle.receiver.specs.declared.receiver.Came.the-variants as came
 use Rattle.receiver.specs.declared.receiver.Outcome.{Outcome}
-use Rattle.receiver.specs.declared.receiver.Outcome.the-variants as outcome
 use Rattle.receiver.specs.declared.receiver.ReceiverState.{ReceiverState}
 use Rattle.receiver.specs.declared.refusal.Refusal.{Refusal}
 use Rattle.receiver.specs.declared.refusal.Refusal.the-variants.{Copy, AnswerMissing, Misfit, PendingFull}
@@ -66,7 +67,7 @@ use Rattle.stripring.specs.Flat.{flatRefusal, flatReceiverRefusal}
 use Rattle.stripring.specs.List.{operationsAt, flatOperations, flatStarts, flatRange, flatRanges}
 use Rattle.stripring.specs.Modulus.{flatModulus, flatNumber}
 use Rattle.stripring.specs.Operation.{typeAt, operationAt, flatOperation}
-use Rattle.stripring.specs.Outcome.{outcomeAt, flatOutcome}
+use Rattle.stripring.specs.Outcome.{cameAt, outcomeAt, flatCame, flatOutcome}
 use Rattle.stripring.specs.ReadingEnd.{readingEndAt, flatReadingEnd}
 use Rattle.stripring.specs.Receiver.{issuedAt, receiverAt, flatReceiver}
 use Rattle.stripring.specs.Refusal.{schedulerRefusalAt, receiverRefusalAt}
@@ -207,10 +208,13 @@ state-back (Draining f) = ap Draining (failure-back f)
 state-back (Terminated f) = ap Terminated (failure-back f)
 
 pub outcome-back : (o : Outcome) → outcomeAt (flatOutcome o) ≡ o
-unfolding outcomeAt
-outcome-back (outcome.Read n fds) = refl
-outcome-back outcome.Done = refl
-outcome-back (outcome.Failed f) = ap outcome.Failed (failure-back f)
+unfolding cameAt
+outcome-back o = by (o .came) (o .fds)
+  where
+    by : (x : Came) (n : ℕ) → outcomeAt (flatCame x n) ≡ record { came = x; fds = n }
+    by (came.Read m) n = refl
+    by came.Done n = refl
+    by (came.Failed f) n = ap (λ (y : Failure). record { came = came.Failed y; fds = n }) (failure-back f)
 
 ending-back : (e : Ending) → endingAt (flatEnding e) ≡ e
 unfolding endingAt

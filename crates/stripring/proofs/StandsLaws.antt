@@ -1,5 +1,5 @@
 -- What goes out stands for what was flattened: specs/Stands.antt, of every flat form.
-use mathlib.Core.Path.{refl}
+use mathlib.Core.Path.{_≡_, refl}
 use mathlib.Core.Bool.{Bool, true, false}
 use Rattle.modular.specs.declared.OptionModulus.{OptionModulus}
 use Rattle.modular.specs.declared.OptionModulus.the-variants as modulus
@@ -32,8 +32,9 @@ use Rattle.receiver.specs.declared.call.Ending.{Ending}
 use Rattle.receiver.specs.declared.call.Ending.the-variants.{Dropped, Told}
 use Rattle.receiver.specs.declared.call.Phase.{Phase}
 use Rattle.receiver.specs.declared.call.Phase.the-variants.{Receive, Send, Shutdown, Finished}
+use Rattle.receiver.specs.declared.receiver.Came.{Came}
+use Rattle.receiver.specs.declared.receiver.Came.the-variants as came
 use Rattle.receiver.specs.declared.receiver.Outcome.{Outcome}
-use Rattle.receiver.specs.declared.receiver.Outcome.the-variants as outcome
 use Rattle.receiver.specs.declared.receiver.ReceiverState.{ReceiverState}
 use Rattle.receiver.specs.declared.state.Failure.{Failure}
 use Rattle.receiver.specs.declared.state.Failure.the-variants.{Io, Protocol}
@@ -49,10 +50,10 @@ use Rattle.stripring.specs.Failure.{flatFailure}
 use Rattle.stripring.specs.List.{flatOperations, flatRange, flatRanges}
 use Rattle.stripring.specs.Modulus.{flatModulus, flatNumber}
 use Rattle.stripring.specs.Operation.{flatOperation}
-use Rattle.stripring.specs.Outcome.{noOutcome, flatOutcome}
+use Rattle.stripring.specs.Outcome.{noOutcome, flatCame, flatOutcome}
 use Rattle.stripring.specs.Receiver.{noReceiver, flatReceiver}
 use Rattle.stripring.specs.Scheduler.{flatScheduler}
-use Rattle.stripring.specs.Stands.{BoolStands, TypeStands, BlockTypeStands, BitStands, LayoutStands, FillStands, ViolationStands, ModulusStands, NumberStands, DiffStands, SchedulerStands, OperationStands, BlockStands, RangeStands, NoOutcome, NoEnding, NoReceiver, NoCall, OperationsStands, RangesStands, FailureStands, StateStands, ReceiverStands, OutcomeStands, EndingStands, PhaseStands, CallStands}
+use Rattle.stripring.specs.Stands.{CameStands, BoolStands, TypeStands, BlockTypeStands, BitStands, LayoutStands, FillStands, ViolationStands, ModulusStands, NumberStands, DiffStands, SchedulerStands, OperationStands, BlockStands, RangeStands, NoOutcome, NoEnding, NoReceiver, NoCall, OperationsStands, RangesStands, FailureStands, StateStands, ReceiverStands, OutcomeStands, EndingStands, PhaseStands, CallStands}
 use Rattle.stripring.specs.State.{flatState}
 
 -- ---- the header's numbers
@@ -140,9 +141,17 @@ pub outcome-zeros : NoOutcome noOutcome
 outcome-zeros = (refl, refl, refl, (refl, refl))
 
 pub outcome-stands : (o : Outcome) → OutcomeStands (flatOutcome o) o
-outcome-stands (outcome.Read n fds) = (refl, refl, refl, (refl, refl))
-outcome-stands outcome.Done = (refl, refl, refl, (refl, refl))
-outcome-stands (outcome.Failed f) = (refl, refl, refl, failure-stands f)
+outcome-stands o = (came-stands (o .came), came-beside (o .came))
+  where
+    came-stands : (x : Came) → CameStands (flatCame x (o .fds)) x
+    came-stands (came.Read n) = (refl, refl, (refl, refl))
+    came-stands came.Done = (refl, refl, (refl, refl))
+    came-stands (came.Failed f) = (refl, refl, failure-stands f)
+
+    came-beside : (x : Came) → flatCame x (o .fds) .fds ≡ o .fds
+    came-beside (came.Read n) = refl
+    came-beside came.Done = refl
+    came-beside (came.Failed f) = refl
 
 ending-zeros : NoEnding noEnding
 ending-zeros = (refl, outcome-zeros)

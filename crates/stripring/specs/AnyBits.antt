@@ -9,7 +9,7 @@ use Rattle.sched.specs.declared.list.ScheduledOperations.the-variants.{Two}
 use Rattle.sched.specs.declared.operation.OperationType.the-variants.{Write}
 use Rattle.receiver.specs.declared.call.Ending.the-variants.{Told}
 use Rattle.receiver.specs.declared.call.Phase.the-variants.{Finished}
-use Rattle.receiver.specs.declared.receiver.Outcome.the-variants.{Failed}
+use Rattle.receiver.specs.declared.receiver.Came.the-variants.{Failed}
 use Rattle.receiver.specs.declared.state.Failure.the-variants.{Protocol}
 use Rattle.receiver.specs.declared.state.OperationalState.the-variants.{Terminated}
 use Rattle.receiver.specs.declared.state.PotentialFailure.the-variants.{Some}
@@ -48,5 +48,5 @@ pub record AnyBits : Type 0 where
   pub violations : (n : ℕ) → 3 < n → violationAt n ≡ InvalidChunkLength
   pub no-violation : violationAt 0 ≡ InvalidChunkLength
   pub states : (s : State) → 1 < s .kind → stateAt s ≡ Terminated (failureAt (s .failure))
-  pub outcomes : (o : Outcome) → 1 < o .kind → outcomeAt o ≡ Failed (failureAt (o .failure))
+  pub outcomes : (o : Outcome) → 1 < o .kind → outcomeAt o .came ≡ Failed (failureAt (o .failure))
   pub phases : (p : Phase) → 2 < p .kind → phaseAt p ≡ Finished (outcomeAt (p .outcome))

@@ -37,8 +37,9 @@ use Rattle.receiver.specs.declared.call.Ending as receiver-ending
 use Rattle.receiver.specs.declared.call.Ending.the-variants.{Dropped, Told}
 use Rattle.receiver.specs.declared.call.Phase as receiver-phase
 use Rattle.receiver.specs.declared.call.Phase.the-variants.{Receive, Send, Shutdown, Finished}
+use Rattle.receiver.specs.declared.receiver.Came.{Came}
+use Rattle.receiver.specs.declared.receiver.Came.the-variants as came
 use Rattle.receiver.specs.declared.receiver.Outcome as receiver-outcome
-use Rattle.receiver.specs.declared.receiver.Outcome.the-variants as outcome
 use Rattle.receiver.specs.declared.receiver.ReceiverState.{ReceiverState}
 use Rattle.receiver.specs.declared.state.Failure as receiver-failure
 use Rattle.receiver.specs.declared.state.Failure.the-variants.{Io, Protocol}
@@ -195,10 +196,13 @@ ReceiverStands f q =
     SchedulerStands (f .scheduler) (q .scheduler) × StateStands (f .state) (q .state) ×
     (f .«pending_ack_count» ≡ q .«pending_ack_count») × BoolStands (f .«notification_socket_shutdown_issued») (q .«notification_socket_shutdown_issued»)
 
+abbrev pub CameStands : Outcome → Came → Type 0
+CameStands f (came.Read n) = (f .kind ≡ 0) × (f .n ≡ n) × NoFailure (f .failure)
+CameStands f came.Done = (f .kind ≡ 1) × (f .n ≡ 0) × NoFailure (f .failure)
+CameStands f (came.Failed e) = (f .kind ≡ 2) × (f .n ≡ 0) × FailureStands (f .failure) e
+
 abbrev pub OutcomeStands : Outcome → receiver-outcome.Outcome → Type 0
-OutcomeStands f (outcome.Read n fds) = (f .kind ≡ 0) × (f .n ≡ n) × (f .fds ≡ fds) × NoFailure (f .failure)
-OutcomeStands f outcome.Done = (f .kind ≡ 1) × (f .n ≡ 0) × (f .fds ≡ 0) × NoFailure (f .failure)
-OutcomeStands f (outcome.Failed e) = (f .kind ≡ 2) × (f .n ≡ 0) × (f .fds ≡ 0) × FailureStands (f .failure) e
+OutcomeStands f o = CameStands f (o .came) × (f .fds ≡ o .fds)
 
 abbrev pub EndingStands : Ending → receiver-ending.Ending → Type 0
 EndingStands f (Dropped o) = (f .told ≡ 0) × OutcomeStands (f .outcome) o

@@ -113,8 +113,8 @@ pub struct Receiver {
     pub notification_socket_shutdown_issued: u64,
 }
 
-// Kind 0 is a read, 1 done and any other failed (2 in answers). What a kind does not use is 0 in answers and not looked at in a
-// host's.
+// Kind 0 is a read, 1 done and any other failed (2 in answers). Descriptors are counted beside each kind; `n` and `failure` are 0 in
+// answers of a kind that does not use them, and not looked at in a host's.
 #[repr(C)]
 pub struct Outcome {
     pub kind: u64,

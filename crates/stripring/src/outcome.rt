@@ -1,22 +1,31 @@
 // What an accepted call of the receiver comes to.
 ghost use mathlib.Core.Path.{_≡_};
-ghost use Rattle.stripring.specs.Outcome.{outcomeAt, noOutcome, flatOutcome};
+ghost use Rattle.stripring.specs.Outcome.{cameAt, outcomeAt, noOutcome, flatCame, flatOutcome};
 use crate::failure::failure;
 use crate::failure::flat_failure;
 use crate::failure::no_failure;
 use crate::flat::Outcome;
 
-pub(crate) fn outcome(o: Outcome) -> receiver::Outcome
-    ensures { λ r. ⌜ r ≡ outcomeAt o ⌝ }
+fn came(o: Outcome) -> receiver::Came
+    ensures { λ r. ⌜ r ≡ cameAt o ⌝ }
 {
     let f = o.failure;
     if o.kind == 0 {
-        return receiver::Outcome::Read { n: o.n, fds: o.fds };
+        return receiver::Came::Read(o.n);
     }
     if o.kind == 1 {
-        return receiver::Outcome::Done;
+        return receiver::Came::Done;
     }
-    receiver::Outcome::Failed(failure(f))
+    receiver::Came::Failed(failure(f))
+}
+
+pub(crate) fn outcome(o: Outcome) -> receiver::Outcome
+    ensures { λ r. ⌜ r ≡ outcomeAt o ⌝ }
+{
+    receiver::Outcome {
+        came: came(o),
+        fds: o.fds,
+    }
 }
 
 pub(crate) fn no_outcome() -> Outcome
@@ -30,27 +39,34 @@ pub(crate) fn no_outcome() -> Outcome
     }
 }
 
-pub(crate) fn flat_outcome(o: receiver::Outcome) -> Outcome
-    ensures { λ r. ⌜ r ≡ flatOutcome o ⌝ }
+fn flat_came(came: receiver::Came, fds: u64) -> Outcome
+    ensures { λ r. ⌜ r ≡ flatCame came fds ⌝ }
 {
-    match o {
-        receiver::Outcome::Read { n, fds } => Outcome {
+    match came {
+        receiver::Came::Read(n) => Outcome {
             kind: 0,
             n,
             fds,
             failure: no_failure(),
         },
-        receiver::Outcome::Done => Outcome {
+        receiver::Came::Done => Outcome {
             kind: 1,
             n: 0,
-            fds: 0,
+            fds,
             failure: no_failure(),
         },
-        receiver::Outcome::Failed(f) => Outcome {
+        receiver::Came::Failed(f) => Outcome {
             kind: 2,
             n: 0,
-            fds: 0,
+            fds,
             failure: flat_failure(f),
         },
     }
+}
+
+pub(crate) fn flat_outcome(o: receiver::Outcome) -> Outcome
+    ensures { λ r. ⌜ r ≡ flatOutcome o ⌝ }
+{
+    let came = o.came;
+    flat_came(came, o.fds)
 }

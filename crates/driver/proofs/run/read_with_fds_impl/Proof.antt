@@ -1,5 +1,5 @@
--- `driver::run::read_with_fds_impl` meets its contract: a walk of its MIR, by hand. The read is begun by the lengths of the
--- ring and of the destination, driven over the run with the ring, and delivered.
+-- `driver::run::read_with_fds_impl` meets its contract: a walk of its MIR, by hand. The read is driven over the run with the ring, by the
+-- length of the destination, and delivered.
 use mathlib.Core.Path.{_≡_, refl, ap, _∙_}
 use Prim.Native.Nat.{ℕ, _<_, _^_}
 use mathlib.Core.List.{List, [], _∷_}
@@ -31,62 +31,47 @@ use denote.Triple.Spec.{tripleOf}
 use denote.Triple.Statement.{Contract, Triple}
 use denote.Triple.Table.{entered, cited}
 use Rattle.receiver.specs.declared.answer.Answer.{Answer}
-use Rattle.receiver.specs.declared.call.Step.{Step}
 use Rattle.driver.specs.declared.drive.Driven.{Driven}
 use Rattle.receiver.specs.declared.receiver.ReceiverState.{ReceiverState}
-use Rattle.receiver.specs.Call.{beginReadOf}
-use Rattle.driver.specs.Drive.{drivenOf, delivery, deliveryOf}
-use Rattle.driver.specs.Run.{readImplDelivery}
+use Rattle.driver.specs.Drive.{delivery, deliveryOf}
+use Rattle.driver.specs.Run.{readOf, readImplDelivery}
 use Rattle.copies.proofs.Calls.{lent, asks, calls}
 use Rattle.driver.proofs.Thin.{Re, qval}
 use Rattle.driver.proofs.Reading.{Owned, exits, Walk, meets}
-use Rattle.receiver.proofs.call.Step as C
-use Rattle.receiver.proofs.call.Step.Laws as C′
 use Rattle.driver.proofs.drive.Driven as D
 use Rattle.driver.proofs.drive.Driven.Laws as D′
 use Rattle.receiver.proofs.receiver.Ended as E
 use Rattle.receiver.proofs.receiver.Ended.Laws as E′
 use Rattle.receiver.proofs.receiver.ReceiverState as Q
 use Rattle.receiver.proofs.receiver.ReceiverState.Laws as Q′
-use Rattle.receiver.proofs.call.Call.begin_read as g₀
-use Rattle.receiver.proofs.call.Call.begin_read.Symbol as g₀-def
-use Rattle.receiver.proofs.call.Call.begin_read.Met as g₀-thm
-use Rattle.driver.proofs.drive.drive as g₁
-use Rattle.driver.proofs.drive.drive.Symbol as g₁-def
-use Rattle.driver.proofs.drive.drive.Met as g₁-thm
-use Rattle.driver.proofs.drive.Driven.deliver as g₂
-use Rattle.driver.proofs.drive.Driven.deliver.Symbol as g₂-def
-use Rattle.driver.proofs.drive.Driven.deliver.Met as g₂-thm
+use Rattle.driver.proofs.run.drive_read as g₀
+use Rattle.driver.proofs.run.drive_read.Symbol as g₀-def
+use Rattle.driver.proofs.run.drive_read.Met as g₀-thm
+use Rattle.driver.proofs.drive.Driven.deliver as g₁
+use Rattle.driver.proofs.drive.Driven.deliver.Symbol as g₁-def
+use Rattle.driver.proofs.drive.Driven.deliver.Met as g₁-thm
 use Rattle.driver.proofs.run.read_with_fds_impl as f
 use Rattle.driver.proofs.run.read_with_fds_impl.Key.{name}
 use Rattle.driver.proofs.run.read_with_fds_impl.Statement as stated
 use Rattle.driver.proofs.run.read_with_fds_impl.Code as code
 
 module _ {M : Type 1} (𝓤 : URA M) (H : Heap 𝓤) (A : Atoms 𝓤) (mem : Memory → SProp 𝓤) (run : Routine → Fun 𝓤) where
-  abbrev Begin : Contract 𝓤
-  Begin = tripleOf 𝓤 H A g₀.signature (g₀.spec 𝓤 H A mem run)
-
   abbrev Drive : Contract 𝓤
-  Drive = tripleOf 𝓤 H A g₁.signature (g₁.spec 𝓤 H A mem run)
+  Drive = tripleOf 𝓤 H A g₀.signature (g₀.spec 𝓤 H A mem run)
 
   abbrev Deliver : Contract 𝓤
-  Deliver = tripleOf 𝓤 H A g₂.signature (g₂.spec 𝓤 H A mem run)
+  Deliver = tripleOf 𝓤 H A g₁.signature (g₁.spec 𝓤 H A mem run)
 
-module _ {M : Type 1} (𝓤 : URA M) (H : Heap 𝓤) (A : Atoms 𝓤) (W : Given 𝓤 H A) (mem : Memory → SProp 𝓤) (run : Routine → Fun 𝓤) (𝓣 : Tables 𝓤 H) (begin : Triple 𝓤 (𝓣 .C g₀-def.name) (Begin 𝓤 H A mem run)) (drive : Triple 𝓤 (𝓣 .C g₁-def.name) (Drive 𝓤 H A mem run)) (deliver : Triple 𝓤 (𝓣 .C g₂-def.name) (Deliver 𝓤 H A mem run))
+module _ {M : Type 1} (𝓤 : URA M) (H : Heap 𝓤) (A : Atoms 𝓤) (W : Given 𝓤 H A) (mem : Memory → SProp 𝓤) (run : Routine → Fun 𝓤) (𝓣 : Tables 𝓤 H) (drive : Triple 𝓤 (𝓣 .C g₀-def.name) (Drive 𝓤 H A mem run)) (deliver : Triple 𝓤 (𝓣 .C g₁-def.name) (Deliver 𝓤 H A mem run))
     (κ₀ κ₁ κ₂ : Lft) (s₀ s₁ s₂ : Share) (q : ReceiverState) (ring dst : RefT (List ℕ)) (m : ℕ) (answers : RefT (List Answer)) where
   abbrev Ring : Fml
   Ring = ShrSlice (named 0) κ₀ u8 .own ring (lent ring ∷ [])
 
-  abbrev to-begin : Begin 𝓤 H A mem run .Ghost
-  to-begin = ((tt, tt, tt, (q, (length (ring .now), (m, (length (dst .now), tt)))), (qval q ∷ [], (vint w64 (length (ring .now)) ∷ [], (vint w64 m ∷ [], (vint w64 (length (dst .now)) ∷ [], tt))))), tt)
+  abbrev asked : ℕ
+  asked = length (dst .now)
 
-  goes-begin : length (ring .now) < 2 ^ 64 → m < 2 ^ 64 → length (dst .now) < 2 ^ 64 → ent 𝓤 (sem 𝓤 H A (Re .own q (qval q ∷ []))) (Begin 𝓤 H A mem run .pre to-begin)
-  goes-begin gr gm gd =
-      qed W (‵ (Re .own q (qval q ∷ [])) ∷ []) ∵ nothing ! $ owned ! u64 (Is u64) (uint-makes 𝓤 H A W w64) (length (dst .now)) _ (refl, gd) $ fjoin ! $ owned ! u64 (Is u64) (uint-makes 𝓤 H A W w64) m _ (refl, gm) $ fjoin ! $
-      owned ! usize (Is usize) (uint-makes 𝓤 H A W w64) (length (ring .now)) _ (refl, gr) $ fjoin ! $ move ! (1 ∷ 0 ∷ []) $ fjoin ! $ nothing ! $ join ! $ by ! (asks 𝓤 _)
-
-  abbrev to-drive : Step → Val → Drive 𝓤 H A mem run .Ghost
-  to-drive c v = (((κ₀, (κ₂, tt)), (s₀, (s₂, tt)), tt, (c, (ring, (answers, tt))), (v ∷ [], (lent ring ∷ [], (lent answers ∷ [], tt)))), tt)
+  abbrev to-drive : Drive 𝓤 H A mem run .Ghost
+  to-drive = (((κ₀, (κ₂, tt)), (s₀, (s₂, tt)), tt, (q, (ring, (asked, (m, (answers, tt))))), (qval q ∷ [], (lent ring ∷ [], (vint w64 asked ∷ [], (vint w64 m ∷ [], (lent answers ∷ [], tt)))))), tt)
 
   abbrev to-deliver : Driven → Val → Deliver 𝓤 H A mem run .Ghost
   to-deliver p v = (((κ₀, (κ₁, tt)), (s₀, (s₁, tt)), tt, (p, (ring, (dst, tt))), (v ∷ [], (lent ring ∷ [], (lent dst ∷ [], tt)))), tt)
@@ -96,47 +81,41 @@ module _ {M : Type 1} (𝓤 : URA M) (H : Heap 𝓤) (A : Atoms 𝓤) (W : Given
       qed W ((‵ (flft κ₀ s₀) ⊛ ‵ (flft κ₁ s₁) ⊛ ‵ (flft κ₂ s₂) ⊛ ‵ ftrue)
       ∷ ‵ (Owned q ring dst m answers κ₀ κ₁ κ₂) ∷ []) ∵
       enter ! (𝓣 .C) (𝓣 .Λ) code.function (qval q ∷ lent ring ∷ lent dst ∷ vint w64 m ∷ lent answers ∷ []) _ $
-      alloc1 ! (λ l₀. alloc1 ! (λ l₁. alloc1 ! (λ l₂. alloc1 ! (λ l₃. alloc1 ! (λ l₄. alloc1 ! (λ l₅. alloc1 ! (λ l₆. alloc1 ! (λ l₇. alloc1 ! (λ l₈. alloc1 ! (λ l₉. alloc1 ! (λ l₁₀. alloc1 ! (λ l₁₁. alloc1 ! (λ l₁₂. alloc0 ! $ params1 ! $
-      pass1 ! (init ! 22 refl (LL.lawful Q.the-type Q′.the-laws 𝓤 H A W .typed q _ iq .0)) $ pass1 ! (init ! 20 refl (tt, (tt, (record { fits = room₀ .0 }, tt)))) $ pass1 ! (init ! 18 refl (tt, (tt, (record { fits = room₁ .0 }, tt)))) $
-      pass1 ! (init ! 16 refl (tt, record { fits = gm })) $ pass1 ! (init ! 14 refl (tt, (tt, (record { fits = room₂ .0 }, tt)))) $ pass0 ! $
-      -- the lengths
-      assigns ! (of-opd ! (load ! (from ! (fld ! refl (stop !))) (look-in ! 20 (sub ! 1 refl (whole !))))) (from ! (stop !)) (init ! 8 refl (tt, record { fits = room₀ .0 })) $
-      assigns ! (of-opd ! (load ! (from ! (fld ! refl (stop !))) (look-in ! 18 (sub ! 1 refl (whole !))))) (from ! (stop !)) (init ! 6 refl (tt, record { fits = room₁ .0 })) $
+      alloc1 ! (λ l₀. alloc1 ! (λ l₁. alloc1 ! (λ l₂. alloc1 ! (λ l₃. alloc1 ! (λ l₄. alloc1 ! (λ l₅. alloc1 ! (λ l₆. alloc1 ! (λ l₇. alloc1 ! (λ l₈. alloc1 ! (λ l₉. alloc1 ! (λ l₁₀. alloc0 ! $ params1 ! $
+      pass1 ! (init ! 18 refl (LL.lawful Q.the-type Q′.the-laws 𝓤 H A W .typed q _ iq .0)) $ pass1 ! (init ! 16 refl (tt, (tt, (record { fits = room₀ .0 }, tt)))) $ pass1 ! (init ! 14 refl (tt, (tt, (record { fits = room₁ .0 }, tt)))) $
+      pass1 ! (init ! 12 refl (tt, record { fits = gm })) $ pass1 ! (init ! 10 refl (tt, (tt, (record { fits = room₂ .0 }, tt)))) $ pass0 ! $
+      -- the destination's length
+      assigns ! (of-opd ! (load ! (from ! (fld ! refl (stop !))) (look-in ! 14 (sub ! 1 refl (whole !))))) (from ! (stop !)) (init ! 6 refl (tt, record { fits = room₁ .0 })) $
       assigns ! (of-opd ! (load ! (from ! (stop !)) (look ! 6 refl))) (from ! (stop !)) (init ! 4 refl (tt, record { fits = room₁ .0 })) $
-      -- [_12; …; _11; …; _10; …; _9; …; _8; …; driven; …; call; …; answers; …; max; …; dst; …; ring; …; self; …; _0; …; the tokens; what the parameters own]
-      move ! (27 ∷ []) $ fsplit ! $ use1 W (raw (Begin 𝓤 H A mem run .pre to-begin)) (goes-begin (room₀ .0) gm (room₁ .0)) $
-      -- [what `begin_read` asks; what the other parameters own; _12; …; the tokens]
-      calls ! (fmOf 𝓤 H (W .laws) 𝓣) g₀.ended (g₀.clauses 𝓤 H A mem run) begin to-begin (λ c ws. c ≡ beginReadOf q (length (ring .now)) m (length (dst .now))) (λ c ws. id⊢ 𝓤 _)
-      (and-then ! (load ! (from ! (stop !)) (look ! 24 refl)) (and-then ! (load ! (from ! (stop !)) (look ! 10 refl)) (and-then ! (load ! (from ! (stop !)) (look ! 18 refl)) (and-then ! (load ! (from ! (stop !)) (look ! 6 refl)) (no-more !))))) (λ v c ws e ic.
-      land ! (from ! (stop !)) (init ! 16 refl (EL.lawful C.the-type C′.the-laws 𝓤 H A W tt .typed c _ ic .0)) $
-      -- [the call; true; true; what the other parameters own; _12; …; the tokens]: of the ring one copy goes to `drive`, and one is kept
-      move ! (1 ∷ 2 ∷ []) $ drop ! $ drop ! $ move ! (1 ∷ []) $ fsplit ! $ use1 W (‵ Ring ⊛ ‵ Ring) (shr-slice-copy 𝓤 H A W (named 0) κ₀ u8 .twice ring (lent ring ∷ [])) $ split ! $
-      move ! (2 ∷ []) $ fsplit ! $ move ! (1 ∷ []) $ fsplit ! $ drop ! $
-      -- [the run and true; dst; ring; ring; the call; _12; …; the tokens]
-      move ! (2 ∷ 0 ∷ []) $ fjoin ! $ move ! (3 ∷ 0 ∷ []) $ fjoin ! $ move ! (29 ∷ []) $ split ! $ move ! (1 ∷ []) $ split ! $ move ! (2 ∷ 1 ∷ []) $ join ! $ move ! (0 ∷ 2 ∷ []) $ join ! $ use1 W (raw (Drive 𝓤 H A mem run .pre (to-drive c v))) (asks 𝓤 _) $
-      -- [what `drive` asks; dst's token; dst; ring; _12; …; _11; …; _10; …; _9; …; _8; …; driven; …; call; …; answers; …]
-      calls ! (fmOf 𝓤 H (W .laws) 𝓣) g₁.ended (g₁.clauses 𝓤 H A mem run) drive (to-drive c v) (λ p ws. p ≡ drivenOf c (ring .now) (answers .now)) (λ p ws. id⊢ 𝓤 _)
-      (and-then ! (load ! (from ! (stop !)) (look ! 16 refl)) (and-then ! (load ! (from ! (stop !)) (look ! 24 refl)) (and-then ! (load ! (from ! (stop !)) (look ! 18 refl)) (no-more !)))) (λ u p ws k ip.
-      land ! (from ! (stop !)) (init ! 16 refl (LL.lawful D.the-type D′.the-laws 𝓤 H A W .typed p _ ip .0)) $
-      -- [what is driven; the tokens of ring and run; the last values; dst's token; dst; ring; _12; …; _11; …]
-      assigns ! (addr ! (from ! (fld ! refl (hop ! (look-in ! 24 (sub ! 0 refl (whole !))) (stop !))))) (from ! (stop !)) (init ! 8 refl (tt, tt)) $
-      assigns ! (agg ! (and-then ! (load ! (from ! (stop !)) (look ! 8 refl)) (and-then ! (load ! (from ! (fld ! refl (stop !))) (look-in ! 24 (sub ! 1 refl (whole !)))) (no-more !)))) (from ! (stop !)) (init ! 6 refl (tt, (tt, (record { fits = room₁ .0 }, tt)))) $
+      -- [_10; …; _9; …; _8; …; _7; …; driven; …; answers; …; max; …; dst; …; ring; …; self; …; _0; …; the tokens; what the parameters own]: of the ring one
+      -- copy goes to `drive_read`, and one is kept
+      move ! (23 ∷ []) $ fsplit ! $ move ! (1 ∷ []) $ fsplit ! $ use1 W (‵ Ring ⊛ ‵ Ring) (shr-slice-copy 𝓤 H A W (named 0) κ₀ u8 .twice ring (lent ring ∷ [])) $ split ! $ move ! (2 ∷ []) $ fsplit ! $
+      -- [dst; what the last two own; ring; ring; self; _10; …; the tokens]
+      owned ! u64 (Is u64) (uint-makes 𝓤 H A W w64) asked _ (refl, room₁ .0) $ move ! (0 ∷ 2 ∷ []) $ fjoin ! $ move ! (2 ∷ 0 ∷ []) $ fjoin ! $ move ! (3 ∷ 0 ∷ []) $ fjoin ! $
+      move ! (25 ∷ []) $ split ! $ move ! (1 ∷ []) $ split ! $ move ! (2 ∷ 1 ∷ []) $ join ! $ move ! (0 ∷ 2 ∷ []) $ join ! $ use1 W (raw (Drive 𝓤 H A mem run .pre to-drive)) (asks 𝓤 _) $
+      -- [what `drive_read` asks; dst's token; dst; ring; _10; …]
+      calls ! (fmOf 𝓤 H (W .laws) 𝓣) g₀.ended (g₀.clauses 𝓤 H A mem run) drive to-drive (λ p ws. p ≡ readOf q (ring .now) asked m (answers .now)) (λ p ws. id⊢ 𝓤 _)
+      (and-then ! (load ! (from ! (stop !)) (look ! 22 refl)) (and-then ! (load ! (from ! (stop !)) (look ! 20 refl)) (and-then ! (load ! (from ! (stop !)) (look ! 8 refl)) (and-then ! (load ! (from ! (stop !)) (look ! 16 refl)) (and-then ! (load ! (from ! (stop !)) (look ! 14 refl)) (no-more !)))))) (λ u p ws k ip.
+      land ! (from ! (stop !)) (init ! 14 refl (LL.lawful D.the-type D′.the-laws 𝓤 H A W .typed p _ ip .0)) $
+      -- [what is driven; the tokens of ring and run; the last values; dst's token; dst; ring; _10; …; _9; …]
+      assigns ! (addr ! (from ! (fld ! refl (hop ! (look-in ! 20 (sub ! 0 refl (whole !))) (stop !))))) (from ! (stop !)) (init ! 8 refl (tt, tt)) $
+      assigns ! (agg ! (and-then ! (load ! (from ! (stop !)) (look ! 8 refl)) (and-then ! (load ! (from ! (fld ! refl (stop !))) (look-in ! 20 (sub ! 1 refl (whole !)))) (no-more !)))) (from ! (stop !)) (init ! 6 refl (tt, (tt, (record { fits = room₁ .0 }, tt)))) $
       move ! (1 ∷ []) $ use1 W (‵ (flft κ₀ s₀) ⊛ ‵ (flft κ₂ s₂) ⊛ ‵ ftrue) (id⊢ 𝓤 _) $ split ! $
       nothing ! $ move ! (5 ∷ 0 ∷ []) $ join ! $ move ! (1 ∷ 0 ∷ []) $ join ! $ nothing ! $ move ! (5 ∷ 0 ∷ []) $ fjoin ! $ move ! (5 ∷ 0 ∷ []) $ fjoin ! $ move ! (3 ∷ 0 ∷ []) $ fjoin ! $ move ! (1 ∷ 0 ∷ []) $ join ! $
       use1 W (raw (Deliver 𝓤 H A mem run .pre (to-deliver p u))) (asks 𝓤 _) $
-      -- [what `deliver` asks; the run's token and true; the last values; _12; …]
-      calls ! (fmOf 𝓤 H (W .laws) 𝓣) g₂.ended (g₂.clauses 𝓤 H A mem run) deliver (to-deliver p u) (λ r us. delivery r (us .1 .1 .0) ≡ deliveryOf p (ring .now) (dst .now)) (λ r us. id⊢ 𝓤 _)
-      (and-then ! (load ! (from ! (stop !)) (look ! 13 refl)) (and-then ! (load ! (from ! (stop !)) (look ! 23 refl)) (and-then ! (load ! (from ! (stop !)) (look ! 3 refl)) (no-more !)))) (λ w r us h ir.
-      -- [the result; the tokens of ring and dst; the last values; the run's token and true; the last values before; _12; …]
-      land ! (from ! (stop !)) (init ! 29 refl (EL.lawful E.the-type E′.the-laws 𝓤 H A W tt .typed r _ ir .0)) $
-      returns ! (look ! 29 refl) $ forget ! 5 refl $ forget ! 7 refl $ forget ! 9 refl $ forget ! 11 refl $ forget ! 13 refl $ forget ! 15 refl $ forget ! 17 refl $ forget ! 19 refl $ forget ! 21 refl $ forget ! 23 refl $ forget ! 25 refl $ forget ! 27 refl $ forget ! 29 refl $
-      move ! (29 ∷ 30 ∷ []) $ free1 ! $ move ! (27 ∷ 28 ∷ []) $ free1 ! $ move ! (25 ∷ 26 ∷ []) $ free1 ! $ move ! (23 ∷ 24 ∷ []) $ free1 ! $ move ! (21 ∷ 22 ∷ []) $ free1 ! $ move ! (19 ∷ 20 ∷ []) $ free1 ! $ move ! (17 ∷ 18 ∷ []) $ free1 ! $ move ! (15 ∷ 16 ∷ []) $ free1 ! $ move ! (13 ∷ 14 ∷ []) $ free1 ! $ move ! (11 ∷ 12 ∷ []) $ free1 ! $ move ! (9 ∷ 10 ∷ []) $ free1 ! $ move ! (7 ∷ 8 ∷ []) $ free1 ! $ move ! (5 ∷ 6 ∷ []) $ free1 ! $ free0 ! $
+      -- [what `deliver` asks; the run's token and true; the last values; _10; …]
+      calls ! (fmOf 𝓤 H (W .laws) 𝓣) g₁.ended (g₁.clauses 𝓤 H A mem run) deliver (to-deliver p u) (λ r us. delivery r (us .1 .1 .0) ≡ deliveryOf p (ring .now) (dst .now)) (λ r us. id⊢ 𝓤 _)
+      (and-then ! (load ! (from ! (stop !)) (look ! 11 refl)) (and-then ! (load ! (from ! (stop !)) (look ! 19 refl)) (and-then ! (load ! (from ! (stop !)) (look ! 3 refl)) (no-more !)))) (λ w r us h ir.
+      -- [the result; the tokens of ring and dst; the last values; the run's token and true; the last values before; _10; …]
+      land ! (from ! (stop !)) (init ! 25 refl (EL.lawful E.the-type E′.the-laws 𝓤 H A W tt .typed r _ ir .0)) $
+      returns ! (look ! 25 refl) $ forget ! 5 refl $ forget ! 7 refl $ forget ! 9 refl $ forget ! 11 refl $ forget ! 13 refl $ forget ! 15 refl $ forget ! 17 refl $ forget ! 19 refl $ forget ! 21 refl $ forget ! 23 refl $ forget ! 25 refl $
+      move ! (25 ∷ 26 ∷ []) $ free1 ! $ move ! (23 ∷ 24 ∷ []) $ free1 ! $ move ! (21 ∷ 22 ∷ []) $ free1 ! $ move ! (19 ∷ 20 ∷ []) $ free1 ! $ move ! (17 ∷ 18 ∷ []) $ free1 ! $ move ! (15 ∷ 16 ∷ []) $ free1 ! $ move ! (13 ∷ 14 ∷ []) $ free1 ! $ move ! (11 ∷ 12 ∷ []) $ free1 ! $ move ! (9 ∷ 10 ∷ []) $ free1 ! $ move ! (7 ∷ 8 ∷ []) $ free1 ! $ move ! (5 ∷ 6 ∷ []) $ free1 ! $ free0 ! $
       -- of the last values, that of the destination
       move ! (2 ∷ []) $ fsplit ! $ drop ! $ fsplit ! $ drop ! $ fsplit ! $ fsplit ! $ move ! (1 ∷ []) $ feqL ! (λ l.
       -- [the last bytes; true; the result; the tokens of ring and dst; the run's token and true]
       move ! (3 ∷ []) $ use1 W (‵ (flft κ₀ s₀) ⊛ ‵ (flft κ₁ s₁) ⊛ ‵ ftrue) (id⊢ 𝓤 _) $ split ! $ move ! (1 ∷ []) $ split ! $ move ! (0 ∷ 6 ∷ []) $ join ! $ move ! (2 ∷ 0 ∷ []) $ join ! $
       keep ! (0 ∷ 2 ∷ 4 ∷ []) $
-      by ! (exits readImplDelivery 𝓤 H A κ₀ κ₁ κ₂ s₀ s₁ s₂ q ring dst m answers W r w (us .1 .1 .0) (h ∙ ap (λ (z : Driven). deliveryOf z (ring .now) (dst .now)) (k ∙ ap (λ (z : Step). drivenOf z (ring .now) (answers .now)) e)) l))))))))))))))))))
+      by ! (exits readImplDelivery 𝓤 H A κ₀ κ₁ κ₂ s₀ s₁ s₂ q ring dst m answers W r w (us .1 .1 .0) (h ∙ ap (λ (z : Driven). deliveryOf z (ring .now) (dst .now)) k) l)))))))))))))))
 
 pub read-with-fds-impl-spec : {M : Type 1} → stated.statement M
 unfolding code.routine tablesOf
@@ -144,6 +123,5 @@ read-with-fds-impl-spec 𝓤 H 𝓜 𝓖 𝓡 =
     entered 𝓤 H (tripleOf 𝓤 H (𝓖 .A) f.signature (f.spec 𝓤 H (𝓖 .A) (𝓜 .mem) (𝓡 .run)))
     (tables 𝓤 H 𝓜 𝓡 code.env .C) (tables 𝓤 H 𝓜 𝓡 code.env .Λ) name code.function (code.unfolded 𝓤 H 𝓜 𝓡)
     (meets readImplDelivery 𝓤 H (𝓖 .A) (givenOf 𝓤 H 𝓜 𝓖) (tablesOf 𝓤 H 𝓜 (tables 𝓤 H 𝓜 𝓡 code.env)) code.function (walk 𝓤 H (𝓖 .A) (givenOf 𝓤 H 𝓜 𝓖) (𝓜 .mem) (𝓡 .run) (tablesOf 𝓤 H 𝓜 (tables 𝓤 H 𝓜 𝓡 code.env))
-    (cited 𝓤 H (Begin 𝓤 H (𝓖 .A) (𝓜 .mem) (𝓡 .run)) 𝓜 𝓡 code.env g₀-def.name g₀-def.routine code.calls-receiver·call·Call·begin-read (g₀-thm.met 𝓤 H 𝓜 𝓖 𝓡))
-    (cited 𝓤 H (Drive 𝓤 H (𝓖 .A) (𝓜 .mem) (𝓡 .run)) 𝓜 𝓡 code.env g₁-def.name g₁-def.routine code.calls-driver·drive·drive (g₁-thm.met 𝓤 H 𝓜 𝓖 𝓡))
-    (cited 𝓤 H (Deliver 𝓤 H (𝓖 .A) (𝓜 .mem) (𝓡 .run)) 𝓜 𝓡 code.env g₂-def.name g₂-def.routine code.calls-driver·drive·Driven·deliver (g₂-thm.met 𝓤 H 𝓜 𝓖 𝓡))))
+    (cited 𝓤 H (Drive 𝓤 H (𝓖 .A) (𝓜 .mem) (𝓡 .run)) 𝓜 𝓡 code.env g₀-def.name g₀-def.routine code.calls-driver·run·drive-read (g₀-thm.met 𝓤 H 𝓜 𝓖 𝓡))
+    (cited 𝓤 H (Deliver 𝓤 H (𝓖 .A) (𝓜 .mem) (𝓡 .run)) 𝓜 𝓡 code.env g₁-def.name g₁-def.routine code.calls-driver·drive·Driven·deliver (g₁-thm.met 𝓤 H 𝓜 𝓖 𝓡))))

@@ -1,5 +1,6 @@
 -- By the state.
 use mathlib.Core.Path.{ap, _∙_}
+use Rattle.receiver.specs.Call.{finishedCall}
 use Rattle.receiver.proofs.CallLaws.{read-by}
 use Rattle.receiver.specs.declared.call.Step.the-variants.{Of}
 use borrow.Author.Needs.{needs}
@@ -21,6 +22,9 @@ read-live-requires-2 c κs = search needs
 enum-known-state : tie.Need-enum-known-state
 enum-known-state c = search needs
 
+failed-requires : tie.Need-failed-requires
+failed-requires c κs = search needs
+
 finish-requires : tie.Need-finish-requires
 finish-requires c κs = search needs
 
@@ -31,7 +35,7 @@ returns-2 : tie.Need-returns-2
 returns-2 c = c .read-live2 .ensures ∙ read-by _ _ _ _ (c .before .enum-told2 .given .1)
 
 returns-3 : tie.Need-returns-3
-returns-3 c = ap Of (c .finish .ensures) ∙ read-by _ _ _ _ (c .before .before .state .given .1)
+returns-3 c = ap Of (c .finish .ensures ∙ ap (finishedCall _ _) (c .before .failed .ensures)) ∙ read-by _ _ _ _ (c .before .before .before .state .given .1)
 
 pub read-spec : {M : Type 1} → statement M
 read-spec =
@@ -42,6 +46,7 @@ read-spec =
     enum-told-2
     read-live-requires-2
     enum-known-state
+    failed-requires
     finish-requires
     returns
     returns-2

@@ -12,11 +12,14 @@ least-requires c κs = search needs
 handed-out-requires : tie.Need-handed-out-requires
 handed-out-requires c κs = search needs
 
+read-requires : tie.Need-read-requires
+read-requires c κs = search needs
+
 service-requires : tie.Need-service-requires
 service-requires c κs = search needs
 
 returns : tie.Need-returns
-returns c = rw (c .service .ensures, c .before .handed-out .ensures, c .before .before .least .ensures, c .before .before .before .max-operation-len .ensures)
+returns c = rw (c .service .ensures, c .before .read .ensures, c .before .before .handed-out .ensures, c .before .before .before .least .ensures, c .before .before .before .before .max-operation-len .ensures)
 
 pub read-chunk-bytes-spec : {M : Type 1} → statement M
 read-chunk-bytes-spec =
@@ -25,5 +28,6 @@ read-chunk-bytes-spec =
     max-operation-len-requires
     least-requires
     handed-out-requires
+    read-requires
     service-requires
     returns)

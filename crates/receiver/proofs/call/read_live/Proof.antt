@@ -5,11 +5,14 @@ use borrow.Author.Needs.{needs}
 use Rattle.receiver.proofs.call.read_live.Statement.{statement}
 use Rattle.receiver.proofs.call.read_live.Tie as tie
 
+read-requires : tie.Need-read-requires
+read-requires c κs = search needs
+
 finish-requires : tie.Need-finish-requires
 finish-requires c κs = search needs
 
 returns : tie.Need-returns
-returns c = rw (eq-eqb _ _ (c .before .if1 .taken), c .finish .ensures)
+returns c = rw (eq-eqb _ _ (c .before .before .if1 .taken), c .finish .ensures, c .before .read .ensures)
 
 returns-2 : tie.Need-returns-2
 returns-2 c = rw (ne-eqb _ _ (c .before .before .if1 .left), eq-eqb _ _ (c .if2 .taken))
@@ -30,6 +33,7 @@ pub read-live-spec : {M : Type 1} → statement M
 read-live-spec =
     tie.close
     (tie.spec
+    read-requires
     finish-requires
     returns
     returns-2

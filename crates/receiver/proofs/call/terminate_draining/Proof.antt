@@ -1,5 +1,6 @@
 -- By the state.
-use mathlib.Core.Path.{_∙_}
+use mathlib.Core.Path.{ap, _∙_}
+use Rattle.receiver.specs.Call.{finishedCall}
 use Rattle.receiver.proofs.CallLaws.{blocked-by}
 use borrow.Author.Needs.{needs}
 use Rattle.receiver.proofs.call.terminate_draining.Statement.{statement}
@@ -7,6 +8,9 @@ use Rattle.receiver.proofs.call.terminate_draining.Tie as tie
 
 enum-told : tie.Need-enum-told
 enum-told c = search needs
+
+failed-requires : tie.Need-failed-requires
+failed-requires c κs = search needs
 
 finish-requires : tie.Need-finish-requires
 finish-requires c κs = search needs
@@ -24,7 +28,7 @@ terminate-immediately-requires-2 : tie.Need-terminate-immediately-requires-2
 terminate-immediately-requires-2 c κs = search needs
 
 returns : tie.Need-returns
-returns c = c .finish .ensures ∙ blocked-by _ _ _ (c .before .enum-told .given .1)
+returns c = c .finish .ensures ∙ ap (finishedCall _ _) (c .before .failed .ensures) ∙ blocked-by _ _ _ (c .before .before .enum-told .given .1)
 
 returns-2 : tie.Need-returns-2
 returns-2 c = c .terminate-immediately .ensures ∙ blocked-by _ _ _ (c .before .before .state .given .1)
@@ -37,6 +41,7 @@ terminate-draining-spec =
     tie.close
     (tie.spec
     enum-told
+    failed-requires
     finish-requires
     enum-known-state
     terminate-immediately-requires

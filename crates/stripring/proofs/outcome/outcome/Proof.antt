@@ -1,24 +1,13 @@
--- The three cases of the definition.
-use borrow.Author.Tests.{eq-eqb, ne-eqb}
-use Rattle.stripring.specs.Outcome.{outcomeAt}
+-- What it came to, and what stands beside it.
 use borrow.Author.Needs.{needs}
 use Rattle.stripring.proofs.outcome.outcome.Statement.{statement}
 use Rattle.stripring.proofs.outcome.outcome.Tie as tie
 
+came-requires : tie.Need-came-requires
+came-requires c κs = search needs
+
 returns : tie.Need-returns
-unfolding outcomeAt
-returns c = rw (eq-eqb _ _ (c .if1 .taken))
-
-returns-2 : tie.Need-returns-2
-unfolding outcomeAt
-returns-2 c = rw (ne-eqb _ _ (c .before .before .if1 .left), eq-eqb _ _ (c .if2 .taken))
-
-failure-requires : tie.Need-failure-requires
-failure-requires c κs = search needs
-
-returns-3 : tie.Need-returns-3
-unfolding outcomeAt
-returns-3 c = rw (ne-eqb _ _ (c .before .before .before .if1 .left), ne-eqb _ _ (c .before .if2 .left), c .failure .ensures)
+returns c = rw (c .came .ensures)
 
 pub outcome-spec : {M : Type 1} → statement M
-outcome-spec = tie.close (tie.spec returns returns-2 failure-requires returns-3)
+outcome-spec = tie.close (tie.spec came-requires returns)

@@ -10,6 +10,9 @@ admit-requires c κs = search needs
 enum-told : tie.Need-enum-told
 enum-told c = search needs
 
+done-requires : tie.Need-done-requires
+done-requires c κs = search needs
+
 service-requires : tie.Need-service-requires
 service-requires c κs = search needs
 
@@ -17,11 +20,11 @@ enum-known-e : tie.Need-enum-known-e
 enum-known-e c = search needs
 
 returns : tie.Need-returns
-returns c = rw (← (sym (c .before .enum-told .given .1) ∙ c .before .before .before .admit .ensures), c .service .ensures)
+returns c = rw (← (sym (c .before .before .enum-told .given .1) ∙ c .before .before .before .before .admit .ensures), c .service .ensures, c .before .done .ensures)
 
 returns-2 : tie.Need-returns-2
 returns-2 c = rw (← (sym (c .before .e .given .1) ∙ c .before .before .before .admit .ensures))
 
 pub begin-service-spec : {M : Type 1} → statement M
 begin-service-spec =
-    tie.close (tie.spec admit-requires enum-told service-requires enum-known-e returns returns-2)
+    tie.close (tie.spec admit-requires enum-told done-requires service-requires enum-known-e returns returns-2)

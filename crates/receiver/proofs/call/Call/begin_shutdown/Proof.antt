@@ -10,6 +10,9 @@ admit-requires c κs = search needs
 enum-told : tie.Need-enum-told
 enum-told c = search needs
 
+done-requires : tie.Need-done-requires
+done-requires c κs = search needs
+
 advance-operational-state-towards-termination-requires :
     tie.Need-advance-operational-state-towards-termination-requires
 advance-operational-state-towards-termination-requires c κs = search needs
@@ -18,7 +21,7 @@ enum-known-e : tie.Need-enum-known-e
 enum-known-e c = search needs
 
 returns : tie.Need-returns
-returns c = rw (← (sym (c .before .enum-told .given .1) ∙ c .before .before .before .admit .ensures), c .advance-operational-state-towards-termination .ensures)
+returns c = rw (← (sym (c .before .before .enum-told .given .1) ∙ c .before .before .before .before .admit .ensures), c .advance-operational-state-towards-termination .ensures, c .before .done .ensures)
 
 returns-2 : tie.Need-returns-2
 returns-2 c = rw (← (sym (c .before .e .given .1) ∙ c .before .before .before .admit .ensures))
@@ -29,6 +32,7 @@ begin-shutdown-spec =
     (tie.spec
     admit-requires
     enum-told
+    done-requires
     advance-operational-state-towards-termination-requires
     enum-known-e
     returns

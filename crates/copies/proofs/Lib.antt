@@ -1,4 +1,5 @@
 pub mod Ring
+pub mod NumberLaws
 pub mod Laws
 pub mod Calls
 pub mod Lending
@@ -8,3 +9,4 @@ mod LendingScheduler
 pub mod Says
 pub mod Promised
 pub mod PromisedValues
+pub mod PromisedNumber

@@ -9,6 +9,9 @@ use Rattle.sched.specs.Refusal.{packed}
 use Rattle.copies.specs.declared.lent.Told.{Told}
 use Rattle.copies.specs.Copies.{numberOf, valuesOf, Left, readyOf, writeOf, readOf}
 use Rattle.copies.specs.Lent.{toldOf, recordAfter, WriteLeaves, ReadLeaves}
+use Rattle.copies.specs.Number.{bigEndianOf}
+use Rattle.copies.proofs.number.big_endian.Kinds as big-endian-kinds
+use Rattle.copies.proofs.number.big_endian.Reads as big-endian
 use Rattle.copies.proofs.demand_ring_memory.Kinds as demand-ring-memory-kinds
 use Rattle.copies.proofs.demand_ring_memory.Reads as demand-ring-memory
 use Rattle.copies.proofs.write.Kinds as write-kinds
@@ -33,6 +36,10 @@ pub read-says : Leaves 2 read-kinds.ps read-kinds.r read.Learnt
     (λ κs a. readOf (a .0) (a .1 .0 .now) (a .1 .1 .0 .now) .answer)
     (λ κs a. (tt, (tt, (readOf (a .0) (a .1 .0 .now) (a .1 .1 .0 .now) .memory, tt))))
 read-says κs a z ws p = (ap (λ (x : Left). x .answer) p, ap (λ (x : Left). (tt, (tt, (x .memory, tt)))) p)
+
+-- ---- numbers in lent bytes
+pub big-endian-says : Says 1 big-endian-kinds.ps big-endian-kinds.r big-endian.Learnt (λ κs a. bigEndianOf (a .0 .now) (a .1 .0))
+big-endian-says κs a z ws p = p
 
 -- ---- refusals in numbers
 pub Refusal-number-says : Says 0 Refusal-number-kinds.ps Refusal-number-kinds.r Refusal-number.Learnt (λ κs a. numberOf (a .0))

@@ -1,4 +1,5 @@
 pub mod Ring
+pub mod Number
 pub mod Copies
 pub mod Lent
 pub mod Promises

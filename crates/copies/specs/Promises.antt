@@ -1,5 +1,5 @@
 -- What a copy promises of the memory before and after it, in other words than those of its definition.
-use Prim.Native.Nat.{ℕ, _+_, _%_, _<_, min}
+use Prim.Native.Nat.{ℕ, _+_, _*_, _%_, _^_, _<_, min}
 use mathlib.Core.Path.{_≡_}
 use mathlib.Core.Logic.{_≢_}
 use mathlib.Core.List.{List}
@@ -13,6 +13,18 @@ use Rattle.copies.specs.declared.lent.Told.{Told}
 use Rattle.copies.specs.declared.lent.Told.the-variants as told
 use Rattle.copies.specs.Ring.{get}
 
+-- ---- numbers
+-- the cell k of a ring of length L
+abbrev pub cell : ℕ → List ℕ → ℕ → ℕ
+cell L ring k = getD ring (k % L) 0
+
+-- the number in the eight cells from k on, most significant first
+abbrev pub numberAt : ℕ → List ℕ → ℕ → ℕ
+numberAt L ring k =
+    cell L ring k * 2 ^ 56 + cell L ring (k + 1) * 2 ^ 48 + cell L ring (k + 2) * 2 ^ 40 + cell L ring (k + 3) * 2 ^ 32
+    + cell L ring (k + 4) * 2 ^ 24 + cell L ring (k + 5) * 2 ^ 16 + cell L ring (k + 6) * 2 ^ 8 + cell L ring (k + 7)
+
+-- ---- copies
 -- of a ring of l places none but the n places from `at` on are changed
 abbrev pub OnlyCells : ℕ → ℕ → ℕ → List ℕ → List ℕ → Type 0
 OnlyCells l at n old new = (length new ≡ length old) × ((k : ℕ) → ((j : ℕ) → j < n → k ≢ (at + j) % l) → getD new k 0 ≡ getD old k 0)

@@ -16,10 +16,12 @@ use sched::RingBufferScheduler;
 use sched::Values;
 
 mod lent;
+mod number;
 
 pub use lent::Told;
 pub use lent::read_lent;
 pub use lent::write_lent;
+pub use number::big_endian;
 
 // Why a copy refuses: what the scheduler refuses, or 9.
 pub enum Refusal {

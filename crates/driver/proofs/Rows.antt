@@ -19,7 +19,9 @@ use Rattle.receiver.specs.declared.state.Violation.the-variants.{InvalidChunkAn
 use Rattle.receiver.specs.State.{fitsErrno, normalizeIn, towardsErrorIn}
 use Rattle.receiver.specs.Answer.{interruptedOf, receivedOf, sentOf, shutOf}
 use Rattle.receiver.specs.Call.{flushCall}
-use Rattle.receiver.specs.Receiver.{readOutcome, failedOutcome, doneOutcome, receiver, numberFrom}
+use Rattle.receiver.specs.Receiver.{readOutcome, failedOutcome, doneOutcome, receiver}
+use Rattle.sched.specs.Chunk.{bodyFits}
+use Rattle.copies.specs.Number.{numberFrom}
 use Rattle.driver.specs.Drive.{endedOf, delivery, endOfStreamIn}
 use Rattle.driver.specs.Run.{readOf, serviceOf, shutdownOf, readDelivery}
 use Rattle.receiver.specs.Refusal.{numberOf}
@@ -171,25 +173,25 @@ a-violation-puts-the-scheduler-back :
     (reads empty Normal 0 true (header 0 0) 2 (byte 0 1 ∷ []) ≡ Accepted (receiver empty (Terminated (Protocol InvalidChunkLength)) 0 true) (failedOutcome (Protocol InvalidChunkLength)) 1) ×
     (reads empty Normal 0 true (header 64 5) 2 (byte 0 1 ∷ []) ≡ Accepted (receiver empty (Terminated (Protocol UnknownHeader)) 0 true) (failedOutcome (Protocol UnknownHeader)) 1) ×
     (reads empty Normal 0 true zeros 2 (byte 7 1 ∷ []) ≡ Accepted (receiver empty (Terminated (Protocol InvalidChunkAnnouncement)) 0 true) (failedOutcome (Protocol InvalidChunkAnnouncement)) 1)
-unfolding numberFrom readyFrom soundOf subMod addMod fitsErrno normalizeIn towardsErrorIn interruptedOf receivedOf shutOf
+unfolding bodyFits numberFrom readyFrom soundOf subMod addMod fitsErrno normalizeIn towardsErrorIn interruptedOf receivedOf shutOf
 a-violation-puts-the-scheduler-back = (refl, refl, refl, refl)
 
 eight-bytes-stay-free-behind-a-body :
     (reads empty Normal 0 true (header 0 56) 2 (byte 0 1 ∷ []) ≡ Accepted (receiver (ring 64 64 10) Normal 0 true) (readOutcome 2 1) 1) ×
     (reads empty Normal 0 true (header 0 57) 2 (byte 0 1 ∷ []) ≡ Accepted (receiver empty (Terminated (Protocol ControlOverflow)) 0 true) (failedOutcome (Protocol ControlOverflow)) 1)
-unfolding flushCall numberFrom readyFrom soundOf subMod addMod fitsErrno normalizeIn towardsErrorIn interruptedOf receivedOf shutOf
+unfolding flushCall bodyFits numberFrom readyFrom soundOf subMod addMod fitsErrno normalizeIn towardsErrorIn interruptedOf receivedOf shutOf
 eight-bytes-stay-free-behind-a-body = (refl, refl)
 
 a-chunk-read-to-its-end-is-acknowledged :
     reads empty Normal 0 true (header 0 3) 9 (byte 0 1 ∷ sends 1 ∷ []) ≡ Accepted (receiver (ring 64 11 11) Normal 0 true) (readOutcome 3 1) 2
-unfolding flushCall numberFrom readyFrom soundOf subMod addMod fitsErrno interruptedOf receivedOf sentOf
+unfolding flushCall bodyFits numberFrom readyFrom soundOf subMod addMod fitsErrno interruptedOf receivedOf sentOf
 a-chunk-read-to-its-end-is-acknowledged = refl
 
 -- five bytes of it at the ring's end and three at its start, the body behind them
 a-header-wraps-around-the-ring's-end :
     readDelivery (receiver (ring 20 15 15) Normal 0 true) (0 ∷ 0 ∷ 3 ∷ 7 ∷ 8 ∷ 9 ∷ replicate 14 0) (1 ∷ 2 ∷ []) 0 (byte 0 0 ∷ []) ≡
     delivery (Accepted (receiver (ring 20 26 25) Normal 0 true) (readOutcome 2 0) 1) (7 ∷ 8 ∷ [])
-unfolding flushCall numberFrom readyFrom soundOf subMod addMod fitsErrno interruptedOf receivedOf
+unfolding flushCall bodyFits numberFrom readyFrom soundOf subMod addMod fitsErrno interruptedOf receivedOf
 a-header-wraps-around-the-ring's-end = refl
 
 -- ---- a shutdown

@@ -18,7 +18,10 @@ use Rattle.copies.specs.Copies.{readyFrom, readyOf}
 use Rattle.copies.specs.Ring.{get}
 use Rattle.receiver.proofs.ChunkLaws.{announced, held}
 use Rattle.receiver.specs.Call.{Handing, Announces, ByteSized}
-use Rattle.receiver.specs.Receiver.{withScheduler, numberFrom, headerIn, byteIn}
+use Rattle.sched.specs.Chunk.{bodyFits}
+use Rattle.sched.proofs.ChunkLaws.{fits-by}
+use Rattle.copies.specs.Number.{numberFrom}
+use Rattle.receiver.specs.Receiver.{withScheduler, headerIn, byteIn}
 use Rattle.receiver.specs.declared.announcement.Announced.{Announced}
 use Rattle.receiver.specs.declared.announcement.Announced.the-variants as announced
 use Rattle.receiver.specs.declared.answer.Received.{Received}
@@ -26,10 +29,10 @@ use Rattle.receiver.specs.declared.answer.Received.the-variants as recei
 use Rattle.receiver.specs.declared.receiver.ReceiverState.{ReceiverState}
 
 -- a chunk can be handed out
-pub announces-chunk : (a : Announced) (q : ReceiverState) (u : RingBufferScheduler) (fds : ℕ) → a ≡ announced.Chunk u fds → Announces a q → Handing (withScheduler q u) 0
+pub announces-chunk : (a : Announced) (q : ReceiverState) (u : RingBufferScheduler) (fds : ℕ) → a ≡ announced.Chunk u fds → Announces a q → Handing (withScheduler q u)
 announces-chunk (announced.Chunk v f) q u fds e h =
     let same : v ≡ u = cc in
-    record { sound = rw (sym same) (h .0); held = omega arith; counted = h .1 }
+    record { sound = rw (sym same) (h .0); counted = h .1 }
 announces-chunk (announced.Failed f) q u fds e h = let z : _≡_ {A = ℕ} 0 1 = cc in absurd (omega arith)
 
 -- what is announced of a sound scheduler is sound, of its length, and holds data behind the header
@@ -50,8 +53,8 @@ module _ (s : RingBufferScheduler) (h : IsSound s) (fds : ℕ) where
   header-chunked n g =
       by-test s _ _ (eqb (n / 2 ^ 62) 0)
       (λ e. by-test s _ _ (eqb (n % 2 ^ 48) 0) (λ e. tt)
-      (λ z. by-test s _ _ (ltb (spaceIn s - 8) (n % 2 ^ 48)) (λ e. tt)
-      (λ e. (announced s h g (n % 2 ^ 48) (ltb-false _ _ e), refl, some (n % 2 ^ 48) _ z (held s h g (n % 2 ^ 48) (ltb-false _ _ e)), advanced-offset s h 8 Read))))
+      (λ z. by-test s _ _ (bodyFits (spaceIn s) (n % 2 ^ 48))
+      (λ e. (announced s h g (n % 2 ^ 48) (fits-by _ _ e), refl, some (n % 2 ^ 48) _ z (held s h g (n % 2 ^ 48) (fits-by _ _ e)), advanced-offset s h 8 Read)) (λ e. tt)))
       (λ e. tt)
 
   pub byte-chunked : (ring : List ℕ) (b : ℕ) → Chunked s (byteIn ring s b fds)

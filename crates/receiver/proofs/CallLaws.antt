@@ -5,8 +5,7 @@ use Prim.Native.Nat.{ℕ, _+_, _≤_}
 use native.Mathlib.Omega.{arith}
 use lib.Dec.{eqb, leb}
 use borrow.Author.Tests.{eq-eqb, ne-eqb, leb-true}
-use Rattle.sched.specs.Scheduler.{dataIn, advancedIn}
-use Rattle.sched.specs.declared.operation.OperationType.the-variants.{Read}
+use Rattle.sched.specs.Scheduler.{dataIn}
 use Rattle.sched.specs.declared.scheduler.RingBufferScheduler.{RingBufferScheduler}
 use Rattle.receiver.specs.declared.call.Ending.{Ending}
 use Rattle.receiver.specs.declared.call.Phase.{Phase}
@@ -17,7 +16,7 @@ use Rattle.receiver.specs.declared.answer.Sent.{Sent}
 use Rattle.receiver.specs.declared.answer.Sent.the-variants as sent
 use Rattle.receiver.specs.Answer.{sentOf, isSent, isFailed}
 use Rattle.receiver.specs.State.{fitsErrno}
-use Rattle.receiver.specs.Receiver.{batchIn, withScheduler, withPending, handedOut}
+use Rattle.receiver.specs.Receiver.{batchIn, withScheduler, withPending, handedIn}
 use Rattle.receiver.specs.Call.{Covered, readBy, readCall, blockedBy, blockedCall, shutOrFinishBy, shutOrFinish, shutdownBy, shutdownCall, isOver, retriesIn}
 
 module _ (q : ReceiverState) (s : RingBufferScheduler) (e : Ending) where
@@ -41,17 +40,12 @@ module _ (s : RingBufferScheduler) (m : ℕ) (e : m ≡ dataIn s) where
   pub some-data : (m ≡ 0 → ⊥) → eqb (dataIn s) 0 ≡ false
   some-data f = ne-eqb _ _ (λ z. f (e ∙ z))
 
-module _ (q : ReceiverState) (n : ℕ) (u : RingBufferScheduler) (e : u ≡ advancedIn (q .scheduler) Read n) where
-  left-over : dataIn u ≡ dataIn (advancedIn (q .scheduler) Read n)
-  left-over = ap dataIn e
+module _ (q : ReceiverState) (u : RingBufferScheduler) where
+  pub handed-last : dataIn u ≡ 0 → withPending (withScheduler q u) (q .«pending_ack_count» + 1) ≡ handedIn q u
+  handed-last z = rw (eq-eqb _ _ z)
 
-  pub handed-last : dataIn u ≡ 0 → withPending (withScheduler q u) (q .«pending_ack_count» + 1) ≡ handedOut q n
-  handed-last z =
-      ap (λ (x : RingBufferScheduler). withPending (withScheduler q x) (q .«pending_ack_count» + 1)) e
-      ∙ rw (eq-eqb _ _ (sym left-over ∙ z))
-
-  pub handed-on : (dataIn u ≡ 0 → ⊥) → withScheduler q u ≡ handedOut q n
-  handed-on z = ap (withScheduler q) e ∙ rw (ne-eqb _ _ (λ y. z (left-over ∙ y)))
+  pub handed-on : (dataIn u ≡ 0 → ⊥) → withScheduler q u ≡ handedIn q u
+  handed-on z = rw (ne-eqb _ _ z)
 
 -- what was sent is at most the batch
 sent-at-most : (k : Bool) (batch n : ℕ) (a : Answer) →

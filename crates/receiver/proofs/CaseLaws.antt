@@ -19,7 +19,10 @@ use Rattle.receiver.specs.Call.{call, finishedCall, outcomeIn, toldIn, s
 use Rattle.receiver.specs.Cases as cases
 use Rattle.receiver.specs.Cases.{Meets, is-told, is-dropped, none-met, ComesTo, told-so, dropped-to, Closes, is-normal, shut-before, asks, Flushes, none-pending, sends, Serves, failed-before, flushes, Advances, TakesSent, none-went, some-went, send-blocks, send-fails, HandsOut, a-part, all-of-it, Fails, Blocks, goes-on, is-drained, Chunk, Numbered, violation-1, violation-2, violation-3, violation-4, Header, TakesReceived, announces, header-violates, receive-blocks, receive-fails, Reading, BeginsRead, is-terminated, none-asked, awaits, holds-data, Goes}
 use Rattle.receiver.specs.Promise.{Holds, body}
-use Rattle.receiver.specs.Receiver.{readOutcome, failedOutcome, withScheduler, withState, withPending, batchIn, numberFrom, headerIn, announcedIn, byteIn, handedOut}
+use Rattle.sched.specs.Chunk.{bodyFits}
+use Rattle.sched.proofs.ChunkLaws.{fits-by}
+use Rattle.copies.specs.Number.{numberFrom}
+use Rattle.receiver.specs.Receiver.{readOutcome, failedOutcome, withScheduler, withState, withPending, batchIn, headerIn, announcedIn, byteIn, handedOut}
 use Rattle.receiver.specs.State.{violationNumber, failureIn, advanceIn}
 use Rattle.receiver.specs.declared.announcement.Announced.{Announced}
 use Rattle.receiver.specs.declared.announcement.Announced.the-variants as announced
@@ -183,7 +186,7 @@ module _ (s : RingBufferScheduler) (sound : IsSound s) (fds : ℕ) where
   by-test x y false f g = g refl
 
   module _ (empty : dataIn s ≡ 0) where
-    a-chunk : (n : ℕ) → 8 ≤ spaceIn s → n ≤ spaceIn s - 8 → Tells (announced.Chunk (advancedIn (advancedIn (advancedIn s Write 8) Read 8) Write n) fds)
+    a-chunk : (n : ℕ) → 8 ≤ spaceIn s → n + 8 ≤ spaceIn s → Tells (announced.Chunk (advancedIn (advancedIn (advancedIn s Write 8) Read 8) Write n) fds)
     a-chunk n g l =
         let e : dataIn (advancedIn (advancedIn (advancedIn s Write 8) Read 8) Write n) ≡ n = omega (arith, chunk.holds s sound g n l, empty) in (
           refl,
@@ -201,7 +204,7 @@ module _ (s : RingBufferScheduler) (sound : IsSound s) (fds : ℕ) where
     header-tells h g =
         by-test _ _ (eqb (h / 2 ^ 62) 0)
         (λ e. by-test _ _ (eqb (h % 2 ^ 48) 0) (λ e. tt)
-        (λ z. by-test _ _ (ltb (spaceIn s - 8) (h % 2 ^ 48)) (λ e. tt) (λ e. a-chunk (h % 2 ^ 48) g (ltb-false _ _ e))))
+        (λ z. by-test _ _ (bodyFits (spaceIn s) (h % 2 ^ 48)) (λ e. a-chunk (h % 2 ^ 48) g (fits-by _ _ e)) (λ e. tt)))
         (λ e. tt)
 
     announced-tells : (ring : List ℕ) → Tells (announcedIn ring s fds)

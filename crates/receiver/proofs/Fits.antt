@@ -11,7 +11,9 @@ use Rattle.sched.specs.Scheduler.{spaceIn, offsetIn}
 use Rattle.copies.specs.Ring.{get}
 use Rattle.receiver.specs.Answer.{isByte, isClosed, isFailed, isSent, receivedOf, sentOf}
 use Rattle.receiver.specs.State.{fitsErrno, fitsFailure, fitsState, isErrno, normalizeIn, towardsErrorIn, advanceNormal, advanceIn}
-use Rattle.receiver.specs.Receiver.{numberFrom, headerIn, byteIn}
+use Rattle.sched.specs.Chunk.{bodyFits}
+use Rattle.copies.specs.Number.{numberFrom}
+use Rattle.receiver.specs.Receiver.{headerIn, byteIn}
 use Rattle.receiver.specs.declared.announcement.Announced.{Announced}
 use Rattle.receiver.specs.declared.announcement.Announced.the-variants as announced
 use Rattle.receiver.specs.declared.answer.Answer.{Answer}
@@ -76,7 +78,7 @@ either false x y h k = k
 module _ (s : RingBufferScheduler) (fds : ℕ) where
   header-fits : (n : ℕ) → FitsIn (headerIn s fds n)
   header-fits n =
-      either (eqb (n / 2 ^ 62) 0) _ _ (either (eqb (n % 2 ^ 48) 0) _ _ refl (either (ltb (spaceIn s - 8) (n % 2 ^ 48)) _ _ refl tt)) refl
+      either (eqb (n / 2 ^ 62) 0) _ _ (either (eqb (n % 2 ^ 48) 0) _ _ refl (either (bodyFits (spaceIn s) (n % 2 ^ 48)) _ _ tt refl)) refl
 
   pub byte-fits : (ring : List ℕ) (b : ℕ) → FitsIn (byteIn ring s b fds)
   byte-fits ring b =

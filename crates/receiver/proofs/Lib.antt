@@ -1,5 +1,4 @@
 pub mod StateLaws
-pub mod HeaderLaws
 pub mod ChunkLaws
 pub mod SoundLaws
 pub mod CallLaws

@@ -43,9 +43,9 @@ resumed-by c ph e r p = p ∙ ap (λ (x : Phase). resumedBy x c) (sym e)
 pub stepped-by : (c : Call) (ring : List ℕ) (a : Answer) (place : ℕ) (ph : Phase) → c .phase ≡ ph → (r : Step) → r ≡ steppedBy ph c ring a place → r ≡ steppedOf c ring a place
 stepped-by c ring a place ph e r p = p ∙ ap (λ (x : Phase). steppedBy x c ring a place) (sym e)
 
-pub steps-received : (c : Call) (a : Answer) (n top asked : ℕ) → c .phase ≡ phase.Receive top asked → Steps c a n → (x : Received) → x ≡ receivedOf top a → Handing (c .receiver) 0 × ByteSized x n (c .receiver)
+pub steps-received : (c : Call) (a : Answer) (n top asked : ℕ) → c .phase ≡ phase.Receive top asked → Steps c a n → (x : Received) → x ≡ receivedOf top a → Handing (c .receiver) × ByteSized x n (c .receiver)
 steps-received c a n top asked e h x p =
-    subst (λ (y : Received). Handing (c .receiver) 0 × ByteSized y n (c .receiver)) (sym p) (subst (λ (ph : Phase). StepsBy ph (c .receiver) a n) e h)
+    subst (λ (y : Received). Handing (c .receiver) × ByteSized y n (c .receiver)) (sym p) (subst (λ (ph : Phase). StepsBy ph (c .receiver) a n) e h)
 
 -- ---- the call after an answer: of a record that passed its tests, what the rules make of it takes the answer
 module _ (c : Call) (ring : List ℕ) (a : Answer) (place : ℕ) (m : Memory) (looks : m ≡ looksAt (c .phase) a (length ring)) where
@@ -98,7 +98,7 @@ module _ (a : Answer) (n : ℕ) where
         either (eqb asked 0) _ _ (λ e. tt)
         (λ e. either (eqb (q .«pending_ack_count») (2 ^ 64 - 1)) _ _ (λ f. tt)
         (λ f. either (eqb (dataIn (q .scheduler)) 0) _ _
-        (λ z. (record { sound = sound; held = omega arith; counted = below _ counts (eqb-false _ _ f) }, sized))
+        (λ z. (record { sound = sound; counted = below _ counts (eqb-false _ _ f) }, sized))
         (λ z. service-takes _ _ _ (failureIn (handedOut q _ .state)))))
 
     read-takes : (st : OperationalState) → Takes (readBy st q top asked)

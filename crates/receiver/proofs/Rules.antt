@@ -11,10 +11,15 @@ use borrow.Author.Tests.{eqb-true, eqb-false, ltb-true, ltb-false, leb-true, leb
 use Rattle.sched.specs.declared.operation.OperationType.the-variants.{Read, Write}
 use Rattle.sched.specs.declared.scheduler.RingBufferScheduler.{RingBufferScheduler}
 use Rattle.sched.specs.Scheduler.{IsSound, dataIn, spaceIn, offsetIn, advancedIn}
+use Rattle.sched.specs.Chunk.{bodyFits}
+use Rattle.sched.proofs.ChunkLaws.{fits-by, fits-not-by}
+use Rattle.copies.specs.Number.{numberFrom}
+use Rattle.copies.specs.Promises.{numberAt}
 use Rattle.copies.specs.Ring.{get}
+use Rattle.copies.proofs.NumberLaws.{number-at}
 use Rattle.receiver.proofs.ChunkLaws.{holds}
-use Rattle.receiver.specs.Promise.{Reason, end-and-end, end-gives-way, error-and-end, error-stays, normal, blocked-draining, blocked-terminated, Normalized, calmed, drains, ends, Holds, holds-none, draining-holds, terminated-holds, Carries, normal-carries-none, draining-carries, terminated-carries, Advanced, calm-by-calm, calm-by-draining, calm-by-terminated, terminated-stays, draining-stays, draining-by-draining, draining-by-terminated, Batch, all, most, headerAt, Said, body, violates, Announces, no-room-for-a-header, format-unknown, length-0, too-long, accepted}
-use Rattle.receiver.specs.Receiver.{numberFrom, headerIn, announcedIn}
+use Rattle.receiver.specs.Promise.{Reason, end-and-end, end-gives-way, error-and-end, error-stays, normal, blocked-draining, blocked-terminated, Normalized, calmed, drains, ends, Holds, holds-none, draining-holds, terminated-holds, Carries, normal-carries-none, draining-carries, terminated-carries, Advanced, calm-by-calm, calm-by-draining, calm-by-terminated, terminated-stays, draining-stays, draining-by-draining, draining-by-terminated, Batch, all, most, Said, body, violates, Announces, no-room-for-a-header, format-unknown, length-0, too-long, accepted}
+use Rattle.receiver.specs.Receiver.{headerIn, announcedIn}
 use Rattle.receiver.specs.State.{violationNumber, isErrno, failureIn, withFailureIn, normalizeIn, towardsErrorIn, advanceNormal, advanceIn}
 use Rattle.receiver.specs.declared.announcement.Announced.{Announced}
 use Rattle.receiver.specs.declared.announcement.Announced.the-variants as announcement
@@ -91,19 +96,6 @@ batch-rule p z = by (leb 128 p) refl
     by false e = let m : min 128 p ≡ p = omega (arith, leb-false 128 p e) in rw m (all (omega (arith, z)) (omega (arith, leb-false 128 p e)))
 
 -- ---- announcements
--- the eight cells, folded one by one, are the number
-pub header-number : (L : ℕ) (ring : List ℕ) (k : ℕ) → numberFrom 0 (get L ring k 8) ≡ headerAt L ring k
-unfolding numberFrom
-header-number L ring k =
-    let e1 : k + 1 ≡ suc k = omega arith in
-    let e2 : k + 2 ≡ suc (suc k) = omega arith in
-    let e3 : k + 3 ≡ suc (suc (suc k)) = omega arith in
-    let e4 : k + 4 ≡ suc (suc (suc (suc k))) = omega arith in
-    let e5 : k + 5 ≡ suc (suc (suc (suc (suc k)))) = omega arith in
-    let e6 : k + 6 ≡ suc (suc (suc (suc (suc (suc k))))) = omega arith in
-    let e7 : k + 7 ≡ suc (suc (suc (suc (suc (suc (suc k)))))) = omega arith in
-    rw (e1, e2, e3, e4, e5, e6, e7) (omega arith)
-
 abbrev pub saidBy : Announced → Said
 saidBy (announcement.Chunk u fds) = body (dataIn u) fds
 saidBy (announcement.Failed (Protocol v)) = violates (violationNumber v)
@@ -123,22 +115,22 @@ module _ (s : RingBufferScheduler) (sound : IsSound s) (empty : dataIn s ≡ 0) 
   free = omega (arith, empty)
 
   -- the chunk's data is its body
-  chunk-data : (g : 8 ≤ spaceIn s) (n : ℕ) (l : n ≤ spaceIn s - 8) → dataIn (advancedIn (advancedIn (advancedIn s Write 8) Read 8) Write n) ≡ n
+  chunk-data : (g : 8 ≤ spaceIn s) (n : ℕ) (l : n + 8 ≤ spaceIn s) → dataIn (advancedIn (advancedIn (advancedIn s Write 8) Read 8) Write n) ≡ n
   chunk-data g n l = omega (arith, holds s sound g n l, empty)
 
   header-says : (h : ℕ) → 8 ≤ spaceIn s → Announces L h fds (saidBy (headerIn s fds h))
-  header-says h g = by (eqb (h / 2 ^ 62) 0) refl (eqb (h % 2 ^ 48) 0) refl (ltb (spaceIn s - 8) (h % 2 ^ 48)) refl
+  header-says h g = by (eqb (h / 2 ^ 62) 0) refl (eqb (h % 2 ^ 48) 0) refl (bodyFits (spaceIn s) (h % 2 ^ 48)) refl
     where
-      by : (x : Bool) → eqb (h / 2 ^ 62) 0 ≡ x → (y : Bool) → eqb (h % 2 ^ 48) 0 ≡ y → (z : Bool) → ltb (spaceIn s - 8) (h % 2 ^ 48) ≡ z → Announces L h fds (saidBy (headerIn s fds h))
+      by : (x : Bool) → eqb (h / 2 ^ 62) 0 ≡ x → (y : Bool) → eqb (h % 2 ^ 48) 0 ≡ y → (z : Bool) → bodyFits (spaceIn s) (h % 2 ^ 48) ≡ z → Announces L h fds (saidBy (headerIn s fds h))
       by false p y q z r = rw p (format-unknown (omega (arith, free, g)) (no-top-bits h p))
       by true p true q z r = rw (p, q) (length-0 (omega (arith, free, g)) (top-bits h p) (eqb-true _ _ q))
-      by true p false q true r = rw (p, q, r) (too-long (omega (arith, free, g)) (top-bits h p) (omega (arith, eqb-false (h % 2 ^ 48) 0 q)) (omega (arith, free, g, ltb-true (spaceIn s - 8) (h % 2 ^ 48) r)))
-      by true p false q false r =
-          rw (p, q, r, chunk-data g (h % 2 ^ 48) (ltb-false _ _ r))
-          (accepted (top-bits h p) (omega (arith, eqb-false (h % 2 ^ 48) 0 q)) (omega (arith, free, g, ltb-false (spaceIn s - 8) (h % 2 ^ 48) r)))
+      by true p false q false r = rw (p, q, r) (too-long (omega (arith, free, g)) (top-bits h p) (omega (arith, eqb-false (h % 2 ^ 48) 0 q)) (omega (arith, free, fits-not-by (spaceIn s) (h % 2 ^ 48) r)))
+      by true p false q true r =
+          rw (p, q, r, chunk-data g (h % 2 ^ 48) (fits-by (spaceIn s) (h % 2 ^ 48) r))
+          (accepted (top-bits h p) (omega (arith, eqb-false (h % 2 ^ 48) 0 q)) (omega (arith, free, fits-by (spaceIn s) (h % 2 ^ 48) r)))
 
-  pub announcement-says : (ring : List ℕ) → Announces L (headerAt L ring (offsetIn s Read .0)) fds (saidBy (announcedIn ring s fds))
-  announcement-says ring = subst (λ (h : ℕ). Announces L h fds (saidBy (announcedIn ring s fds))) (header-number L ring (offsetIn s Read .0)) (by (ltb (spaceIn s) 8) refl)
+  pub announcement-says : (ring : List ℕ) → Announces L (numberAt L ring (offsetIn s Read .0)) fds (saidBy (announcedIn ring s fds))
+  announcement-says ring = subst (λ (h : ℕ). Announces L h fds (saidBy (announcedIn ring s fds))) (number-at L ring (offsetIn s Read .0)) (by (ltb (spaceIn s) 8) refl)
     where
       by : (x : Bool) → ltb (spaceIn s) 8 ≡ x → Announces L (numberFrom 0 (get L ring (offsetIn s Read .0) 8)) fds (saidBy (announcedIn ring s fds))
       by true p = rw p (no-room-for-a-header (omega (arith, free, ltb-true (spaceIn s) 8 p)))

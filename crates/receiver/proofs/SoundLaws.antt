@@ -1,17 +1,15 @@
 -- What the scheduler answers to a sound record, and that it does not refuse.
-use Prim.Native.Nat.{ℕ, _≤_}
-use mathlib.Core.Path.{_≡_}
+use Prim.Native.Nat.{ℕ, _≤_, min}
+use mathlib.Core.Path.{_≡_, ap, _∙_}
 use native.Mathlib.Omega.{arith}
 use Rattle.sched.proofs.Laws.{sound-is}
-use Rattle.sched.proofs.Promises as promises
 use Rattle.sched.specs.declared.counter.AmountAnswer.the-variants as amount
-use Rattle.sched.specs.declared.counter.Offset.{Offset}
-use Rattle.sched.specs.declared.counter.OffsetAnswer.the-variants as offset
 use Rattle.sched.specs.declared.operation.OperationType.{OperationType}
 use Rattle.sched.specs.declared.refusal.Refusal.{Refusal}
-use Rattle.sched.specs.declared.scheduler.Registered.the-variants as registered
+use Rattle.sched.specs.declared.scheduler.Move.{Move}
+use Rattle.sched.specs.declared.scheduler.MoveAnswer.the-variants as moves
 use Rattle.sched.specs.declared.scheduler.RingBufferScheduler.{RingBufferScheduler}
-use Rattle.sched.specs.Scheduler.{IsSound, greatestIn, greatestOf, offsetIn, offsetAnswerOf, advancedIn, registerOf}
+use Rattle.sched.specs.Scheduler.{IsSound, greatestIn, greatestOf, advancedIn, moveIn, moveOf}
 
 module _ (s : RingBufferScheduler) (h : IsSound s) (t : OperationType) where
   greatest : amount.Of (greatestIn s t) ≡ greatestOf s t
@@ -23,21 +21,16 @@ module _ (s : RingBufferScheduler) (h : IsSound s) (t : OperationType) where
   pub greatest-told : (e : Refusal) → amount.Refused e ≡ greatestOf s t → ⊥
   greatest-told e p = let z : _≡_ {A = ℕ} 0 1 = cc greatest in omega arith
 
-  place : offset.Of (offsetIn s t) ≡ offsetAnswerOf s t
-  place = rw (← sound-is s h)
+  module _ (n : ℕ) where
+    move : moves.Of (moveIn s t n) ≡ moveOf s t n
+    move = rw (← sound-is s h)
 
-  pub place-is : (o : Offset) → offset.Of o ≡ offsetAnswerOf s t → o ≡ offsetIn s t
-  place-is o p = cc place
+    pub move-is : (m : Move) → moves.Of m ≡ moveOf s t n → m ≡ moveIn s t n
+    move-is m p = cc move
 
-  pub place-told : (e : Refusal) → offset.Refused e ≡ offsetAnswerOf s t → ⊥
-  place-told e p = let z : _≡_ {A = ℕ} 0 1 = cc place in omega arith
+    pub move-told : (e : Refusal) → moves.Refused e ≡ moveOf s t n → ⊥
+    move-told e p = let z : _≡_ {A = ℕ} 0 1 = cc move in omega arith
 
-  module _ (n : ℕ) (g : n ≤ greatestIn s t) where
-    registers : registerOf s t n ≡ registered.Advanced (advancedIn s t n)
-    registers = promises.registers s h t n g
-
-    pub registers-is : (u : RingBufferScheduler) → registered.Advanced u ≡ registerOf s t n → u ≡ advancedIn s t n
-    registers-is u p = cc registers
-
-    pub registers-told : (e : Refusal) → registered.Refused e ≡ registerOf s t n → ⊥
-    registers-told e p = let z : _≡_ {A = ℕ} 0 1 = cc registers in omega arith
+  -- a move of no more than there is moves all of it
+  pub moves-all : (n : ℕ) → n ≤ greatestIn s t → (m : Move) → m ≡ moveIn s t n → m .scheduler ≡ advancedIn s t n
+  moves-all n g m p = ap (λ (x : Move). x .scheduler) p ∙ ap (advancedIn s t) (let e : min n (greatestIn s t) ≡ n = omega (arith, g) in e)

@@ -114,11 +114,14 @@ abbrev pub afterShutdown : ReceiverState → RingBufferScheduler → Ending → 
 afterShutdown q s e a place = afterShut (shutOf a) q s e place
 
 -- ---- reading
--- n bytes can be handed out, and an acknowledgement more be pending
-pub record Handing (q : ReceiverState) (n : ℕ) : Type 0 where
+-- an acknowledgement more can be pending
+abbrev pub Counts : ReceiverState → Type 0
+Counts q = q .«pending_ack_count» < 2 ^ 64 - 1
+
+-- bytes can be handed out
+pub record Handing (q : ReceiverState) : Type 0 where
   pub sound : IsSound (q .scheduler)
-  pub held : n ≤ dataIn (q .scheduler)
-  pub counted : q .«pending_ack_count» < 2 ^ 64 - 1
+  pub counted : Counts q
 
 abbrev pub handOutCall : ℕ → ℕ → ReceiverState → Call
 handOutCall asked fds q =
@@ -137,7 +140,7 @@ blockedCall q s = blockedBy (q .state) q s
 
 -- a chunk's scheduler is sound, and an acknowledgement more can be pending
 abbrev pub Announces : Announced → ReceiverState → Type 0
-Announces (announced.Chunk s fds) q = IsSound s × (q .«pending_ack_count» < 2 ^ 64 - 1)
+Announces (announced.Chunk s fds) q = IsSound s × Counts q
 Announces (announced.Failed f) q = Unit {0}
 
 abbrev pub announcedCall : Announced → ℕ → ReceiverState → RingBufferScheduler → Call
@@ -231,7 +234,7 @@ resumedOf c = resumedBy (c .phase) c
 
 -- a receive is answered of a record that passed its tests
 abbrev pub StepsBy : Phase → ReceiverState → Answer → ℕ → Type 0
-StepsBy (phase.Receive top asked) q a n = Handing q 0 × ByteSized (receivedOf top a) n q
+StepsBy (phase.Receive top asked) q a n = Handing q × ByteSized (receivedOf top a) n q
 StepsBy (phase.Send batch e) q a n = Unit {0}
 StepsBy (phase.Shutdown e) q a n = Unit {0}
 StepsBy (phase.Finished o) q a n = Unit {0}

@@ -9,7 +9,8 @@ use Rattle.sched.specs.declared.operation.OperationType.the-variants.{Read}
 use Rattle.sched.specs.declared.scheduler.RingBufferScheduler.{RingBufferScheduler}
 use Rattle.sched.specs.Promise.{ReadBy, WrittenBy}
 use Rattle.sched.specs.Scheduler.{dataIn, offsetIn}
-use Rattle.receiver.specs.Promise.{AByte, SaysReceived, SaysSent, SaysShut, Advanced, Holds, Batch, headerAt, Said, body, violates, Announces}
+use Rattle.copies.specs.Promises.{numberAt}
+use Rattle.receiver.specs.Promise.{AByte, SaysReceived, SaysSent, SaysShut, Advanced, Holds, Batch, Said, body, violates, Announces}
 use Rattle.receiver.specs.declared.admission.Memory.{Memory}
 use Rattle.receiver.specs.declared.admission.Memory.the-variants as memory
 use Rattle.receiver.specs.declared.answer.Answer.{Answer}
@@ -138,7 +139,7 @@ pub data Numbered : Violation → ℕ → Type 0 where
 module _ (q : ReceiverState) (s : RingBufferScheduler) (ring : List ℕ) (asked : ℕ) where
   -- the number in the eight cells from the read offset on, in the ring of this length
   abbrev pub Header : ℕ → Said → Type 0
-  Header fds = Announces (q .scheduler .«buf_len») (headerAt (q .scheduler .«buf_len») ring (offsetIn (q .scheduler) Read .0)) fds
+  Header fds = Announces (q .scheduler .«buf_len») (numberAt (q .scheduler .«buf_len») ring (offsetIn (q .scheduler) Read .0)) fds
 
   -- the byte must be 0, and the header announces a body
   pub data TakesReceived : Received → Call → Type 0 where

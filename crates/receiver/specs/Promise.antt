@@ -4,7 +4,6 @@ use Prim.Native.Nat.{ℕ, _+_, _*_, _%_, _^_, _<_, _≤_}
 use mathlib.Core.Path.{_≡_}
 use mathlib.Core.Logic.{_≢_}
 use mathlib.Core.List.{List}
-use lib.ListN.{getD}
 use Rattle.receiver.specs.declared.answer.Answer.{Answer}
 use Rattle.receiver.specs.declared.answer.Received.{Received}
 use Rattle.receiver.specs.declared.answer.Received.the-variants as received
@@ -104,16 +103,6 @@ pub data Batch (pending : ℕ) : ℕ → Type 0 where
   most : 128 ≤ pending → Batch pending 128
 
 -- ---- an announcement: what the header's number says in a ring of L bytes that holds no data
--- the cell k of a ring of length L
-abbrev pub cell : ℕ → List ℕ → ℕ → ℕ
-cell L ring k = getD ring (k % L) 0
-
--- the number in the eight cells from k on, most significant first
-abbrev pub headerAt : ℕ → List ℕ → ℕ → ℕ
-headerAt L ring k =
-    cell L ring k * 2 ^ 56 + cell L ring (k + 1) * 2 ^ 48 + cell L ring (k + 2) * 2 ^ 40 + cell L ring (k + 3) * 2 ^ 32
-    + cell L ring (k + 4) * 2 ^ 24 + cell L ring (k + 5) * 2 ^ 16 + cell L ring (k + 6) * 2 ^ 8 + cell L ring (k + 7)
-
 -- a body of so many bytes that comes with so many descriptors, or a violation by its number
 pub data Said : Type 0 where
   body : ℕ → ℕ → Said

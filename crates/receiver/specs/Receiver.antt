@@ -7,8 +7,10 @@ use Rattle.sched.specs.declared.operation.OperationType.the-variants.{Read, Wri
 use Rattle.sched.specs.declared.scheduler.Checked.{Checked}
 use Rattle.sched.specs.declared.scheduler.Checked.the-variants as checked
 use Rattle.sched.specs.declared.scheduler.RingBufferScheduler.{RingBufferScheduler}
+use Rattle.sched.specs.Chunk.{bodyFits}
 use Rattle.sched.specs.Scheduler.{soundOf, dataIn, spaceIn, offsetIn, advancedIn}
 use Rattle.copies.specs.declared.Refusal.the-variants.{Scheduler}
+use Rattle.copies.specs.Number.{numberFrom}
 use Rattle.copies.specs.Ring.{get}
 use Rattle.receiver.specs.declared.announcement.Announced.{Announced}
 use Rattle.receiver.specs.declared.announcement.Announced.the-variants as announced
@@ -75,19 +77,14 @@ bySent (sent.Failed e) done failed misfit = failed e
 bySent sent.Misfit done failed misfit = misfit
 
 -- ---- an announcement
--- a number, most significant byte first
-unfoldable pub numberFrom : ℕ → List ℕ → ℕ
-numberFrom n [] = n
-numberFrom n (b ∷ bs) = numberFrom (n * 256 + b) bs
-
 -- The header: 2 bits format, must be 0; 14 bits strip tag; 48 bits length, not 0. Header and body are registered as written, the
 -- header is read; 8 bytes stay free behind the body. A violation leaves the scheduler as it was before the announcement.
 abbrev pub headerIn : RingBufferScheduler → ℕ → ℕ → Announced
 headerIn s fds h =
     cond (eqb (h / 2 ^ 62) 0)
     (cond (eqb (h % 2 ^ 48) 0) (announced.Failed (Protocol InvalidChunkLength))
-    (cond (ltb (spaceIn s - 8) (h % 2 ^ 48)) (announced.Failed (Protocol ControlOverflow))
-    (announced.Chunk (advancedIn (advancedIn (advancedIn s Write 8) Read 8) Write (h % 2 ^ 48)) fds)))
+    (cond (bodyFits (spaceIn s) (h % 2 ^ 48)) (announced.Chunk (advancedIn (advancedIn (advancedIn s Write 8) Read 8) Write (h % 2 ^ 48)) fds)
+    (announced.Failed (Protocol ControlOverflow))))
     (announced.Failed (Protocol UnknownHeader))
 
 abbrev pub announcedIn : List ℕ → RingBufferScheduler → ℕ → Announced
@@ -101,8 +98,8 @@ byteIn ring s b fds = cond (eqb b 0) (announcedIn ring s fds) (announced.Failed 
 
 -- ---- a read
 -- bytes are handed out; if no data is left, pending rises by 1
+abbrev pub handedIn : ReceiverState → RingBufferScheduler → ReceiverState
+handedIn q u = cond (eqb (dataIn u) 0) (withPending (withScheduler q u) (q .«pending_ack_count» + 1)) (withScheduler q u)
+
 abbrev pub handedOut : ReceiverState → ℕ → ReceiverState
-handedOut q n =
-    cond (eqb (dataIn (advancedIn (q .scheduler) Read n)) 0)
-    (withPending (withScheduler q (advancedIn (q .scheduler) Read n)) (q .«pending_ack_count» + 1))
-    (withScheduler q (advancedIn (q .scheduler) Read n))
+handedOut q n = handedIn q (advancedIn (q .scheduler) Read n)

@@ -4,8 +4,8 @@ ghost use mathlib.Core.Path.{_≡_};
 ghost use Prim.Native.Nat.{min};
 ghost use lib.ListN.{length};
 ghost use Rattle.sched.specs.Scheduler.{IsSound};
-ghost use Rattle.receiver.specs.Receiver.{withScheduler, withState, withPending, withShutdown, handedOut};
-ghost use Rattle.receiver.specs.Call.{finishedCall, outcomeIn, toldIn, shutOrFinish, shutdownCall, advanceCall, flushCall, serviceCall, drainCall, Covered, sentCall, unsentCall, afterSend, afterShutdown, Handing, Announces, handOutCall, failedCall, blockedCall, announcedCall, afterReceive, liveCall, readCall, beginReadOf, beginServiceOf, beginShutdownOf, looksBy, looksAt, resumedOf, ByteSized, Steps, steppedOf, answeredOf, overOf, retriesOf};
+ghost use Rattle.receiver.specs.Receiver.{withScheduler, withState, withPending, withShutdown, handedIn};
+ghost use Rattle.receiver.specs.Call.{finishedCall, outcomeIn, toldIn, shutOrFinish, shutdownCall, advanceCall, flushCall, serviceCall, drainCall, Covered, Counts, sentCall, unsentCall, afterSend, afterShutdown, Handing, Announces, handOutCall, failedCall, blockedCall, announcedCall, afterReceive, liveCall, readCall, beginReadOf, beginServiceOf, beginShutdownOf, looksBy, looksAt, resumedOf, ByteSized, Steps, steppedOf, answeredOf, overOf, retriesOf};
 use crate::admission::Admission;
 use crate::admission::Memory;
 use crate::admission::admit;
@@ -19,7 +19,7 @@ use crate::receiver::Outcome;
 use crate::receiver::ReceiverState;
 use crate::refusal::Refusal;
 use crate::sound::max_operation_len;
-use crate::sound::register;
+use crate::sound::moved;
 use crate::state::Failure;
 use crate::state::OperationalState;
 use crate::state::PotentialFailure;
@@ -300,12 +300,10 @@ fn after_shutdown(
 }
 
 // A chunk that is read to its end is acknowledged.
-fn handed_out(q: ReceiverState, n: u64) -> ReceiverState
-    requires { ⌜ Handing q n ⌝ }
-    ensures { λ r. ⌜ r ≡ handedOut q n ⌝ }
+fn handed_out(q: ReceiverState, scheduler: RingBufferScheduler) -> ReceiverState
+    requires { ⌜ IsSound scheduler × Counts q ⌝ }
+    ensures { λ r. ⌜ r ≡ handedIn q scheduler ⌝ }
 {
-    let source = q.scheduler;
-    let scheduler = register(source, OperationType::Read, n);
     let after = with_scheduler(q, scheduler);
     if max_operation_len(scheduler, OperationType::Read) == 0 {
         return with_pending(after, q.pending_ack_count + 1);
@@ -316,13 +314,15 @@ fn handed_out(q: ReceiverState, n: u64) -> ReceiverState
 // The bytes themselves are copied by `source`: over a run of answers once the call is over, by a host with a real socket before its
 // first send, because an acknowledgement allows the other process to overwrite them.
 fn read_chunk_bytes(receiver: ReceiverState, asked: u64, fds: u64) -> Call
-    requires { ⌜ Handing receiver 0 ⌝ }
+    requires { ⌜ Handing receiver ⌝ }
     ensures { λ r. ⌜ r ≡ handOutCall asked fds receiver ⌝ }
 {
     let source = receiver.scheduler;
-    let n = least(asked, max_operation_len(source, OperationType::Read));
+    let m = moved(source, OperationType::Read, asked);
+    let scheduler = m.scheduler;
+    let n = m.len;
     service(
-        handed_out(receiver, n),
+        handed_out(receiver, scheduler),
         source,
         Ending::Dropped(Outcome::read(n, fds)),
     )
@@ -396,7 +396,7 @@ fn after_receive(
     asked: u64,
     place: u64,
 ) -> Step
-    requires { ⌜ Handing receiver 0 × ByteSized received (length (now ring)) receiver ⌝ }
+    requires { ⌜ Handing receiver × ByteSized received (length (now ring)) receiver ⌝ }
     ensures { λ r. ⌜ r ≡ afterReceive receiver source (now (ring .entry)) received asked place ⌝ }
 {
     let scheduler = receiver.scheduler;

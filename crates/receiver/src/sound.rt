@@ -1,12 +1,12 @@
-// The scheduler's calls on a record that is known sound: none is refused.
+// The scheduler's questions of a record that is known sound: none is refused.
 ghost use mathlib.Core.Path.{_≡_};
 ghost use Prim.Native.Nat.{_≤_};
-ghost use Rattle.sched.specs.Scheduler.{IsSound, greatestIn, offsetIn, advancedIn};
+ghost use Rattle.sched.specs.Scheduler.{IsSound, greatestIn, offsetIn, advancedIn, moveIn};
 use sched::AmountAnswer;
+use sched::Move;
+use sched::MoveAnswer;
 use sched::Offset;
-use sched::OffsetAnswer;
 use sched::OperationType;
-use sched::Registered;
 use sched::RingBufferScheduler;
 
 pub(crate) fn max_operation_len(s: RingBufferScheduler, op: OperationType) -> u64
@@ -19,22 +19,33 @@ pub(crate) fn max_operation_len(s: RingBufferScheduler, op: OperationType) -> u6
     }
 }
 
+// Where, how many, and the scheduler after.
+pub(crate) fn moved(s: RingBufferScheduler, op: OperationType, max_len: u64) -> Move
+    requires { ⌜ IsSound s ⌝ }
+    ensures { λ r. ⌜ r ≡ moveIn s op «max_len» ⌝ }
+{
+    match s.schedule_and_register(op, max_len) {
+        MoveAnswer::Of(m) => m,
+        MoveAnswer::Refused(_) => Move {
+            off: Offset(0),
+            len: 0,
+            scheduler: s,
+        },
+    }
+}
+
 pub(crate) fn read_off(s: RingBufferScheduler) -> Offset
     requires { ⌜ IsSound s ⌝ }
     ensures { λ r. ⌜ r ≡ offsetIn s OperationType.Read ⌝ }
 {
-    match s.read_off() {
-        OffsetAnswer::Of(off) => off,
-        OffsetAnswer::Refused(_) => Offset(0),
-    }
+    let m = moved(s, OperationType::Read, 0);
+    m.off
 }
 
 pub(crate) fn register(s: RingBufferScheduler, op: OperationType, n: u64) -> RingBufferScheduler
     requires { ⌜ IsSound s × (n ≤ greatestIn s op) ⌝ }
     ensures { λ r. ⌜ r ≡ advancedIn s op n ⌝ }
 {
-    match s.try_register_operation_manually(op, n) {
-        Registered::Advanced(scheduler) => scheduler,
-        Registered::Refused(_) => s,
-    }
+    let m = moved(s, op, n);
+    m.scheduler
 }

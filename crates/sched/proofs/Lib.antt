@@ -1,4 +1,5 @@
 pub mod Laws
+pub mod ChunkLaws
 pub mod Promises
 pub mod Says
 pub mod Given

@@ -1,8 +1,8 @@
 -- Of each call that asks something of a sound record: every outcome that its attached contract allows is what `Parts` of specs/
 -- says, in other words than the definitions.
-use Prim.Native.Nat.{ℕ}
+use Prim.Native.Nat.{ℕ, _+_, _≤_}
 use mathlib.Core.Path.{_≡_, refl, sym, ap, _∙_}
-use mathlib.Core.Bool.{Bool, false}
+use mathlib.Core.Bool.{Bool, true, false}
 use lib.Dec.{eqb, ltb}
 use borrow.Author.Tests.{ne-eqb}
 use native.Mathlib.Omega.{arith}
@@ -31,7 +31,10 @@ use Rattle.sched.specs.Parts.{CounterOf, OffsetOf, FillOf, None, Some, L
 use Rattle.sched.specs.Scheduler.{IsSound, soundOf, dataIn, spaceIn, counterIn, offsetIn, fillStateIn, layoutIn, blocksIn, nextBlockIn, bufLenFrom, counterFrom, offsetFrom, offsetAnswerOf, greatestFrom, isZeroFrom, isPositiveFrom, fillStateFrom, layoutFrom, blocksFrom, block0From, block1From, block2From, offFrom, lenFrom, nextBlockFrom}
 use Rattle.sched.proofs.Laws.{sound-is, sound-both}
 use Rattle.sched.proofs.Parts.{counter-is, offset-is, none-is, some-is, fill-is, layout-is, blocks-are, next-block-is}
-use Rattle.sched.proofs.Says.{buf-len-says, is-zero-sized-says, items-read-says, items-written-says, operation-counter-says, read-off-says, write-off-says, operation-offset-says, fill-state-says, is-empty-says, is-full-says, is-nonempty-says, is-nonfull-says, layout-says, blocks-says, block-0-says, block-1-says, block-2-says, block-0-off-says, block-1-off-says, block-2-off-says, block-0-len-says, block-1-len-says, block-2-len-says, next-operation-block-says, next-read-block-says, next-write-block-says}
+use Rattle.sched.proofs.ChunkLaws.{fits, fits-by}
+use Rattle.sched.proofs.chunk.body_fits.Kinds as body-fits-kinds
+use Rattle.sched.proofs.chunk.body_fits.Reads as body-fits
+use Rattle.sched.proofs.Says.{body-fits-says, buf-len-says, is-zero-sized-says, items-read-says, items-written-says, operation-counter-says, read-off-says, write-off-says, operation-offset-says, fill-state-says, is-empty-says, is-full-says, is-nonempty-says, is-nonfull-says, layout-says, blocks-says, block-0-says, block-1-says, block-2-says, block-0-off-says, block-1-off-says, block-2-off-says, block-0-len-says, block-1-len-says, block-2-len-says, next-operation-block-says, next-read-block-says, next-write-block-says}
 use Rattle.sched.proofs.scheduler.RingBufferScheduler.buf_len.Kinds as buf-len-kinds
 use Rattle.sched.proofs.scheduler.RingBufferScheduler.buf_len.Reads as buf-len
 use Rattle.sched.proofs.scheduler.RingBufferScheduler.is_zero_sized.Kinds as is-zero-sized-kinds
@@ -194,3 +197,9 @@ next-read-block-promised κs a z q h = (nextBlockIn (a .0) Read, next-read-block
 
 pub next-write-block-promised : Keeps 0 next-write-block-kinds.ps next-write-block-kinds.r next-write-block.Learnt (λ κs a z. IsSound (a .0) → (b : Block) × (z ≡ block-answer.Of b) × NextBlockOf (a .0) Write b)
 next-write-block-promised κs a z q h = (nextBlockIn (a .0) Write, next-write-block-says κs a z (q .0) (q .1) ∙ ap (nextBlockFrom Write) (sym (sound-is (a .0) h)), next-block-is (a .0) h Write)
+
+-- ---- the bound of a body: true exactly when it fits with its header
+pub body-fits-promised : Keeps 0 body-fits-kinds.ps body-fits-kinds.r body-fits.Learnt (λ κs a z. (z ≡ true → a .1 .0 + 8 ≤ a .0) × (a .1 .0 + 8 ≤ a .0 → z ≡ true))
+body-fits-promised κs a z q =
+    let p = body-fits-says κs a z (q .0) (q .1) in
+    ((λ e. fits-by (a .0) (a .1 .0) (sym p ∙ e)), (λ h. p ∙ fits (a .0) (a .1 .0) h))

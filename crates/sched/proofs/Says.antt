@@ -120,6 +120,9 @@ use Rattle.sched.proofs.list.ScheduledOperations.with_outside_buffer_ra
 use Rattle.sched.proofs.list.ScheduledOperations.with_outside_buffer_range.Reads as with-outside-buffer-range
 use Rattle.sched.proofs.diff.Diff.new.Kinds as Diff-new-kinds
 use Rattle.sched.proofs.diff.Diff.new.Reads as Diff-new
+use Rattle.sched.specs.Chunk.{bodyFits}
+use Rattle.sched.proofs.chunk.body_fits.Kinds as body-fits-kinds
+use Rattle.sched.proofs.chunk.body_fits.Reads as body-fits
 use Rattle.sched.proofs.diff.Diff.is_same.Kinds as is-same-kinds
 use Rattle.sched.proofs.diff.Diff.is_same.Reads as is-same
 use Rattle.sched.proofs.diff.Diff.is_different.Kinds as is-different-kinds
@@ -352,3 +355,7 @@ three-says κs a z ws p = p
 -- ---- so each contract decides the outcome: any two that it allows are equal. Here for one of them
 schedule-reads-decided : Decides 0 schedule-reads-kinds.ps schedule-reads-kinds.r schedule-reads.Learnt
 schedule-reads-decided = says-decides 0 schedule-reads-kinds.ps schedule-reads-kinds.r schedule-reads.Learnt _ (λ κs a ws ws′. refl) schedule-reads-says
+
+-- ---- the bound of a body
+pub body-fits-says : Says 0 body-fits-kinds.ps body-fits-kinds.r body-fits.Learnt (λ κs a. bodyFits (a .0) (a .1 .0))
+body-fits-says κs a z ws p = p

@@ -1,5 +1,6 @@
 // The scheduler of a ring buffer: the port of rosenpass's sched.rs. It moves no bytes; it says which may be moved, and counts them.
 mod block;
+mod chunk;
 mod counter;
 mod diff;
 mod list;
@@ -18,6 +19,7 @@ pub use block::BufferFillState;
 pub use block::BufferLayout;
 pub use block::FillStateAnswer;
 pub use block::LayoutAnswer;
+pub use chunk::body_fits;
 pub use counter::AmountAnswer;
 pub use counter::BoolAnswer;
 pub use counter::Counter;

@@ -1,7 +1,6 @@
 -- Each registering fits: the header is read as soon as it is written, and the body leaves 8 bytes free.
-use native.Mathlib.Omega.{arith}
 use borrow.Author.Tests.{eq-eqb, ne-eqb}
-use Rattle.receiver.proofs.ChunkLaws.{written, readable, read, room, over, within}
+use Rattle.receiver.proofs.ChunkLaws.{written, readable, read, room, over, within, fitted}
 use borrow.Author.Needs.{needs}
 use Rattle.receiver.proofs.announcement.write_chunk.Statement.{statement}
 use Rattle.receiver.proofs.announcement.write_chunk.Tie as tie
@@ -15,23 +14,26 @@ returns-2 c = rw (eq-eqb _ _ (c .before .if1 .left), eq-eqb _ _ (c .if2 .taken))
 max-operation-len-requires : tie.Need-max-operation-len-requires
 max-operation-len-requires c κs = search needs
 
-sub-if3 : tie.Need-sub-if3
-sub-if3 c = search needs
-
-returns-3 : tie.Need-returns-3
-returns-3 c = rw (eq-eqb _ _ (c .before .before .before .if1 .left), ne-eqb _ _ (c .before .before .if2 .left), over _ _ (c .before .max-operation-len .ensures) _ (c .if3 .taken))
+body-fits-requires : tie.Need-body-fits-requires
+body-fits-requires c κs = search needs
 
 register-requires : tie.Need-register-requires
-register-requires c κs = (c .before .before .before .before .pre .0, c .before .before .before .before .pre .1)
+register-requires c κs = (c .before .before .before .before .before .pre .0, c .before .before .before .before .before .pre .1)
 
 register-requires-2 : tie.Need-register-requires-2
-register-requires-2 c κs = rw (c .register .ensures) (written (c .before .before .before .before .before .args .s) (c .before .before .before .before .before .pre .0) (c .before .before .before .before .before .pre .1), readable (c .before .before .before .before .before .args .s) (c .before .before .before .before .before .pre .0) (c .before .before .before .before .before .pre .1))
+register-requires-2 c κs = let s = c .before .before .before .before .before .before .args .s in let p = c .before .before .before .before .before .before .pre in rw (c .register .ensures) (written s (p .0) (p .1), readable s (p .0) (p .1))
 
 register-requires-3 : tie.Need-register-requires-3
-register-requires-3 c κs = rw (c .register2 .ensures, c .before .register .ensures) (read (c .before .before .before .before .before .before .args .s) (c .before .before .before .before .before .before .pre .0) (c .before .before .before .before .before .before .pre .1), room (c .before .before .before .before .before .before .args .s) (c .before .before .before .before .before .before .pre .0) (c .before .before .before .before .before .before .pre .1) _ (omega (arith, c .before .before .if3 .left, c .before .before .before .max-operation-len .ensures)))
+register-requires-3 c κs =
+    let s = c .before .before .before .before .before .before .before .args .s in
+    let p = c .before .before .before .before .before .before .before .pre in
+    rw (c .register2 .ensures, c .before .register .ensures) (read s (p .0) (p .1), room s (p .0) (p .1) _ (fitted _ _ (c .before .before .before .before .max-operation-len .ensures) _ _ (c .before .before .before .body-fits .ensures) (c .before .before .if3 .taken)))
+
+returns-3 : tie.Need-returns-3
+returns-3 c = rw (eq-eqb _ _ (c .before .before .before .before .before .before .before .if1 .left), ne-eqb _ _ (c .before .before .before .before .before .before .if2 .left), within _ _ (c .before .before .before .before .before .max-operation-len .ensures) _ _ (c .before .before .before .before .body-fits .ensures) (c .before .before .before .if3 .taken), c .register3 .ensures, c .before .register2 .ensures, c .before .before .register .ensures)
 
 returns-4 : tie.Need-returns-4
-returns-4 c = rw (eq-eqb _ _ (c .before .before .before .before .before .before .if1 .left), ne-eqb _ _ (c .before .before .before .before .before .if2 .left), within _ _ (c .before .before .before .before .max-operation-len .ensures) _ (c .before .before .before .if3 .left), c .register3 .ensures, c .before .register2 .ensures, c .before .before .register .ensures)
+returns-4 c = rw (eq-eqb _ _ (c .before .before .before .before .if1 .left), ne-eqb _ _ (c .before .before .before .if2 .left), over _ _ (c .before .before .max-operation-len .ensures) _ _ (c .before .body-fits .ensures) (c .if3 .left))
 
 pub write-chunk-spec : {M : Type 1} → statement M
 write-chunk-spec =
@@ -40,9 +42,9 @@ write-chunk-spec =
     returns
     returns-2
     max-operation-len-requires
-    sub-if3
-    returns-3
+    body-fits-requires
     register-requires
     register-requires-2
     register-requires-3
+    returns-3
     returns-4)

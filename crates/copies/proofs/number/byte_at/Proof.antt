@@ -2,8 +2,8 @@
 use mathlib.Core.Path.{refl}
 use native.Mathlib.Omega.{arith}
 use borrow.Author.Needs.{needs}
-use Rattle.receiver.proofs.announcement.byte_at.Statement.{statement}
-use Rattle.receiver.proofs.announcement.byte_at.Tie as tie
+use Rattle.copies.proofs.number.byte_at.Statement.{statement}
+use Rattle.copies.proofs.number.byte_at.Tie as tie
 
 shared-slice-read-result : tie.Need-shared-slice-read-result
 shared-slice-read-result c = search needs

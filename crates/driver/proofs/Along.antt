@@ -9,7 +9,7 @@ use Rattle.receiver.proofs.HandedSum.{MadeBy, answered-made, waited-out}
 use Rattle.receiver.proofs.Made.{Made}
 use Rattle.receiver.specs.Call.{overOf, answeredOf}
 use Rattle.receiver.specs.Handed.{sentBy}
-use Rattle.receiver.specs.declared.answer.Answer.{Answer}
+use Rattle.states.specs.declared.answer.Answer.{Answer}
 use Rattle.receiver.specs.declared.call.Call.{Call}
 use Rattle.receiver.specs.declared.call.Step.{Step}
 use Rattle.receiver.specs.declared.call.Step.the-variants.{Of, Refused}

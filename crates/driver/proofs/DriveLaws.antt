@@ -5,7 +5,7 @@ use mathlib.Core.Bool.{Bool}
 use mathlib.Core.List.{List}
 use Rattle.sched.specs.declared.scheduler.RingBufferScheduler.{RingBufferScheduler}
 use Rattle.driver.specs.Drive.{retriesIn, answeredIn, endedBy, endedIn, endedFor, Delivery, delivery, deliveredFor, deliveredBy, deliveryFor, endOfStreamBy, endOfStreamFor, endOfStreamIn}
-use Rattle.receiver.specs.declared.answer.Answer.{Answer}
+use Rattle.states.specs.declared.answer.Answer.{Answer}
 use Rattle.receiver.specs.declared.call.Phase.{Phase}
 use Rattle.receiver.specs.declared.call.Step.{Step}
 use Rattle.receiver.specs.declared.call.Step.the-variants.{Of}
@@ -15,7 +15,7 @@ use Rattle.receiver.specs.declared.receiver.Ended.the-variants.{Accepted, Refus
 use Rattle.receiver.specs.declared.receiver.Came.{Came}
 use Rattle.receiver.specs.declared.receiver.Outcome.{Outcome}
 use Rattle.receiver.specs.declared.receiver.ReceiverState.{ReceiverState}
-use Rattle.receiver.specs.declared.refusal.Refusal.{Refusal}
+use Rattle.states.specs.declared.refusal.Refusal.{Refusal}
 
 pub ended-by : (c : Call) (i : ℕ) (ph : Phase) → c .phase ≡ ph → (r : Ended) → r ≡ endedBy ph c i → r ≡ endedIn c i
 ended-by c i ph e r p = p ∙ ap (λ (x : Phase). endedBy x c i) (sym e)

@@ -27,8 +27,8 @@ use Rattle.receiver.specs.Call.{overOf, answeredOf, beginReadOf, beginServiceOf
 use Rattle.receiver.specs.Cases.{BeginsRead, Takes, Goes}
 use Rattle.receiver.specs.Handed.{sentBy, comingTo}
 use Rattle.receiver.specs.Receiver.{readOutcome}
-use Rattle.receiver.specs.State.{isErrno}
-use Rattle.receiver.specs.declared.answer.Answer.{Answer}
+use Rattle.states.specs.State.{isErrno}
+use Rattle.states.specs.declared.answer.Answer.{Answer}
 use Rattle.receiver.specs.declared.call.Call.{Call}
 use Rattle.receiver.specs.declared.call.Phase.{Phase}
 use Rattle.receiver.specs.declared.call.Phase.the-variants as phase
@@ -40,8 +40,8 @@ use Rattle.receiver.specs.declared.receiver.Came.{Came}
 use Rattle.receiver.specs.declared.receiver.Came.the-variants as came
 use Rattle.receiver.specs.declared.receiver.Outcome.{Outcome}
 use Rattle.receiver.specs.declared.receiver.ReceiverState.{ReceiverState}
-use Rattle.receiver.specs.declared.state.Failure.{Failure}
-use Rattle.receiver.specs.declared.state.Failure.the-variants.{Io, Protocol}
+use Rattle.states.specs.declared.state.Failure.{Failure}
+use Rattle.states.specs.declared.state.Failure.the-variants.{Io, Protocol}
 use Rattle.driver.specs.Drive.{drivenOf, endedBy, endedOf, Delivery, delivery, deliveredFor, deliveredBy, deliveryFor, deliveryOf, endOfStreamBy, endOfStreamFor, endOfStreamIn}
 use Rattle.driver.specs.Pending.{sentIn}
 use Rattle.driver.specs.Promise.{Uses, Begins, at-data, behind-header, FillsBy, Fills, TurnedTo, ended-stream, stays, Turned, accepted, same-refusal}

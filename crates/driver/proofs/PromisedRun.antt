@@ -11,7 +11,7 @@ use Rattle.receiver.proofs.PromisedMachine.{Answers, answers-are}
 use Rattle.receiver.proofs.Says.{begin-service-says, begin-shutdown-says, begin-read-says}
 use Rattle.receiver.specs.Call.{isOver, overOf, retriesOf, answeredOf, beginReadOf, beginServiceOf, beginShutdownOf}
 use Rattle.receiver.specs.Handed.{Handed}
-use Rattle.receiver.specs.declared.answer.Answer.{Answer}
+use Rattle.states.specs.declared.answer.Answer.{Answer}
 use Rattle.receiver.specs.declared.call.Call.{Call}
 use Rattle.receiver.specs.declared.call.Phase.{Phase}
 use Rattle.receiver.specs.declared.call.Phase.the-variants as phase
@@ -20,7 +20,7 @@ use Rattle.receiver.specs.declared.call.Step.the-variants.{Of, Refused}
 use Rattle.receiver.specs.declared.receiver.Ended.{Ended}
 use Rattle.receiver.specs.declared.receiver.Ended.the-variants as ended
 use Rattle.receiver.specs.declared.receiver.ReceiverState.{ReceiverState}
-use Rattle.receiver.specs.declared.refusal.Refusal.the-variants.{AnswerMissing}
+use Rattle.states.specs.declared.refusal.Refusal.the-variants.{AnswerMissing}
 use Rattle.driver.specs.Drive.{driven, drivenFrom, drivenOf, endedBy, endedOf}
 use Rattle.driver.specs.Pending.{Asked, reads, readsImpl, services, shuts}
 use Rattle.driver.specs.Promise.{Turned, toldBy, stepsTo, MayLeave, MayBegin, Stepped}

@@ -14,8 +14,8 @@ use Rattle.receiver.specs.Call.{overOf, answeredOf, beginReadOf, beginServiceOf
 use Rattle.receiver.specs.Cases.{BeginsRead, BeginsService, BeginsShutdown, Takes, Goes}
 use Rattle.receiver.specs.Handed.{sentBy, wholeBy, wholeIn, comingTo}
 use Rattle.receiver.specs.Receiver.{readOutcome}
-use Rattle.receiver.specs.State.{isErrno}
-use Rattle.receiver.specs.declared.answer.Answer.{Answer}
+use Rattle.states.specs.State.{isErrno}
+use Rattle.states.specs.declared.answer.Answer.{Answer}
 use Rattle.receiver.specs.declared.call.Call.{Call}
 use Rattle.receiver.specs.declared.call.Phase.{Phase}
 use Rattle.receiver.specs.declared.call.Phase.the-variants as phase

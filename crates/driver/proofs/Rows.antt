@@ -8,23 +8,23 @@ use Rattle.modular.specs.Modulus.{subMod, addMod}
 use Rattle.sched.specs.declared.scheduler.RingBufferScheduler.{RingBufferScheduler}
 use Rattle.sched.specs.Scheduler.{schedulerOf, soundOf}
 use Rattle.copies.specs.Copies.{readyFrom}
-use Rattle.receiver.specs.declared.answer.Answer.{Answer}
+use Rattle.states.specs.declared.answer.Answer.{Answer}
 use Rattle.receiver.specs.declared.receiver.Ended.{Ended}
 use Rattle.receiver.specs.declared.receiver.Ended.the-variants.{Accepted, Refused}
-use Rattle.receiver.specs.declared.refusal.Refusal.the-variants.{AnswerMissing, Misfit, PendingFull}
-use Rattle.receiver.specs.declared.state.Failure.the-variants.{Io, Protocol}
-use Rattle.receiver.specs.declared.state.OperationalState.{OperationalState}
-use Rattle.receiver.specs.declared.state.OperationalState.the-variants.{Normal, Draining, Terminated}
-use Rattle.receiver.specs.declared.state.Violation.the-variants.{InvalidChunkAnnouncement, ControlOverflow, UnknownHeader, InvalidChunkLength}
-use Rattle.receiver.specs.State.{fitsErrno, normalizeIn, towardsErrorIn}
-use Rattle.receiver.specs.Answer.{interruptedOf, receivedOf, sentOf, shutOf}
+use Rattle.states.specs.declared.refusal.Refusal.the-variants.{AnswerMissing, Misfit, PendingFull}
+use Rattle.states.specs.declared.state.Failure.the-variants.{Io, Protocol}
+use Rattle.states.specs.declared.state.OperationalState.{OperationalState}
+use Rattle.states.specs.declared.state.OperationalState.the-variants.{Normal, Draining, Terminated}
+use Rattle.states.specs.declared.state.Violation.the-variants.{InvalidChunkAnnouncement, ControlOverflow, UnknownHeader, InvalidChunkLength}
+use Rattle.states.specs.State.{fitsErrno, normalizeIn, towardsErrorIn}
+use Rattle.states.specs.Answer.{interruptedOf, receivedOf, sentOf, shutOf}
 use Rattle.receiver.specs.Call.{flushCall}
 use Rattle.receiver.specs.Receiver.{readOutcome, failedOutcome, doneOutcome, receiver}
 use Rattle.sched.specs.Chunk.{bodyFits}
 use Rattle.copies.specs.Number.{numberFrom}
 use Rattle.driver.specs.Drive.{endedOf, delivery, endOfStreamIn}
 use Rattle.driver.specs.Run.{readOf, serviceOf, shutdownOf, readDelivery}
-use Rattle.receiver.specs.Refusal.{numberOf}
+use Rattle.states.specs.Refusal.{numberOf}
 
 -- ---- the socket's answers
 abbrev byte : ℕ → ℕ → Answer

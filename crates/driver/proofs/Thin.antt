@@ -4,7 +4,7 @@ use mir.Val.{Val}
 use denote.RattleType.{RattleType}
 use denote.Struct.Laws as LL
 use Rattle.receiver.specs.declared.receiver.ReceiverState.{ReceiverState}
-use Rattle.receiver.proofs.answer.Answer as T
+use Rattle.states.proofs.answer.Answer as T
 use Rattle.receiver.proofs.receiver.ReceiverState as Q
 use Rattle.receiver.proofs.receiver.ReceiverState.Laws as Q′
 

@@ -7,7 +7,7 @@ use mathlib.Core.List.{List, [], _∷_, _++_}
 use native.Mathlib.Omega.{arith}
 use lib.ListN.{length, take}
 use Rattle.receiver.specs.Call.{isOver}
-use Rattle.receiver.specs.declared.answer.Answer.{Answer}
+use Rattle.states.specs.declared.answer.Answer.{Answer}
 use Rattle.receiver.specs.declared.call.Call.{Call}
 use Rattle.receiver.specs.declared.call.Phase.{Phase}
 use Rattle.receiver.specs.declared.call.Phase.the-variants as phase
@@ -17,7 +17,7 @@ use Rattle.receiver.specs.declared.receiver.Ended.{Ended}
 use Rattle.receiver.specs.declared.receiver.Ended.the-variants as ended
 use Rattle.receiver.specs.declared.receiver.Outcome.{Outcome}
 use Rattle.receiver.specs.declared.receiver.ReceiverState.{ReceiverState}
-use Rattle.receiver.specs.declared.refusal.Refusal.the-variants.{AnswerMissing}
+use Rattle.states.specs.declared.refusal.Refusal.the-variants.{AnswerMissing}
 use Rattle.driver.specs.Drive.{overIn, retriesIn, answeredIn, driven, drivenFrom, drivenOf, endedBy, endedFor, endedOf}
 use Rattle.driver.specs.Promise.{Uses}
 use Rattle.driver.specs.declared.drive.Driven.{Driven}

@@ -6,8 +6,8 @@ use Rattle.sched.specs.declared.scheduler.RingBufferScheduler.{RingBufferSchedu
 use Rattle.copies.specs.Copies as copies
 use Rattle.receiver.specs.Call.{answeredOf, overOf, retriesOf}
 use Rattle.receiver.specs.Receiver.{readOutcome}
-use Rattle.receiver.specs.State.{isErrno}
-use Rattle.receiver.specs.declared.answer.Answer.{Answer}
+use Rattle.states.specs.State.{isErrno}
+use Rattle.states.specs.declared.answer.Answer.{Answer}
 use Rattle.receiver.specs.declared.call.Call.{Call}
 use Rattle.receiver.specs.declared.call.Phase.{Phase}
 use Rattle.receiver.specs.declared.call.Phase.the-variants as phase
@@ -21,7 +21,7 @@ use Rattle.receiver.specs.declared.receiver.Ended.the-variants as ended
 use Rattle.receiver.specs.declared.receiver.Came.{Came}
 use Rattle.receiver.specs.declared.receiver.Came.the-variants as came
 use Rattle.receiver.specs.declared.receiver.Outcome.{Outcome}
-use Rattle.receiver.specs.declared.refusal.Refusal.the-variants.{AnswerMissing}
+use Rattle.states.specs.declared.refusal.Refusal.the-variants.{AnswerMissing}
 
 -- answer i of a run, if there is one
 abbrev pub fetchedOf : List Answer → ℕ → Fetched

@@ -11,7 +11,7 @@ use Rattle.sched.specs.declared.scheduler.RingBufferScheduler.{RingBufferSchedu
 use Rattle.sched.specs.Scheduler.{dataIn, offsetIn}
 use Rattle.copies.specs.Promises.{OnlyFront, CellsOf}
 use Rattle.receiver.specs.Handed.{Handed}
-use Rattle.receiver.specs.declared.answer.Answer.{Answer}
+use Rattle.states.specs.declared.answer.Answer.{Answer}
 use Rattle.receiver.specs.declared.call.Call.{Call}
 use Rattle.receiver.specs.declared.call.Phase.{Phase}
 use Rattle.receiver.specs.declared.call.Phase.the-variants as phase
@@ -23,9 +23,9 @@ use Rattle.receiver.specs.declared.receiver.Came.{Came}
 use Rattle.receiver.specs.declared.receiver.Came.the-variants as came
 use Rattle.receiver.specs.declared.receiver.Outcome.{Outcome}
 use Rattle.receiver.specs.declared.receiver.ReceiverState.{ReceiverState}
-use Rattle.receiver.specs.declared.refusal.Refusal.{Refusal}
-use Rattle.receiver.specs.declared.refusal.Refusal.the-variants.{AnswerMissing}
-use Rattle.receiver.specs.declared.state.Failure.the-variants.{Io}
+use Rattle.states.specs.declared.refusal.Refusal.{Refusal}
+use Rattle.states.specs.declared.refusal.Refusal.the-variants.{AnswerMissing}
+use Rattle.states.specs.declared.state.Failure.the-variants.{Io}
 use Rattle.receiver.proofs.call.Call.begin_read.Kinds as begin-read-kinds
 use Rattle.receiver.proofs.call.Call.begin_read.Reads as begin-read
 use Rattle.receiver.proofs.call.Call.begin_service.Kinds as begin-service-kinds

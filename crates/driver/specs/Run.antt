@@ -5,7 +5,7 @@ use Prim.Native.Nat.{ℕ}
 use mathlib.Core.List.{List, []}
 use lib.ListN.{length}
 use Rattle.receiver.specs.Call.{beginReadOf, beginServiceOf, beginShutdownOf}
-use Rattle.receiver.specs.declared.answer.Answer.{Answer}
+use Rattle.states.specs.declared.answer.Answer.{Answer}
 use Rattle.receiver.specs.declared.receiver.Ended.{Ended}
 use Rattle.receiver.specs.declared.receiver.ReceiverState.{ReceiverState}
 use Rattle.driver.specs.Drive.{fetchedOf, drivenOf, endedOf, Delivery, delivery, deliveryOf, endOfStreamIn}

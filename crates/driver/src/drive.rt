@@ -2,14 +2,14 @@
 ghost use mathlib.Core.Path.{_≡_};
 ghost use Rattle.driver.specs.Drive.{overIn, retriesIn, answeredIn, drivenOf, endedIn, endedOf, delivery, deliveredFor, deliveredBy, deliveryOf, endOfStreamFor, endOfStreamIn};
 ghost use Rattle.driver.specs.Run.{FetchLeaves};
-use receiver::Answer;
+use states::Answer;
 use receiver::Call;
 use receiver::Came;
 use receiver::Ended;
-use receiver::Failure;
+use states::Failure;
 use receiver::Outcome;
 use receiver::Phase;
-use receiver::Refusal;
+use states::Refusal;
 use receiver::Step;
 use sched::RingBufferScheduler;
 

@@ -6,7 +6,7 @@ ghost use Rattle.driver.specs.Run.{readOf, ServiceLeaves, ShutdownLeaves
 use crate::drive::Driven;
 use crate::drive::drive;
 use crate::drive::end_of_stream;
-use receiver::Answer;
+use states::Answer;
 use receiver::Call;
 use receiver::Ended;
 use receiver::ReceiverState;

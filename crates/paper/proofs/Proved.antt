@@ -2,7 +2,7 @@
 use mathlib.Core.Path.{refl, ap}
 use Rattle.modular.specs.Modulus.{wholeAt, rawAt, doubleAt, subMod, addMod}
 use Rattle.sched.specs.Scheduler.{soundOf, fillStateIn, layoutIn, cutOf, registerIn}
-use Rattle.receiver.specs.State.{fitsErrno, normalizeIn, towardsErrorIn}
+use Rattle.states.specs.State.{fitsErrno, normalizeIn, towardsErrorIn}
 use Rattle.paper.specs.Table.{Table, refusedWith}
 
 pub table : Table

@@ -38,13 +38,13 @@ use Rattle.sched.proofs.scheduler.RingBufferScheduler.layout.Kinds as layout-ki
 use Rattle.sched.proofs.scheduler.RingBufferScheduler.layout.Reads as layout-call
 use Rattle.sched.proofs.scheduler.RingBufferScheduler.try_register_write.Kinds as register-kinds
 use Rattle.sched.proofs.scheduler.RingBufferScheduler.try_register_write.Reads as register
-use Rattle.receiver.specs.declared.state.Failure.the-variants.{Io}
-use Rattle.receiver.specs.declared.state.OperationalState.{OperationalState}
-use Rattle.receiver.specs.declared.state.OperationalState.the-variants.{Draining, Terminated}
-use Rattle.receiver.specs.declared.state.StateAnswer.{StateAnswer}
-use Rattle.receiver.specs.declared.state.StateAnswer.the-variants as state
-use Rattle.receiver.proofs.state.OperationalState.advance_state_towards_termination.Kinds as advance-kinds
-use Rattle.receiver.proofs.state.OperationalState.advance_state_towards_termination.Reads as advance
+use Rattle.states.specs.declared.state.Failure.the-variants.{Io}
+use Rattle.states.specs.declared.state.OperationalState.{OperationalState}
+use Rattle.states.specs.declared.state.OperationalState.the-variants.{Draining, Terminated}
+use Rattle.states.specs.declared.state.StateAnswer.{StateAnswer}
+use Rattle.states.specs.declared.state.StateAnswer.the-variants as state
+use Rattle.states.proofs.state.OperationalState.advance_state_towards_termination.Kinds as advance-kinds
+use Rattle.states.proofs.state.OperationalState.advance_state_towards_termination.Reads as advance
 
 -- whatever the contract L allows as an answer to these arguments has P
 abbrev Answers : (ps : List (PK 0)) (r : RK 0) → Out 0 ps r → Dens tt ps → (resT r tt .Denot → Type 0) → Type 0

@@ -15,7 +15,7 @@ use Rattle.copies.specs.declared.Refusal.the-variants.{RingMemory}
 use Rattle.copies.specs.Copies.{readyFrom, readyOf}
 use Rattle.receiver.proofs.AnsweredLaws.{ready-sound}
 use Rattle.receiver.specs.Admission.{soundReady, readyWith, admissionFrom, admissionOf}
-use Rattle.receiver.specs.State.{fitsState}
+use Rattle.states.specs.State.{fitsState}
 use Rattle.receiver.specs.declared.admission.Admission.the-variants.{Passed}
 use Rattle.receiver.specs.declared.admission.Memory.{Memory}
 use Rattle.receiver.specs.declared.admission.Memory.the-variants.{Of, None}

@@ -24,8 +24,8 @@ use Rattle.copies.specs.Number.{numberFrom}
 use Rattle.receiver.specs.Receiver.{withScheduler, headerIn, byteIn}
 use Rattle.receiver.specs.declared.announcement.Announced.{Announced}
 use Rattle.receiver.specs.declared.announcement.Announced.the-variants as announced
-use Rattle.receiver.specs.declared.answer.Received.{Received}
-use Rattle.receiver.specs.declared.answer.Received.the-variants as received
+use Rattle.states.specs.declared.answer.Received.{Received}
+use Rattle.states.specs.declared.answer.Received.the-variants as received
 use Rattle.receiver.specs.declared.receiver.ReceiverState.{ReceiverState}
 
 -- a chunk can be handed out

@@ -10,7 +10,7 @@ use Rattle.receiver.specs.Receiver.{failedOutcome}
 use Rattle.receiver.specs.Call.{outcomeIn}
 use Rattle.receiver.specs.Cases.{Chunk, BeginsRead, is-terminated, none-asked, awaits, holds-data, TakesIn}
 use Rattle.receiver.specs.Handed.{comingTo}
-use Rattle.receiver.specs.declared.answer.Answer.{Answer}
+use Rattle.states.specs.declared.answer.Answer.{Answer}
 use Rattle.receiver.specs.declared.call.Call.{Call}
 use Rattle.receiver.specs.declared.call.Ending.{Ending}
 use Rattle.receiver.specs.declared.call.Ending.the-variants.{Dropped}

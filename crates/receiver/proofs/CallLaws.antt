@@ -10,12 +10,12 @@ use Rattle.sched.specs.declared.scheduler.RingBufferScheduler.{RingBufferSchedu
 use Rattle.receiver.specs.declared.call.Ending.{Ending}
 use Rattle.receiver.specs.declared.call.Phase.{Phase}
 use Rattle.receiver.specs.declared.receiver.ReceiverState.{ReceiverState}
-use Rattle.receiver.specs.declared.state.OperationalState.{OperationalState}
-use Rattle.receiver.specs.declared.answer.Answer.{Answer}
-use Rattle.receiver.specs.declared.answer.Sent.{Sent}
-use Rattle.receiver.specs.declared.answer.Sent.the-variants as sent
-use Rattle.receiver.specs.Answer.{sentOf, isSent, isFailed}
-use Rattle.receiver.specs.State.{fitsErrno}
+use Rattle.states.specs.declared.state.OperationalState.{OperationalState}
+use Rattle.states.specs.declared.answer.Answer.{Answer}
+use Rattle.states.specs.declared.answer.Sent.{Sent}
+use Rattle.states.specs.declared.answer.Sent.the-variants as sent
+use Rattle.states.specs.Answer.{sentOf, isSent, isFailed}
+use Rattle.states.specs.State.{fitsErrno}
 use Rattle.receiver.specs.Receiver.{batchIn, withScheduler, withPending, handedIn}
 use Rattle.receiver.specs.Call.{Covered, readBy, readCall, blockedBy, blockedCall, shutOrFinishBy, shutOrFinish, shutdownBy, shutdownCall, isOver, retriesIn}
 

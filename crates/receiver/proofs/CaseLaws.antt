@@ -7,6 +7,7 @@ use mathlib.Core.Logic.{_≢_}
 use native.Mathlib.Omega.{arith}
 use lib.Dec.{eqb, ltb}
 use borrow.Author.Tests.{eqb-true, eqb-false, ltb-true, ltb-false, eq-eqb, ne-eqb}
+use Rattle.states.proofs.Rules.{numbered}
 use Rattle.sched.proofs.Counting.{moved}
 use Rattle.sched.specs.declared.operation.OperationType.the-variants.{Read, Write}
 use Rattle.sched.specs.declared.scheduler.RingBufferScheduler.{RingBufferScheduler}
@@ -14,34 +15,36 @@ use Rattle.sched.specs.Promise.{ReadBy}
 use Rattle.sched.specs.Scheduler.{IsSound, dataIn, spaceIn, offsetIn, advancedIn}
 use Rattle.copies.specs.Ring.{get}
 use Rattle.receiver.proofs.ChunkLaws as chunk
-use Rattle.receiver.proofs.Rules.{advance-rule, holds-rule, batch-rule, saidBy, announcement-says}
+use Rattle.states.proofs.Rules.{advance-rule, holds-rule}
+use Rattle.receiver.proofs.Rules.{batch-rule, saidBy, announcement-says}
 use Rattle.receiver.specs.Call.{call, finishedCall, outcomeIn, toldIn, shutOrFinishBy, shutdownBy, advanceCall, flushCall, serviceCallBy, serviceCall, drainCall, sentCall, unsentCall, handOutCall, failedCall, blockedBy, announcedCall, afterReceive, liveCall, readBy, readCall}
 use Rattle.receiver.specs.Cases as cases
-use Rattle.receiver.specs.Cases.{Meets, is-told, is-dropped, none-met, ComesTo, told-so, dropped-to, Closes, is-normal, shut-before, asks, Flushes, none-pending, sends, Serves, failed-before, flushes, Advances, TakesSent, none-went, some-went, send-blocks, send-fails, HandsOut, a-part, all-of-it, Fails, Blocks, goes-on, is-drained, Chunk, Numbered, violation-1, violation-2, violation-3, violation-4, Header, TakesReceived, announces, header-violates, receive-blocks, receive-fails, Reading, BeginsRead, is-terminated, none-asked, awaits, holds-data, Goes}
-use Rattle.receiver.specs.Promise.{Holds, body}
+use Rattle.states.specs.Promise.{violation-1}
+use Rattle.receiver.specs.Cases.{Meets, is-told, is-dropped, none-met, ComesTo, told-so, dropped-to, Closes, is-normal, shut-before, asks, Flushes, none-pending, sends, Serves, failed-before, flushes, Advances, TakesSent, none-went, some-went, send-blocks, send-fails, HandsOut, a-part, all-of-it, Fails, Blocks, goes-on, is-drained, Chunk, Header, TakesReceived, announces, header-violates, receive-blocks, receive-fails, Reading, BeginsRead, is-terminated, none-asked, awaits, holds-data, Goes}
+use Rattle.states.specs.Promise.{Holds}
+use Rattle.receiver.specs.Promise.{body}
 use Rattle.sched.specs.Chunk.{bodyFits}
 use Rattle.sched.proofs.ChunkLaws.{fits-by}
 use Rattle.copies.specs.Number.{numberFrom}
 use Rattle.receiver.specs.Receiver.{readOutcome, failedOutcome, withScheduler, withState, withPending, batchIn, headerIn, announcedIn, byteIn, handedOut}
-use Rattle.receiver.specs.State.{violationNumber, failureIn, advanceIn}
+use Rattle.states.specs.State.{failureIn, advanceIn}
 use Rattle.receiver.specs.declared.announcement.Announced.{Announced}
 use Rattle.receiver.specs.declared.announcement.Announced.the-variants as announced
-use Rattle.receiver.specs.declared.answer.Received.{Received}
-use Rattle.receiver.specs.declared.answer.Received.the-variants as received
-use Rattle.receiver.specs.declared.answer.Sent.the-variants as sent
+use Rattle.states.specs.declared.answer.Received.{Received}
+use Rattle.states.specs.declared.answer.Received.the-variants as received
+use Rattle.states.specs.declared.answer.Sent.the-variants as sent
 use Rattle.receiver.specs.declared.call.Ending.{Ending}
 use Rattle.receiver.specs.declared.call.Ending.the-variants.{Dropped, Told}
 use Rattle.receiver.specs.declared.call.Phase.the-variants as phase
 use Rattle.receiver.specs.declared.call.Step.{Step}
 use Rattle.receiver.specs.declared.receiver.ReceiverState.{ReceiverState}
-use Rattle.receiver.specs.declared.state.Failure.{Failure}
-use Rattle.receiver.specs.declared.state.Failure.the-variants.{Io, Protocol}
-use Rattle.receiver.specs.declared.state.OperationalState.{OperationalState}
-use Rattle.receiver.specs.declared.state.OperationalState.the-variants.{Normal, Draining, Terminated}
-use Rattle.receiver.specs.declared.state.PotentialFailure.{PotentialFailure}
-use Rattle.receiver.specs.declared.state.PotentialFailure.the-variants.{Some, None}
-use Rattle.receiver.specs.declared.state.Violation.{Violation}
-use Rattle.receiver.specs.declared.state.Violation.the-variants.{InvalidChunkAnnouncement, ControlOverflow, UnknownHeader, InvalidChunkLength}
+use Rattle.states.specs.declared.state.Failure.{Failure}
+use Rattle.states.specs.declared.state.Failure.the-variants.{Io, Protocol}
+use Rattle.states.specs.declared.state.OperationalState.{OperationalState}
+use Rattle.states.specs.declared.state.OperationalState.the-variants.{Normal, Draining, Terminated}
+use Rattle.states.specs.declared.state.PotentialFailure.{PotentialFailure}
+use Rattle.states.specs.declared.state.PotentialFailure.the-variants.{Some, None}
+use Rattle.states.specs.declared.state.Violation.the-variants.{InvalidChunkAnnouncement}
 
 -- ---- what is answered
 pub comes : (e : Ending) → ComesTo e (outcomeIn e)
@@ -168,11 +171,6 @@ module _ (q : ReceiverState) (s : RingBufferScheduler) where
   blocks h = blocks-by (q .state) refl h
 
 -- ---- an announcement
-pub numbered : (v : Violation) → Numbered v (violationNumber v)
-numbered InvalidChunkAnnouncement = violation-1
-numbered ControlOverflow = violation-2
-numbered UnknownHeader = violation-3
-numbered InvalidChunkLength = violation-4
 
 -- what is announced of a scheduler: a chunk of it, with these descriptors, or a violation
 module _ (s : RingBufferScheduler) (sound : IsSound s) (fds : ℕ) where

@@ -9,19 +9,19 @@ use Rattle.sched.specs.declared.operation.OperationType.the-variants.{Read}
 use Rattle.sched.specs.declared.scheduler.RingBufferScheduler.{RingBufferScheduler}
 use Rattle.sched.specs.Scheduler.{spaceIn, offsetIn}
 use Rattle.copies.specs.Ring.{get}
-use Rattle.receiver.specs.Answer.{isByte, isClosed, isFailed, isSent, receivedOf, sentOf}
-use Rattle.receiver.specs.State.{fitsErrno, fitsFailure, fitsState, isErrno, normalizeIn, towardsErrorIn, advanceNormal, advanceIn}
+use Rattle.states.specs.Answer.{isByte, isClosed, isFailed, isSent, receivedOf, sentOf}
+use Rattle.states.specs.State.{fitsErrno, fitsFailure, fitsState, isErrno, normalizeIn, towardsErrorIn, advanceNormal, advanceIn}
 use Rattle.sched.specs.Chunk.{bodyFits}
 use Rattle.copies.specs.Number.{numberFrom}
 use Rattle.receiver.specs.Receiver.{headerIn, byteIn}
 use Rattle.receiver.specs.declared.announcement.Announced.{Announced}
 use Rattle.receiver.specs.declared.announcement.Announced.the-variants as announced
-use Rattle.receiver.specs.declared.answer.Answer.{Answer}
-use Rattle.receiver.specs.declared.answer.Received.the-variants as received
-use Rattle.receiver.specs.declared.answer.Sent.the-variants as sent
-use Rattle.receiver.specs.declared.state.Failure.{Failure}
-use Rattle.receiver.specs.declared.state.OperationalState.{OperationalState}
-use Rattle.receiver.specs.declared.state.OperationalState.the-variants.{Normal, Draining, Terminated}
+use Rattle.states.specs.declared.answer.Answer.{Answer}
+use Rattle.states.specs.declared.answer.Received.the-variants as received
+use Rattle.states.specs.declared.answer.Sent.the-variants as sent
+use Rattle.states.specs.declared.state.Failure.{Failure}
+use Rattle.states.specs.declared.state.OperationalState.{OperationalState}
+use Rattle.states.specs.declared.state.OperationalState.the-variants.{Normal, Draining, Terminated}
 
 -- ---- states
 module _ (f : Failure) (h : fitsFailure f ≡ true) where

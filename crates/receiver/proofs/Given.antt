@@ -1,6 +1,6 @@
 -- "Given exactly when", of the tests before every call, of the beginnings, and of an answer: first of the definitions, then of whatever
 -- an attached contract allows.
-use Prim.Native.Nat.{ℕ, _-_, _^_, _<_}
+use Prim.Native.Nat.{ℕ, _-_, _^_}
 use mathlib.Core.Path.{_≡_, refl, sym, ap, subst, _∙_}
 use mathlib.Core.Bool.{Bool, true, false}
 use mathlib.Core.Logic.{_⊎_, inl, inr}
@@ -8,24 +8,23 @@ use mathlib.Core.List.{List, [], _∷_}
 use native.Mathlib.Omega.{arith}
 use lib.Dec.{eqb}
 use borrow.Author.Tests.{eqb-true, eqb-false}
+use Rattle.states.proofs.PromisedValues.{number-of}
 use Rattle.modular.proofs.Saying.{Keeps}
 use Rattle.sched.specs.declared.scheduler.Checked.{Checked}
 use Rattle.sched.specs.declared.scheduler.Checked.the-variants as checked
 use Rattle.sched.specs.declared.scheduler.RingBufferScheduler.{RingBufferScheduler}
 use Rattle.sched.specs.Scheduler.{soundOf, dataIn}
-use Rattle.sched.proofs.Given.{number-some}
 use Rattle.copies.specs.declared.Ready.{Ready}
 use Rattle.copies.specs.declared.Ready.the-variants as ready
-use Rattle.copies.specs.declared.Refusal.the-variants.{Scheduler, RingMemory}
 use Rattle.copies.specs.Given.{Verdict, verdict, Exactly, ofChecked, ofReady}
 use Rattle.copies.proofs.Promised.{checks, checked-given, ready-given}
-use Rattle.receiver.proofs.AnswerSays.{state-fits}
+use Rattle.states.proofs.AnswerSays.{state-fits}
 use Rattle.receiver.proofs.Says.{begin-read-says, begin-service-says, begin-shutdown-says}
 use Rattle.receiver.specs.Admission.{soundReady, readyWith, admissionFrom, admissionOf}
 use Rattle.receiver.specs.Call.{call, liveCall, readBy, readCall, admittedStep}
 use Rattle.receiver.specs.Given.{GivenRing, GivenAdmission, admits, by-ring, given-12-stored, Live, Full, GivenRead, begins, by-admission, given-13, ofAdmission, ofStep}
-use Rattle.receiver.specs.Refusal.{numberOf, valuesOf}
-use Rattle.receiver.specs.State.{fitsState}
+use Rattle.states.specs.Refusal.{numberOf, valuesOf}
+use Rattle.states.specs.State.{fitsState}
 use Rattle.receiver.specs.declared.admission.Admission.{Admission}
 use Rattle.receiver.specs.declared.admission.Admission.the-variants as admission
 use Rattle.receiver.specs.declared.admission.Memory.{Memory}
@@ -34,10 +33,10 @@ use Rattle.receiver.specs.declared.call.Call.{Call}
 use Rattle.receiver.specs.declared.call.Step.{Step}
 use Rattle.receiver.specs.declared.call.Step.the-variants as step
 use Rattle.receiver.specs.declared.receiver.ReceiverState.{ReceiverState}
-use Rattle.receiver.specs.declared.refusal.Refusal.{Refusal}
-use Rattle.receiver.specs.declared.refusal.Refusal.the-variants.{Copy, AnswerMissing, Misfit, PendingFull}
-use Rattle.receiver.specs.declared.state.OperationalState.{OperationalState}
-use Rattle.receiver.specs.declared.state.OperationalState.the-variants.{Normal, Draining, Terminated}
+use Rattle.states.specs.declared.refusal.Refusal.{Refusal}
+use Rattle.states.specs.declared.refusal.Refusal.the-variants.{Copy}
+use Rattle.states.specs.declared.state.OperationalState.{OperationalState}
+use Rattle.states.specs.declared.state.OperationalState.the-variants.{Normal, Draining, Terminated}
 use Rattle.receiver.proofs.call.Call.begin_read.Kinds as begin-read-kinds
 use Rattle.receiver.proofs.call.Call.begin_read.Reads as begin-read
 use Rattle.receiver.proofs.call.Call.begin_service.Kinds as begin-service-kinds
@@ -46,13 +45,6 @@ use Rattle.receiver.proofs.call.Call.begin_shutdown.Kinds as begin-shut
 use Rattle.receiver.proofs.call.Call.begin_shutdown.Reads as begin-shutdown
 
 -- every number that refuses is some number
-pub number-of : (r : Refusal) → 0 < numberOf r
-number-of (Copy (Scheduler e)) = number-some e
-number-of (Copy RingMemory) = omega arith
-number-of AnswerMissing = omega arith
-number-of (Misfit place) = omega arith
-number-of PendingFull = omega arith
-
 -- what is given as number 0 is not given as another
 module _ {G : ℕ → List ℕ → Type 0} (v : Verdict) (e : Exactly G v) where
   is-number : (k : ℕ) (vs : List ℕ) → G k vs → v .number ≡ k

@@ -8,34 +8,35 @@ use native.Mathlib.Omega.{arith}
 use lib.ListN.{length}
 use Rattle.modular.proofs.Saying.{Keeps}
 use Rattle.copies.specs.Given.{Verdict, verdict, Exactly}
-use Rattle.receiver.proofs.AnswerSays.{received-says, received-only, sent-says, sent-only, shut-says, shut-only, interrupted-says}
+use Rattle.states.proofs.AnswerSays.{received-says, received-only, sent-says, sent-only, shut-says, shut-only, interrupted-says}
 use Rattle.receiver.proofs.Says.{answered-says}
 use Rattle.receiver.specs.Admission.{admissionOf}
-use Rattle.receiver.specs.Answer.{interruptedOf, receivedOf, sentOf, shutOf}
+use Rattle.states.specs.Answer.{interruptedOf, receivedOf, sentOf, shutOf}
 use Rattle.receiver.specs.Call.{call, sentCall, unsentCall, afterShut, afterReceive, readCall, admittedStep, looksAt, resumedBy, resumedOf, steppedBy, steppedOf, answeredFrom}
 use Rattle.receiver.specs.Given.{GivenAdmission, Full, Misfits, GivenAnswer, takes, at-the-tests, still-full, given-12, ofStep}
-use Rattle.receiver.specs.Promise.{Errno, SaysReceived, no-receive, SaysSent, no-send, SaysShut}
+use Rattle.states.specs.Promise.{Errno, SaysReceived, no-receive, SaysSent, no-send, SaysShut}
 use Rattle.receiver.specs.Receiver.{batchIn, bySent}
-use Rattle.receiver.specs.Refusal.{numberOf, valuesOf}
+use Rattle.states.specs.Refusal.{numberOf, valuesOf}
 use Rattle.receiver.specs.declared.admission.Admission.{Admission}
 use Rattle.receiver.specs.declared.admission.Admission.the-variants as admission
 use Rattle.receiver.specs.declared.admission.Memory.{Memory}
-use Rattle.receiver.specs.declared.answer.Answer.{Answer}
-use Rattle.receiver.specs.declared.answer.Received.{Received}
-use Rattle.receiver.specs.declared.answer.Received.the-variants as received
-use Rattle.receiver.specs.declared.answer.Sent.{Sent}
-use Rattle.receiver.specs.declared.answer.Sent.the-variants as sent
-use Rattle.receiver.specs.declared.answer.Shut.{Shut}
-use Rattle.receiver.specs.declared.answer.Shut.the-variants as shut
+use Rattle.states.specs.declared.answer.Answer.{Answer}
+use Rattle.states.specs.declared.answer.Received.{Received}
+use Rattle.states.specs.declared.answer.Received.the-variants as received
+use Rattle.states.specs.declared.answer.Sent.{Sent}
+use Rattle.states.specs.declared.answer.Sent.the-variants as sent
+use Rattle.states.specs.declared.answer.Shut.{Shut}
+use Rattle.states.specs.declared.answer.Shut.the-variants as shut
 use Rattle.receiver.specs.declared.call.Call.{Call}
 use Rattle.receiver.specs.declared.call.Phase.{Phase}
 use Rattle.receiver.specs.declared.call.Phase.the-variants as phase
 use Rattle.receiver.specs.declared.call.Step.{Step}
 use Rattle.receiver.specs.declared.call.Step.the-variants as step
-use Rattle.receiver.specs.declared.refusal.Refusal.the-variants.{Misfit}
+use Rattle.states.specs.declared.refusal.Refusal.the-variants.{Misfit}
 use Rattle.receiver.proofs.call.Call.answered.Kinds as answered-kinds
 use Rattle.receiver.proofs.call.Call.answered.Reads as answered
-use Rattle.receiver.proofs.Given.{number-of, Rules, read-told, passed, passed-only, refused, refused-always, refused-not-0}
+use Rattle.states.proofs.PromisedValues.{number-of}
+use Rattle.receiver.proofs.Given.{Rules, read-told, passed, passed-only, refused, refused-always, refused-not-0}
 use Rattle.receiver.specs.declared.call.Ending.{Ending}
 
 -- what the rules say of an answer that reaches them: 12 with its place where the place cannot have it, and else nothing refuses it

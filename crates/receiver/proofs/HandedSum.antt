@@ -12,7 +12,7 @@ use Rattle.sched.specs.declared.operation.OperationType.the-variants.{Read}
 use Rattle.sched.specs.declared.scheduler.RingBufferScheduler.{RingBufferScheduler}
 use Rattle.sched.specs.Scheduler.{dataIn, advancedIn}
 use Rattle.receiver.proofs.AdmissionLaws.{passed-sound, passed-fits}
-use Rattle.receiver.proofs.AnswerSays.{received-says, interrupted-says}
+use Rattle.states.proofs.AnswerSays.{received-says, interrupted-says}
 use Rattle.receiver.proofs.AnsweredLaws.{Chunked, byte-chunked}
 use Rattle.receiver.proofs.CallLaws.{sent-covered}
 use Rattle.receiver.proofs.Fits.{five-fits, blocked-fits, end-fits, FitsIn, byte-fits, sent-fits, received-fits}
@@ -20,11 +20,11 @@ use Rattle.receiver.proofs.Made.{Tested, handed-tested, passes, live-wa
 use Rattle.receiver.proofs.ResumedLaws.{answered-on}
 use Rattle.receiver.proofs.Spent.{interrupted-sends, sent-sends, failed-sends}
 use Rattle.receiver.specs.Admission.{admissionOf}
-use Rattle.receiver.specs.Answer.{interruptedOf, receivedOf, sentOf, shutOf}
-use Rattle.receiver.specs.State.{fitsFailure, fitsState, failureIn, isErrno, advanceIn}
+use Rattle.states.specs.Answer.{interruptedOf, receivedOf, sentOf, shutOf}
+use Rattle.states.specs.State.{fitsFailure, fitsState, failureIn, isErrno, advanceIn}
 use Rattle.receiver.specs.Receiver.{readOutcome, failedOutcome, doneOutcome, withScheduler, withState, withPending, withShutdown, batchIn, bySent, byteIn, handedOut}
 use Rattle.receiver.specs.Call.{call, finishedCall, outcomeIn, toldIn, advanceCall, flushCall, serviceCallBy, serviceCall, sentCall, unsentCall, afterShut, handOutCall, failedCall, blockedBy, announcedCall, afterReceive, liveCall, readBy, admittedStep, beginReadOf, beginServiceOf, beginShutdownOf, retriesIn, retriesOf, looksBy, looksAt, resumedBy, resumedOf, steppedBy, answeredFrom, answeredOf}
-use Rattle.receiver.specs.Promise.{SaysReceived, a-byte, closed, receive-failed, no-receive}
+use Rattle.states.specs.Promise.{SaysReceived, a-byte, closed, receive-failed, no-receive}
 use Rattle.receiver.specs.Handed.{Handed, wholeIn, stepOf, keptBy, handedTo, sentAt, allSentTo, comingTo, wholeAt, allWholeTo}
 use Rattle.receiver.specs.declared.admission.Admission.{Admission}
 use Rattle.receiver.specs.declared.admission.Admission.the-variants as admission
@@ -32,13 +32,13 @@ use Rattle.receiver.specs.declared.admission.Memory.{Memory}
 use Rattle.receiver.specs.declared.admission.Memory.the-variants as memory
 use Rattle.receiver.specs.declared.announcement.Announced.{Announced}
 use Rattle.receiver.specs.declared.announcement.Announced.the-variants as announced
-use Rattle.receiver.specs.declared.answer.Answer.{Answer}
-use Rattle.receiver.specs.declared.answer.Received.{Received}
-use Rattle.receiver.specs.declared.answer.Received.the-variants as received
-use Rattle.receiver.specs.declared.answer.Sent.{Sent}
-use Rattle.receiver.specs.declared.answer.Sent.the-variants as sent
-use Rattle.receiver.specs.declared.answer.Shut.{Shut}
-use Rattle.receiver.specs.declared.answer.Shut.the-variants as shut
+use Rattle.states.specs.declared.answer.Answer.{Answer}
+use Rattle.states.specs.declared.answer.Received.{Received}
+use Rattle.states.specs.declared.answer.Received.the-variants as received
+use Rattle.states.specs.declared.answer.Sent.{Sent}
+use Rattle.states.specs.declared.answer.Sent.the-variants as sent
+use Rattle.states.specs.declared.answer.Shut.{Shut}
+use Rattle.states.specs.declared.answer.Shut.the-variants as shut
 use Rattle.receiver.specs.declared.call.Call.{Call}
 use Rattle.receiver.specs.declared.call.Ending.{Ending}
 use Rattle.receiver.specs.declared.call.Ending.the-variants.{Dropped, Told}
@@ -48,13 +48,13 @@ use Rattle.receiver.specs.declared.call.Step.{Step}
 use Rattle.receiver.specs.declared.call.Step.the-variants.{Of, Refused}
 use Rattle.receiver.specs.declared.receiver.Outcome.{Outcome}
 use Rattle.receiver.specs.declared.receiver.ReceiverState.{ReceiverState}
-use Rattle.receiver.specs.declared.refusal.Refusal.the-variants.{Misfit}
-use Rattle.receiver.specs.declared.state.Failure.{Failure}
-use Rattle.receiver.specs.declared.state.Failure.the-variants.{Io}
-use Rattle.receiver.specs.declared.state.OperationalState.{OperationalState}
-use Rattle.receiver.specs.declared.state.OperationalState.the-variants.{Normal, Draining, Terminated}
-use Rattle.receiver.specs.declared.state.PotentialFailure.{PotentialFailure}
-use Rattle.receiver.specs.declared.state.PotentialFailure.the-variants.{Some, None}
+use Rattle.states.specs.declared.refusal.Refusal.the-variants.{Misfit}
+use Rattle.states.specs.declared.state.Failure.{Failure}
+use Rattle.states.specs.declared.state.Failure.the-variants.{Io}
+use Rattle.states.specs.declared.state.OperationalState.{OperationalState}
+use Rattle.states.specs.declared.state.OperationalState.the-variants.{Normal, Draining, Terminated}
+use Rattle.states.specs.declared.state.PotentialFailure.{PotentialFailure}
+use Rattle.states.specs.declared.state.PotentialFailure.the-variants.{Some, None}
 use Rattle.receiver.proofs.Keeps.{finished-keeps, advance-keeps, flush-keeps, service-keeps, service-coming, shutdown-coming}
 
 abbrev pub MadeBy : Step → Type 0

@@ -5,7 +5,7 @@ use lib.Dec.{eqb}
 use Rattle.sched.specs.declared.scheduler.RingBufferScheduler.{RingBufferScheduler}
 use Rattle.receiver.proofs.Fits.{advance-fits}
 use Rattle.receiver.proofs.Made.{Tested, send-waits, Made}
-use Rattle.receiver.specs.State.{fitsState, failureIn, advanceIn}
+use Rattle.states.specs.State.{fitsState, failureIn, advanceIn}
 use Rattle.receiver.specs.Receiver.{withState, batchIn}
 use Rattle.receiver.specs.Call.{call, finishedCall, outcomeIn, toldIn, shutOrFinishBy, shutdownBy, shutdownCall, advanceCall, flushCall, serviceCallBy, serviceCall}
 use Rattle.receiver.specs.Handed.{comingTo}
@@ -16,10 +16,10 @@ use Rattle.receiver.specs.declared.call.Phase.the-variants as phase
 use Rattle.receiver.specs.declared.call.Step.the-variants.{Of}
 use Rattle.receiver.specs.declared.receiver.Outcome.{Outcome}
 use Rattle.receiver.specs.declared.receiver.ReceiverState.{ReceiverState}
-use Rattle.receiver.specs.declared.state.OperationalState.{OperationalState}
-use Rattle.receiver.specs.declared.state.OperationalState.the-variants.{Normal, Draining, Terminated}
-use Rattle.receiver.specs.declared.state.PotentialFailure.{PotentialFailure}
-use Rattle.receiver.specs.declared.state.PotentialFailure.the-variants.{Some, None}
+use Rattle.states.specs.declared.state.OperationalState.{OperationalState}
+use Rattle.states.specs.declared.state.OperationalState.the-variants.{Normal, Draining, Terminated}
+use Rattle.states.specs.declared.state.PotentialFailure.{PotentialFailure}
+use Rattle.states.specs.declared.state.PotentialFailure.the-variants.{Some, None}
 
 -- a call that is made of the record q, and counts as q does
 pub record Keeps (q : ReceiverState) (c : Call) : Type 0 where

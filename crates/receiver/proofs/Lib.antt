@@ -1,4 +1,3 @@
-pub mod StateLaws
 pub mod ChunkLaws
 pub mod SoundLaws
 pub mod CallLaws
@@ -11,7 +10,6 @@ pub mod Spent
 pub mod Keeps
 pub mod HandedSum
 pub mod MachineRows
-pub mod AnswerSays
 pub mod Rules
 pub mod CaseLaws
 pub mod CaseSteps
@@ -21,7 +19,5 @@ pub mod ByteLaws
 pub mod Says
 pub mod Given
 pub mod GivenAnswer
-pub mod Promised
-pub mod PromisedStates
+pub mod PromisedCalls
 pub mod PromisedMachine
-pub mod PromisedValues

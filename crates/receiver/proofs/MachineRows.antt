@@ -2,8 +2,8 @@
 -- anew, where the ring is looked at, and what a phase comes to that a host made up.
 use Prim.Native.Nat.{ℕ}
 use mathlib.Core.Path.{_≡_, refl}
-use mathlib.Core.Bool.{true, false}
-use mathlib.Core.List.{List, [], _∷_}
+use mathlib.Core.Bool.{false}
+use mathlib.Core.List.{[]}
 use lib.ListN.{replicate}
 use Rattle.modular.specs.Modulus.{subMod, addMod}
 use Rattle.sched.specs.declared.refusal.Refusal.the-variants.{DataAvailOutOfBounds}
@@ -11,23 +11,20 @@ use Rattle.sched.specs.declared.scheduler.RingBufferScheduler.{RingBufferSchedu
 use Rattle.sched.specs.Scheduler.{schedulerOf, soundOf}
 use Rattle.copies.specs.declared.Refusal.the-variants.{Scheduler, RingMemory}
 use Rattle.copies.specs.Copies.{readyFrom}
-use Rattle.receiver.specs.declared.answer.Answer.{Answer}
+use Rattle.states.specs.declared.answer.Answer.{Answer}
 use Rattle.receiver.specs.declared.call.Call.{Call}
 use Rattle.receiver.specs.declared.call.Ending.the-variants.{Dropped, Told}
 use Rattle.receiver.specs.declared.call.Phase.{Phase}
 use Rattle.receiver.specs.declared.call.Phase.the-variants.{Receive, Send, Shutdown}
-use Rattle.receiver.specs.declared.call.Step.{Step}
 use Rattle.receiver.specs.declared.call.Step.the-variants.{Of, Refused}
-use Rattle.receiver.specs.declared.receiver.ReceiverState.{ReceiverState}
-use Rattle.receiver.specs.declared.refusal.Refusal.the-variants.{Copy, Misfit}
-use Rattle.receiver.specs.declared.state.Failure.the-variants.{Io}
-use Rattle.receiver.specs.declared.state.OperationalState.{OperationalState}
-use Rattle.receiver.specs.declared.state.OperationalState.the-variants.{Normal, Draining, Terminated}
-use Rattle.receiver.specs.Answer.{interruptedOf, receivedOf, sentOf, shutOf}
-use Rattle.receiver.specs.State.{fitsErrno, normalizeIn, towardsErrorIn}
+use Rattle.states.specs.declared.refusal.Refusal.the-variants.{Copy, Misfit}
+use Rattle.states.specs.declared.state.Failure.the-variants.{Io}
+use Rattle.states.specs.declared.state.OperationalState.{OperationalState}
+use Rattle.states.specs.declared.state.OperationalState.the-variants.{Normal, Draining, Terminated}
+use Rattle.states.specs.Answer.{interruptedOf, receivedOf, sentOf, shutOf}
+use Rattle.states.specs.State.{fitsErrno}
 use Rattle.receiver.specs.Receiver.{readOutcome, failedOutcome, doneOutcome, receiver}
 use Rattle.receiver.specs.Call.{call, finishedCall, flushCall, beginReadOf, answeredOf}
-use Rattle.receiver.specs.Refusal.{numberOf}
 
 abbrev answer : ℕ → ℕ → Answer
 answer kind value = record { kind = kind; value = value; descriptors = 0 }

@@ -8,7 +8,7 @@ use Rattle.sched.specs.declared.operation.OperationType.the-variants.{Read}
 use Rattle.sched.specs.declared.scheduler.RingBufferScheduler.{RingBufferScheduler}
 use Rattle.sched.specs.Scheduler.{IsSound, dataIn, advancedIn}
 use Rattle.receiver.specs.Admission.{admissionOf}
-use Rattle.receiver.specs.State.{fitsState, failureIn}
+use Rattle.states.specs.State.{fitsState, failureIn}
 use Rattle.receiver.specs.Receiver.{withScheduler, withPending, batchIn, handedOut}
 use Rattle.receiver.specs.Call.{call, finishedCall, outcomeIn, flushCall, serviceCallBy, serviceCall, liveCall, resumedOf}
 use Rattle.receiver.specs.declared.admission.Admission.the-variants.{Passed}
@@ -18,8 +18,8 @@ use Rattle.receiver.specs.declared.call.Ending.{Ending}
 use Rattle.receiver.specs.declared.call.Phase.the-variants.{Receive, Send}
 use Rattle.receiver.specs.declared.call.Step.the-variants.{Of}
 use Rattle.receiver.specs.declared.receiver.ReceiverState.{ReceiverState}
-use Rattle.receiver.specs.declared.state.PotentialFailure.{PotentialFailure}
-use Rattle.receiver.specs.declared.state.PotentialFailure.the-variants.{None}
+use Rattle.states.specs.declared.state.PotentialFailure.{PotentialFailure}
+use Rattle.states.specs.declared.state.PotentialFailure.the-variants.{None}
 
 -- ---- a record that passes its tests
 pub record Tested (q : ReceiverState) : Type 0 where

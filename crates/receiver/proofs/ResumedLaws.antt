@@ -3,7 +3,6 @@ use Prim.Native.Nat.{ℕ, _-_, _^_, _<_}
 use mathlib.Core.Path.{_≡_, refl, sym, ap, subst, _∙_}
 use mathlib.Core.Bool.{Bool, cond, true, false}
 use mathlib.Core.List.{List}
-use native.Mathlib.Omega.{arith}
 use lib.Dec.{eqb}
 use lib.ListN.{length}
 use borrow.Author.Tests.{eqb-false}
@@ -12,17 +11,17 @@ use Rattle.sched.specs.Scheduler.{IsSound, dataIn}
 use Rattle.receiver.proofs.AdmissionLaws.{passed-sound, passed-sized}
 use Rattle.receiver.proofs.AnsweredLaws.{below}
 use Rattle.receiver.specs.Admission.{admissionOf}
-use Rattle.receiver.specs.Answer.{receivedOf}
-use Rattle.receiver.specs.State.{failureIn}
+use Rattle.states.specs.Answer.{receivedOf}
+use Rattle.states.specs.State.{failureIn}
 use Rattle.receiver.specs.Receiver.{batchIn, handedOut}
-use Rattle.receiver.specs.Call.{call, finishedCall, outcomeIn, shutOrFinishBy, shutdownBy, flushCall, serviceCallBy, serviceCall, Handing, ByteSized, handOutCall, readBy, looksBy, looksAt, resumedBy, resumedOf, StepsBy, Steps, steppedBy, steppedOf, admittedStep, answeredFrom, answeredOf}
+use Rattle.receiver.specs.Call.{call, finishedCall, outcomeIn, shutOrFinishBy, shutdownBy, flushCall, serviceCallBy, Handing, ByteSized, readBy, looksBy, looksAt, resumedBy, resumedOf, StepsBy, Steps, steppedBy, steppedOf, admittedStep, answeredFrom, answeredOf}
 use Rattle.receiver.specs.declared.admission.Admission.{Admission}
 use Rattle.receiver.specs.declared.admission.Admission.the-variants as admission
 use Rattle.receiver.specs.declared.admission.Admission.the-variants.{Passed}
 use Rattle.receiver.specs.declared.admission.Memory.{Memory}
-use Rattle.receiver.specs.declared.answer.Answer.{Answer}
-use Rattle.receiver.specs.declared.answer.Received.{Received}
-use Rattle.receiver.specs.declared.answer.Received.the-variants as received
+use Rattle.states.specs.declared.answer.Answer.{Answer}
+use Rattle.states.specs.declared.answer.Received.{Received}
+use Rattle.states.specs.declared.answer.Received.the-variants as received
 use Rattle.receiver.specs.declared.call.Call.{Call}
 use Rattle.receiver.specs.declared.call.Ending.{Ending}
 use Rattle.receiver.specs.declared.call.Phase.{Phase}
@@ -30,11 +29,11 @@ use Rattle.receiver.specs.declared.call.Phase.the-variants as phase
 use Rattle.receiver.specs.declared.call.Step.{Step}
 use Rattle.receiver.specs.declared.call.Step.the-variants.{Of, Refused}
 use Rattle.receiver.specs.declared.receiver.ReceiverState.{ReceiverState}
-use Rattle.receiver.specs.declared.refusal.Refusal.{Refusal}
-use Rattle.receiver.specs.declared.state.OperationalState.{OperationalState}
-use Rattle.receiver.specs.declared.state.OperationalState.the-variants.{Normal, Draining, Terminated}
-use Rattle.receiver.specs.declared.state.PotentialFailure.{PotentialFailure}
-use Rattle.receiver.specs.declared.state.PotentialFailure.the-variants.{Some, None}
+use Rattle.states.specs.declared.refusal.Refusal.{Refusal}
+use Rattle.states.specs.declared.state.OperationalState.{OperationalState}
+use Rattle.states.specs.declared.state.OperationalState.the-variants.{Normal, Draining, Terminated}
+use Rattle.states.specs.declared.state.PotentialFailure.{PotentialFailure}
+use Rattle.states.specs.declared.state.PotentialFailure.the-variants.{Some, None}
 
 -- ---- how the phase picks its case
 pub resumed-by : (c : Call) (ph : Phase) → c .phase ≡ ph → (r : Step) → r ≡ resumedBy ph c → r ≡ resumedOf c

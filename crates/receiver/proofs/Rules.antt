@@ -1,13 +1,13 @@
--- The rules keep what specs/Promise.antt says of them: the reason rule, advancing a state, batches, and what a header says.
-use Prim.Native.Nat.{ℕ, suc, _+_, _-_, _/_, _%_, _^_, _<_, _≤_, min}
-use mathlib.Core.Path.{_≡_, refl, ap, subst, _∙_}
-use mathlib.Core.Bool.{Bool, cond, true, false}
+-- The rules keep what specs/Promise.antt says of them: batches, and what a header says.
+use Prim.Native.Nat.{ℕ, _+_, _-_, _/_, _%_, _^_, _<_, _≤_, min}
+use mathlib.Core.Path.{_≡_, refl, subst}
+use mathlib.Core.Bool.{Bool, true, false}
 use mathlib.Core.Logic.{_≢_}
 use mathlib.Core.List.{List}
 use native.Mathlib.Nat.{div-add-mod', mod-lt}
 use native.Mathlib.Omega.{arith}
 use lib.Dec.{eqb, ltb, leb}
-use borrow.Author.Tests.{eqb-true, eqb-false, ltb-true, ltb-false, leb-true, leb-false, eq-eqb}
+use borrow.Author.Tests.{eqb-true, eqb-false, ltb-true, ltb-false, leb-true, leb-false}
 use Rattle.sched.specs.declared.operation.OperationType.the-variants.{Read, Write}
 use Rattle.sched.specs.declared.scheduler.RingBufferScheduler.{RingBufferScheduler}
 use Rattle.sched.specs.Scheduler.{IsSound, dataIn, spaceIn, offsetIn, advancedIn}
@@ -18,74 +18,12 @@ use Rattle.copies.specs.Promises.{numberAt}
 use Rattle.copies.specs.Ring.{get}
 use Rattle.copies.proofs.NumberLaws.{number-at}
 use Rattle.receiver.proofs.ChunkLaws.{holds}
-use Rattle.receiver.specs.Promise.{Reason, end-and-end, end-gives-way, error-and-end, error-stays, normal, blocked-draining, blocked-terminated, Normalized, calmed, drains, ends, Holds, holds-none, draining-holds, terminated-holds, Carries, normal-carries-none, draining-carries, terminated-carries, Advanced, calm-by-calm, calm-by-draining, calm-by-terminated, terminated-stays, draining-stays, draining-by-draining, draining-by-terminated, Batch, all, most, Said, body, violates, Announces, no-room-for-a-header, format-unknown, length-0, too-long, accepted}
+use Rattle.receiver.specs.Promise.{Batch, all, most, Said, body, violates, Announces, no-room-for-a-header, format-unknown, length-0, too-long, accepted}
 use Rattle.receiver.specs.Receiver.{headerIn, announcedIn}
-use Rattle.receiver.specs.State.{violationNumber, isErrno, failureIn, withFailureIn, normalizeIn, towardsErrorIn, advanceNormal, advanceIn}
+use Rattle.states.specs.State.{violationNumber}
 use Rattle.receiver.specs.declared.announcement.Announced.{Announced}
 use Rattle.receiver.specs.declared.announcement.Announced.the-variants as announcement
-use Rattle.receiver.specs.declared.state.Failure.{Failure}
-use Rattle.receiver.specs.declared.state.Failure.the-variants.{Io, Protocol}
-use Rattle.receiver.specs.declared.state.OperationalState.{OperationalState}
-use Rattle.receiver.specs.declared.state.OperationalState.the-variants.{Normal, Draining, Terminated}
-
--- ---- reasons
-is-errno : (f : Failure) (k : ℕ) → isErrno f k ≡ true → f ≡ Io k
-is-errno (Io e) k h = ap Io (eqb-true e k h)
-is-errno (Protocol v) k h = let z : _≡_ {A = ℕ} 0 1 = cc in absurd (omega arith)
-
-is-other : (f : Failure) (k : ℕ) → isErrno f k ≡ false → f ≢ Io k
-is-other (Io e) k h p = let z : e ≡ k = cc in eqb-false e k h z
-is-other (Protocol v) k h p = let z : _≡_ {A = ℕ} 0 1 = cc in omega arith
-
-pub reason-rule : (c e : Failure) → Reason c e (towardsErrorIn c e)
-unfolding towardsErrorIn
-reason-rule c e = by (isErrno c 32) refl (isErrno e 32) refl
-  where
-    by : (x : Bool) → isErrno c 32 ≡ x → (y : Bool) → isErrno e 32 ≡ y → Reason c e (cond x (cond y c e) c)
-    by true p true q = rw (is-errno c 32 p, is-errno e 32 q) end-and-end
-    by true p false q = rw (is-errno c 32 p) (end-gives-way (is-other e 32 q))
-    by false p true q = rw (is-errno e 32 q) (error-and-end (is-other c 32 p))
-    by false p false q = error-stays (is-other c 32 p) (is-other e 32 q)
-
--- ---- states
-pub normalized : (s : OperationalState) → Normalized s (normalizeIn s)
-unfolding normalizeIn
-normalized Normal = calmed normal
-normalized (Draining f) = by (isErrno f 11) refl
-  where
-    by : (x : Bool) → isErrno f 11 ≡ x → Normalized (Draining f) (cond x Normal (Draining f))
-    by true p = rw (is-errno f 11 p) (calmed blocked-draining)
-    by false p = drains f (is-other f 11 p)
-normalized (Terminated f) = by (isErrno f 11) refl
-  where
-    by : (x : Bool) → isErrno f 11 ≡ x → Normalized (Terminated f) (cond x Normal (Terminated f))
-    by true p = rw (is-errno f 11 p) (calmed blocked-terminated)
-    by false p = ends f (is-other f 11 p)
-
-by-normalized : (s to x y : OperationalState) → Normalized s x → Normalized to y → Advanced s to (advanceNormal x y)
-by-normalized s to _ _ (calmed h) (calmed k) = calm-by-calm h k
-by-normalized s to _ _ (calmed h) (drains e k) = calm-by-draining h k
-by-normalized s to _ _ (calmed h) (ends e k) = calm-by-terminated h k
-by-normalized s to _ _ (ends c h) k = terminated-stays h
-by-normalized s to _ _ (drains c h) (calmed k) = draining-stays h k
-by-normalized s to _ _ (drains c h) (drains e k) = draining-by-draining h k (reason-rule c e)
-by-normalized s to _ _ (drains c h) (ends e k) = draining-by-terminated h k (reason-rule c e)
-
-pub advance-rule : (s to : OperationalState) → Advanced s to (advanceIn s to)
-advance-rule s to = by-normalized s to (normalizeIn s) (normalizeIn to) (normalized s) (normalized to)
-
-pub holds-rule : (s : OperationalState) → Holds s (failureIn s)
-holds-rule Normal = holds-none
-holds-rule (Draining f) = draining-holds
-holds-rule (Terminated f) = terminated-holds
-
-pub carries-rule : (s : OperationalState) (f : Failure) → Carries s f (withFailureIn s f)
-carries-rule Normal f = normal-carries-none
-carries-rule (Draining c) f = draining-carries
-carries-rule (Terminated c) f = terminated-carries
-
-pub errno-rule : (f : Failure) (k : ℕ) → (isErrno f k ≡ true → f ≡ Io k) × (f ≡ Io k → isErrno f k ≡ true)
-errno-rule f k = (is-errno f k, λ e. ap (λ (x : Failure). isErrno x k) e ∙ eq-eqb k k refl)
+use Rattle.states.specs.declared.state.Failure.the-variants.{Io, Protocol}
 
 -- ---- batches
 pub batch-rule : (p : ℕ) → p ≢ 0 → Batch p (min 128 p)

@@ -1,38 +1,10 @@
 -- What each public call says, in the order of the paper: whatever its attached contract allows is this definition of its arguments.
 use mathlib.Core.Path.{refl}
 use Rattle.modular.proofs.Saying.{Says, Decides, says-decides}
-use Rattle.sched.specs.Refusal.{packed}
-use Rattle.receiver.specs.Answer.{interruptedOf, receivedOf, sentOf, shutOf}
 use Rattle.receiver.specs.Call.{beginReadOf, beginServiceOf, beginShutdownOf, answeredOf, overOf, retriesOf}
 use Rattle.receiver.specs.Receiver.{receiverOf}
-use Rattle.receiver.specs.Refusal.{numberOf, valuesOf}
-use Rattle.receiver.specs.State.{violationNumber, isErrno, failureOf, withFailureOf, withPotentialFailureOf, normalizeOf, advanceOf, normalizeFailureOf, towardsErrorOf}
 use Rattle.receiver.proofs.receiver.ReceiverState.new.Kinds as ReceiverState-new-kinds
 use Rattle.receiver.proofs.receiver.ReceiverState.new.Reads as ReceiverState-new
-use Rattle.receiver.proofs.state.OperationalState.failure.Kinds as failure-kinds
-use Rattle.receiver.proofs.state.OperationalState.failure.Reads as failure
-use Rattle.receiver.proofs.state.OperationalState.with_failure.Kinds as with-failure-kinds
-use Rattle.receiver.proofs.state.OperationalState.with_failure.Reads as with-failure
-use Rattle.receiver.proofs.state.OperationalState.with_potential_failure.Kinds as with-potential-failure-kinds
-use Rattle.receiver.proofs.state.OperationalState.with_potential_failure.Reads as with-potential-failure
-use Rattle.receiver.proofs.state.OperationalState.normalize.Kinds as OperationalState-normalize-kinds
-use Rattle.receiver.proofs.state.OperationalState.normalize.Reads as OperationalState-normalize
-use Rattle.receiver.proofs.state.OperationalState.advance_state_towards_termination.Kinds as advance-state-towards-termination-kinds
-use Rattle.receiver.proofs.state.OperationalState.advance_state_towards_termination.Reads as advance-state-towards-termination
-use Rattle.receiver.proofs.state.Failure.normalize.Kinds as Failure-normalize-kinds
-use Rattle.receiver.proofs.state.Failure.normalize.Reads as Failure-normalize
-use Rattle.receiver.proofs.state.Failure.advance_failure_towards_error.Kinds as advance-failure-towards-error-kinds
-use Rattle.receiver.proofs.state.Failure.advance_failure_towards_error.Reads as advance-failure-towards-error
-use Rattle.receiver.proofs.state.Failure.is_errno.Kinds as is-errno-kinds
-use Rattle.receiver.proofs.state.Failure.is_errno.Reads as is-errno
-use Rattle.receiver.proofs.answer.Answer.is_interruption.Kinds as is-interruption-kinds
-use Rattle.receiver.proofs.answer.Answer.is_interruption.Reads as is-interruption
-use Rattle.receiver.proofs.answer.Answer.received.Kinds as received-kinds
-use Rattle.receiver.proofs.answer.Answer.received.Reads as received
-use Rattle.receiver.proofs.answer.Answer.sent.Kinds as sent-kinds
-use Rattle.receiver.proofs.answer.Answer.sent.Reads as sent
-use Rattle.receiver.proofs.answer.Answer.shut.Kinds as shut-kinds
-use Rattle.receiver.proofs.answer.Answer.shut.Reads as shut
 use Rattle.receiver.proofs.call.Call.begin_read.Kinds as begin-read-kinds
 use Rattle.receiver.proofs.call.Call.begin_read.Reads as begin-read
 use Rattle.receiver.proofs.call.Call.begin_service.Kinds as begin-service-kinds
@@ -45,53 +17,10 @@ use Rattle.receiver.proofs.call.Call.is_over.Kinds as is-over-kinds
 use Rattle.receiver.proofs.call.Call.is_over.Reads as is-over
 use Rattle.receiver.proofs.call.Call.retries.Kinds as retries-kinds
 use Rattle.receiver.proofs.call.Call.retries.Reads as retries
-use Rattle.receiver.proofs.refusal.Refusal.number.Kinds as Refusal-number-kinds
-use Rattle.receiver.proofs.refusal.Refusal.number.Reads as Refusal-number
-use Rattle.receiver.proofs.refusal.Refusal.values.Kinds as values-kinds
-use Rattle.receiver.proofs.refusal.Refusal.values.Reads as values
-use Rattle.receiver.proofs.state.Violation.number.Kinds as Violation-number-kinds
-use Rattle.receiver.proofs.state.Violation.number.Reads as Violation-number
 
--- ---- making one, and the states
+-- ---- making one
 pub ReceiverState-new-says : Says 0 ReceiverState-new-kinds.ps ReceiverState-new-kinds.r ReceiverState-new.Learnt (λ κs a. receiverOf (a .0))
 ReceiverState-new-says κs a z ws p = p
-
-pub failure-says : Says 0 failure-kinds.ps failure-kinds.r failure.Learnt (λ κs a. failureOf (a .0))
-failure-says κs a z ws p = p
-
-pub with-failure-says : Says 0 with-failure-kinds.ps with-failure-kinds.r with-failure.Learnt (λ κs a. withFailureOf (a .0) (a .1 .0))
-with-failure-says κs a z ws p = p
-
-pub with-potential-failure-says : Says 0 with-potential-failure-kinds.ps with-potential-failure-kinds.r with-potential-failure.Learnt (λ κs a. withPotentialFailureOf (a .0) (a .1 .0))
-with-potential-failure-says κs a z ws p = p
-
-pub OperationalState-normalize-says : Says 0 OperationalState-normalize-kinds.ps OperationalState-normalize-kinds.r OperationalState-normalize.Learnt (λ κs a. normalizeOf (a .0))
-OperationalState-normalize-says κs a z ws p = p
-
-pub advance-state-towards-termination-says : Says 0 advance-state-towards-termination-kinds.ps advance-state-towards-termination-kinds.r advance-state-towards-termination.Learnt (λ κs a. advanceOf (a .0) (a .1 .0))
-advance-state-towards-termination-says κs a z ws p = p
-
-pub Failure-normalize-says : Says 0 Failure-normalize-kinds.ps Failure-normalize-kinds.r Failure-normalize.Learnt (λ κs a. normalizeFailureOf (a .0))
-Failure-normalize-says κs a z ws p = p
-
-pub advance-failure-towards-error-says : Says 0 advance-failure-towards-error-kinds.ps advance-failure-towards-error-kinds.r advance-failure-towards-error.Learnt (λ κs a. towardsErrorOf (a .0) (a .1 .0))
-advance-failure-towards-error-says κs a z ws p = p
-
-pub is-errno-says : Says 0 is-errno-kinds.ps is-errno-kinds.r is-errno.Learnt (λ κs a. isErrno (a .0) (a .1 .0))
-is-errno-says κs a z ws p = p
-
--- ---- the socket's answers, each at its place
-pub is-interruption-says : Says 0 is-interruption-kinds.ps is-interruption-kinds.r is-interruption.Learnt (λ κs a. interruptedOf (a .0))
-is-interruption-says κs a z ws p = p
-
-pub received-says : Says 0 received-kinds.ps received-kinds.r received.Learnt (λ κs a. receivedOf (a .1 .0) (a .0))
-received-says κs a z ws p = p
-
-pub sent-says : Says 0 sent-kinds.ps sent-kinds.r sent.Learnt (λ κs a. sentOf (a .1 .0) (a .0))
-sent-says κs a z ws p = p
-
-pub shut-says : Says 0 shut-kinds.ps shut-kinds.r shut.Learnt (λ κs a. shutOf (a .0))
-shut-says κs a z ws p = p
 
 -- ---- the machine
 pub begin-read-says : Says 0 begin-read-kinds.ps begin-read-kinds.r begin-read.Learnt (λ κs a. beginReadOf (a .0) (a .1 .0) (a .1 .1 .0) (a .1 .1 .1 .0))
@@ -111,16 +40,6 @@ is-over-says κs a z ws p = p
 
 pub retries-says : Says 0 retries-kinds.ps retries-kinds.r retries.Learnt (λ κs a. retriesOf (a .0) (a .1 .0))
 retries-says κs a z ws p = p
-
--- ---- refusals and violations in numbers
-pub Refusal-number-says : Says 0 Refusal-number-kinds.ps Refusal-number-kinds.r Refusal-number.Learnt (λ κs a. numberOf (a .0))
-Refusal-number-says κs a z ws p = p
-
-pub values-says : Says 0 values-kinds.ps values-kinds.r values.Learnt (λ κs a. packed (valuesOf (a .0)))
-values-says κs a z ws p = p
-
-pub Violation-number-says : Says 0 Violation-number-kinds.ps Violation-number-kinds.r Violation-number.Learnt (λ κs a. violationNumber (a .0))
-Violation-number-says κs a z ws p = p
 
 -- so each decides its outcome; for instance
 answered-decided : Decides 1 answered-kinds.ps answered-kinds.r answered.Learnt

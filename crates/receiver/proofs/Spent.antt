@@ -5,16 +5,16 @@ use mathlib.Core.Bool.{Bool, cond, true, false}
 use native.Mathlib.Omega.{arith}
 use lib.Dec.{eqb, leb}
 use borrow.Author.Tests.{eqb-true}
-use Rattle.receiver.specs.Answer.{isSent, isFailed, interruptedOf, receivedOf, sentOf, shutOf}
-use Rattle.receiver.specs.State.{fitsErrno}
+use Rattle.states.specs.Answer.{isSent, isFailed, interruptedOf, receivedOf, sentOf, shutOf}
+use Rattle.states.specs.State.{fitsErrno}
 use Rattle.receiver.specs.Handed.{sentBy}
-use Rattle.receiver.specs.declared.answer.Answer.{Answer}
-use Rattle.receiver.specs.declared.answer.Received.{Received}
-use Rattle.receiver.specs.declared.answer.Received.the-variants as received
-use Rattle.receiver.specs.declared.answer.Sent.{Sent}
-use Rattle.receiver.specs.declared.answer.Sent.the-variants as sent
-use Rattle.receiver.specs.declared.answer.Shut.{Shut}
-use Rattle.receiver.specs.declared.answer.Shut.the-variants as shut
+use Rattle.states.specs.declared.answer.Answer.{Answer}
+use Rattle.states.specs.declared.answer.Received.{Received}
+use Rattle.states.specs.declared.answer.Received.the-variants as received
+use Rattle.states.specs.declared.answer.Sent.{Sent}
+use Rattle.states.specs.declared.answer.Sent.the-variants as sent
+use Rattle.states.specs.declared.answer.Shut.{Shut}
+use Rattle.states.specs.declared.answer.Shut.the-variants as shut
 
 -- ---- what an answer sends, by what it says at its place
 module _ (a : Answer) where

@@ -9,16 +9,16 @@ use lib.Dec.{eqb}
 use borrow.Author.Tests.{eq-eqb, ne-eqb}
 use Rattle.sched.specs.declared.scheduler.RingBufferScheduler.{RingBufferScheduler}
 use Rattle.sched.specs.Scheduler.{dataIn}
-use Rattle.receiver.specs.Receiver.{readOutcome, failedOutcome, doneOutcome}
+use Rattle.receiver.specs.Receiver.{readOutcome, failedOutcome}
 use Rattle.receiver.specs.Call.{outcomeIn}
 use Rattle.receiver.specs.Cases.{Meets, none-met, is-told, is-dropped, ComesTo, told-so, dropped-to, Closes, is-normal, shut-before, asks, Flushes, none-pending, sends, Serves, failed-before, flushes, Advances, TakesSent, none-went, some-went, send-blocks, send-fails, TakesShut, is-shut, is-not, HandsOut, a-part, all-of-it, goes-on, is-drained, Chunk, TakesReceived, announces, header-violates, byte-violates, receive-blocks, receive-fails}
 use Rattle.receiver.specs.Handed.{wholeBy, wholeIn, comingTo}
 use Rattle.receiver.specs.Promise.{body, Announces, accepted}
-use Rattle.receiver.specs.declared.answer.Received.{Received}
-use Rattle.receiver.specs.declared.answer.Received.the-variants as received
-use Rattle.receiver.specs.declared.answer.Sent.{Sent}
-use Rattle.receiver.specs.declared.answer.Sent.the-variants as sent
-use Rattle.receiver.specs.declared.answer.Shut.{Shut}
+use Rattle.states.specs.declared.answer.Received.{Received}
+use Rattle.states.specs.declared.answer.Received.the-variants as received
+use Rattle.states.specs.declared.answer.Sent.{Sent}
+use Rattle.states.specs.declared.answer.Sent.the-variants as sent
+use Rattle.states.specs.declared.answer.Shut.{Shut}
 use Rattle.receiver.specs.declared.call.Call.{Call}
 use Rattle.receiver.specs.declared.call.Ending.{Ending}
 use Rattle.receiver.specs.declared.call.Ending.the-variants.{Dropped, Told}
@@ -28,10 +28,10 @@ use Rattle.receiver.specs.declared.receiver.Came.{Came}
 use Rattle.receiver.specs.declared.receiver.Came.the-variants as came
 use Rattle.receiver.specs.declared.receiver.Outcome.{Outcome}
 use Rattle.receiver.specs.declared.receiver.ReceiverState.{ReceiverState}
-use Rattle.receiver.specs.declared.state.Failure.{Failure}
-use Rattle.receiver.specs.declared.state.Failure.the-variants.{Io}
-use Rattle.receiver.specs.declared.state.OperationalState.{OperationalState}
-use Rattle.receiver.specs.declared.state.PotentialFailure.{PotentialFailure}
+use Rattle.states.specs.declared.state.Failure.{Failure}
+use Rattle.states.specs.declared.state.Failure.the-variants.{Io}
+use Rattle.states.specs.declared.state.OperationalState.{OperationalState}
+use Rattle.states.specs.declared.state.PotentialFailure.{PotentialFailure}
 
 -- ---- outcomes
 -- an ending comes to its own outcome, or to a failure that it tells

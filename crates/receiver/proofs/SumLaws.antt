@@ -11,14 +11,14 @@ use Rattle.receiver.specs.Receiver.{failedOutcome, doneOutcome}
 use Rattle.receiver.specs.Call.{outcomeIn, isOver}
 use Rattle.receiver.specs.Cases.{TakesSent, none-went, some-went, send-blocks, send-fails, TakesShut, is-shut, is-not, BeginsRead, is-terminated, none-asked, awaits, holds-data, BeginsService, BeginsShutdown, Interrupts, TakesIn}
 use Rattle.receiver.specs.Handed.{sentBy, wholeIn, comingTo}
-use Rattle.receiver.specs.Promise.{SaysReceived, a-byte, closed, receive-failed, no-receive, SaysSent, so-many, send-failed, no-send, SaysShut, done, shutdown-failed, no-shutdown}
-use Rattle.receiver.specs.declared.answer.Answer.{Answer}
-use Rattle.receiver.specs.declared.answer.Received.{Received}
-use Rattle.receiver.specs.declared.answer.Received.the-variants as received
-use Rattle.receiver.specs.declared.answer.Sent.{Sent}
-use Rattle.receiver.specs.declared.answer.Sent.the-variants as sent
-use Rattle.receiver.specs.declared.answer.Shut.{Shut}
-use Rattle.receiver.specs.declared.answer.Shut.the-variants as shut
+use Rattle.states.specs.Promise.{SaysReceived, a-byte, closed, receive-failed, no-receive, SaysSent, so-many, send-failed, no-send, SaysShut, done, shutdown-failed, no-shutdown}
+use Rattle.states.specs.declared.answer.Answer.{Answer}
+use Rattle.states.specs.declared.answer.Received.{Received}
+use Rattle.states.specs.declared.answer.Received.the-variants as received
+use Rattle.states.specs.declared.answer.Sent.{Sent}
+use Rattle.states.specs.declared.answer.Sent.the-variants as sent
+use Rattle.states.specs.declared.answer.Shut.{Shut}
+use Rattle.states.specs.declared.answer.Shut.the-variants as shut
 use Rattle.receiver.specs.declared.call.Call.{Call}
 use Rattle.receiver.specs.declared.call.Ending.{Ending}
 use Rattle.receiver.specs.declared.call.Ending.the-variants.{Dropped, Told}

@@ -1,6 +1,5 @@
 -- The tests before every call of the receiver: 1 to 5, then 9 where the ring is looked at, then 12 with place 0 where a stored errno
 -- does not fit.
-use Prim.Native.Nat.{ℕ}
 use mathlib.Core.Bool.{Bool, true, false}
 use Rattle.sched.specs.declared.scheduler.Checked.{Checked}
 use Rattle.sched.specs.declared.scheduler.Checked.the-variants as checked
@@ -10,13 +9,13 @@ use Rattle.copies.specs.declared.Ready.{Ready}
 use Rattle.copies.specs.declared.Ready.the-variants as ready
 use Rattle.copies.specs.declared.Refusal.the-variants.{Scheduler}
 use Rattle.copies.specs.Copies.{readyOf}
-use Rattle.receiver.specs.State.{fitsState}
+use Rattle.states.specs.State.{fitsState}
 use Rattle.receiver.specs.declared.admission.Admission.{Admission}
 use Rattle.receiver.specs.declared.admission.Admission.the-variants.{Passed, Refused}
 use Rattle.receiver.specs.declared.admission.Memory.{Memory}
 use Rattle.receiver.specs.declared.admission.Memory.the-variants.{Of, None}
 use Rattle.receiver.specs.declared.receiver.ReceiverState.{ReceiverState}
-use Rattle.receiver.specs.declared.refusal.Refusal.the-variants.{Copy, Misfit}
+use Rattle.states.specs.declared.refusal.Refusal.the-variants.{Copy, Misfit}
 
 -- 1 to 5
 abbrev pub soundReady : Checked → Ready

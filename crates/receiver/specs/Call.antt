@@ -9,8 +9,8 @@ use lib.ListN.{length}
 use Rattle.sched.specs.declared.scheduler.RingBufferScheduler.{RingBufferScheduler}
 use Rattle.sched.specs.Scheduler.{IsSound, dataIn}
 use Rattle.receiver.specs.Admission.{admissionOf}
-use Rattle.receiver.specs.Answer.{interruptedOf, receivedOf, sentOf, shutOf}
-use Rattle.receiver.specs.State.{failureIn, isErrno, advanceIn}
+use Rattle.states.specs.Answer.{interruptedOf, receivedOf, sentOf, shutOf}
+use Rattle.states.specs.State.{failureIn, isErrno, advanceIn}
 use Rattle.receiver.specs.Receiver.{readOutcome, failedOutcome, doneOutcome, withScheduler, withState, withPending, withShutdown, batchIn, bySent, byteIn, handedOut}
 use Rattle.receiver.specs.declared.admission.Admission.{Admission}
 use Rattle.receiver.specs.declared.admission.Admission.the-variants as admission
@@ -18,11 +18,11 @@ use Rattle.receiver.specs.declared.admission.Memory.{Memory}
 use Rattle.receiver.specs.declared.admission.Memory.the-variants as memory
 use Rattle.receiver.specs.declared.announcement.Announced.{Announced}
 use Rattle.receiver.specs.declared.announcement.Announced.the-variants as announced
-use Rattle.receiver.specs.declared.answer.Answer.{Answer}
-use Rattle.receiver.specs.declared.answer.Received.{Received}
-use Rattle.receiver.specs.declared.answer.Received.the-variants as received
-use Rattle.receiver.specs.declared.answer.Shut.{Shut}
-use Rattle.receiver.specs.declared.answer.Shut.the-variants as shut
+use Rattle.states.specs.declared.answer.Answer.{Answer}
+use Rattle.states.specs.declared.answer.Received.{Received}
+use Rattle.states.specs.declared.answer.Received.the-variants as received
+use Rattle.states.specs.declared.answer.Shut.{Shut}
+use Rattle.states.specs.declared.answer.Shut.the-variants as shut
 use Rattle.receiver.specs.declared.call.Call.{Call}
 use Rattle.receiver.specs.declared.call.Ending.{Ending}
 use Rattle.receiver.specs.declared.call.Ending.the-variants.{Dropped, Told}
@@ -32,14 +32,13 @@ use Rattle.receiver.specs.declared.call.Step.{Step}
 use Rattle.receiver.specs.declared.call.Step.the-variants as step
 use Rattle.receiver.specs.declared.receiver.Outcome.{Outcome}
 use Rattle.receiver.specs.declared.receiver.ReceiverState.{ReceiverState}
-use Rattle.receiver.specs.declared.refusal.Refusal.{Refusal}
-use Rattle.receiver.specs.declared.refusal.Refusal.the-variants.{Misfit, PendingFull}
-use Rattle.receiver.specs.declared.state.Failure.{Failure}
-use Rattle.receiver.specs.declared.state.Failure.the-variants.{Io}
-use Rattle.receiver.specs.declared.state.OperationalState.{OperationalState}
-use Rattle.receiver.specs.declared.state.OperationalState.the-variants.{Normal, Draining, Terminated}
-use Rattle.receiver.specs.declared.state.PotentialFailure.{PotentialFailure}
-use Rattle.receiver.specs.declared.state.PotentialFailure.the-variants.{Some, None}
+use Rattle.states.specs.declared.refusal.Refusal.the-variants.{Misfit, PendingFull}
+use Rattle.states.specs.declared.state.Failure.{Failure}
+use Rattle.states.specs.declared.state.Failure.the-variants.{Io}
+use Rattle.states.specs.declared.state.OperationalState.{OperationalState}
+use Rattle.states.specs.declared.state.OperationalState.the-variants.{Normal, Draining, Terminated}
+use Rattle.states.specs.declared.state.PotentialFailure.{PotentialFailure}
+use Rattle.states.specs.declared.state.PotentialFailure.the-variants.{Some, None}
 
 abbrev pub call : ReceiverState → RingBufferScheduler → Phase → Call
 call q s p = record { receiver = q; source = s; phase = p }

@@ -5,21 +5,23 @@ use mathlib.Core.Path.{_≡_}
 use mathlib.Core.Bool.{Bool, true, false}
 use mathlib.Core.List.{List}
 use mathlib.Core.Logic.{_≢_, _⊎_}
+use Rattle.states.specs.Promise.{Numbered}
 use Rattle.sched.specs.declared.operation.OperationType.the-variants.{Read}
 use Rattle.sched.specs.declared.scheduler.RingBufferScheduler.{RingBufferScheduler}
 use Rattle.sched.specs.Promise.{ReadBy, WrittenBy}
 use Rattle.sched.specs.Scheduler.{dataIn, offsetIn}
 use Rattle.copies.specs.Promises.{numberAt}
-use Rattle.receiver.specs.Promise.{AByte, SaysReceived, SaysSent, SaysShut, Advanced, Holds, Batch, Said, body, violates, Announces}
+use Rattle.states.specs.Promise.{AByte, SaysReceived, SaysSent, SaysShut, Advanced, Holds}
+use Rattle.receiver.specs.Promise.{Batch, Said, body, violates, Announces}
 use Rattle.receiver.specs.declared.admission.Memory.{Memory}
 use Rattle.receiver.specs.declared.admission.Memory.the-variants as memory
-use Rattle.receiver.specs.declared.answer.Answer.{Answer}
-use Rattle.receiver.specs.declared.answer.Received.{Received}
-use Rattle.receiver.specs.declared.answer.Received.the-variants as received
-use Rattle.receiver.specs.declared.answer.Sent.{Sent}
-use Rattle.receiver.specs.declared.answer.Sent.the-variants as sent
-use Rattle.receiver.specs.declared.answer.Shut.{Shut}
-use Rattle.receiver.specs.declared.answer.Shut.the-variants as shut
+use Rattle.states.specs.declared.answer.Answer.{Answer}
+use Rattle.states.specs.declared.answer.Received.{Received}
+use Rattle.states.specs.declared.answer.Received.the-variants as received
+use Rattle.states.specs.declared.answer.Sent.{Sent}
+use Rattle.states.specs.declared.answer.Sent.the-variants as sent
+use Rattle.states.specs.declared.answer.Shut.{Shut}
+use Rattle.states.specs.declared.answer.Shut.the-variants as shut
 use Rattle.receiver.specs.declared.call.Call.{Call}
 use Rattle.receiver.specs.declared.call.Ending.{Ending}
 use Rattle.receiver.specs.declared.call.Ending.the-variants.{Dropped, Told}
@@ -30,14 +32,13 @@ use Rattle.receiver.specs.declared.call.Step.the-variants as step
 use Rattle.receiver.specs.declared.receiver.Came.the-variants as came
 use Rattle.receiver.specs.declared.receiver.Outcome.{Outcome}
 use Rattle.receiver.specs.declared.receiver.ReceiverState.{ReceiverState}
-use Rattle.receiver.specs.declared.state.Failure.{Failure}
-use Rattle.receiver.specs.declared.state.Failure.the-variants.{Io, Protocol}
-use Rattle.receiver.specs.declared.state.OperationalState.{OperationalState}
-use Rattle.receiver.specs.declared.state.OperationalState.the-variants.{Normal, Draining, Terminated}
-use Rattle.receiver.specs.declared.state.PotentialFailure.{PotentialFailure}
-use Rattle.receiver.specs.declared.state.PotentialFailure.the-variants.{Some, None}
-use Rattle.receiver.specs.declared.state.Violation.{Violation}
-use Rattle.receiver.specs.declared.state.Violation.the-variants.{InvalidChunkAnnouncement, ControlOverflow, UnknownHeader, InvalidChunkLength}
+use Rattle.states.specs.declared.state.Failure.{Failure}
+use Rattle.states.specs.declared.state.Failure.the-variants.{Io, Protocol}
+use Rattle.states.specs.declared.state.OperationalState.{OperationalState}
+use Rattle.states.specs.declared.state.OperationalState.the-variants.{Normal, Draining, Terminated}
+use Rattle.states.specs.declared.state.PotentialFailure.{PotentialFailure}
+use Rattle.states.specs.declared.state.PotentialFailure.the-variants.{Some, None}
+use Rattle.states.specs.declared.state.Violation.{Violation}
 
 abbrev a-record : RingBufferScheduler → OperationalState → ℕ → Bool → ReceiverState
 a-record s st pending issued = record { scheduler = s; state = st; «pending_ack_count» = pending; «notification_socket_shutdown_issued» = issued }
@@ -129,12 +130,6 @@ pub record Chunk (s : RingBufferScheduler) (n : ℕ) (u : RingBufferScheduler) :
   pub begun : RingBufferScheduler
   pub beginning : ReadBy headed 8 begun
   pub filling : WrittenBy begun n u
-
-pub data Numbered : Violation → ℕ → Type 0 where
-  violation-1 : Numbered InvalidChunkAnnouncement 1
-  violation-2 : Numbered ControlOverflow 2
-  violation-3 : Numbered UnknownHeader 3
-  violation-4 : Numbered InvalidChunkLength 4
 
 module _ (q : ReceiverState) (s : RingBufferScheduler) (ring : List ℕ) (asked : ℕ) where
   -- the number in the eight cells from the read offset on, in the ring of this length

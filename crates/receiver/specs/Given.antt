@@ -4,22 +4,21 @@ use Prim.Native.Nat.{ℕ, _-_, _^_, _<_}
 use mathlib.Core.Path.{_≡_}
 use mathlib.Core.Logic.{_≢_}
 use mathlib.Core.List.{List, [], _∷_}
-use lib.ListN.{length}
 use Rattle.sched.specs.declared.scheduler.RingBufferScheduler.{RingBufferScheduler}
 use Rattle.sched.specs.Given.{Given}
 use Rattle.copies.specs.Given.{Verdict, verdict, GivenCopy}
 use Rattle.receiver.specs.Call.{looksAt, resumedOf}
-use Rattle.receiver.specs.Promise.{Stored, SaysReceived, SaysSent, SaysShut}
+use Rattle.states.specs.Promise.{Stored, SaysReceived, SaysSent, SaysShut}
 use Rattle.receiver.specs.Receiver.{batchIn}
-use Rattle.receiver.specs.Refusal.{numberOf, valuesOf}
+use Rattle.states.specs.Refusal.{numberOf, valuesOf}
 use Rattle.receiver.specs.declared.admission.Admission.{Admission}
 use Rattle.receiver.specs.declared.admission.Admission.the-variants as admission
 use Rattle.receiver.specs.declared.admission.Memory.{Memory}
 use Rattle.receiver.specs.declared.admission.Memory.the-variants as memory
-use Rattle.receiver.specs.declared.answer.Answer.{Answer}
-use Rattle.receiver.specs.declared.answer.Received.the-variants as received
-use Rattle.receiver.specs.declared.answer.Sent.the-variants as sent
-use Rattle.receiver.specs.declared.answer.Shut.the-variants as shut
+use Rattle.states.specs.declared.answer.Answer.{Answer}
+use Rattle.states.specs.declared.answer.Received.the-variants as received
+use Rattle.states.specs.declared.answer.Sent.the-variants as sent
+use Rattle.states.specs.declared.answer.Shut.the-variants as shut
 use Rattle.receiver.specs.declared.call.Call.{Call}
 use Rattle.receiver.specs.declared.call.Phase.{Phase}
 use Rattle.receiver.specs.declared.call.Phase.the-variants as phase
@@ -28,8 +27,8 @@ use Rattle.receiver.specs.declared.call.Step.the-variants as step
 use Rattle.receiver.specs.declared.receiver.ReceiverAnswer.{ReceiverAnswer}
 use Rattle.receiver.specs.declared.receiver.ReceiverAnswer.the-variants as made
 use Rattle.receiver.specs.declared.receiver.ReceiverState.{ReceiverState}
-use Rattle.receiver.specs.declared.state.OperationalState.{OperationalState}
-use Rattle.receiver.specs.declared.state.OperationalState.the-variants.{Normal, Draining, Terminated}
+use Rattle.states.specs.declared.state.OperationalState.{OperationalState}
+use Rattle.states.specs.declared.state.OperationalState.the-variants.{Normal, Draining, Terminated}
 
 -- ---- before every call
 -- 1 to 5; and 9, of a ring of so many bytes that is looked at

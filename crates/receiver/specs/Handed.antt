@@ -6,9 +6,9 @@ use mathlib.Core.Bool.{cond}
 use lib.Dec.{eqb}
 use Rattle.sched.specs.Scheduler.{dataIn}
 use Rattle.receiver.specs.Receiver.{doneOutcome}
-use Rattle.receiver.specs.Answer.{isSent}
+use Rattle.states.specs.Answer.{isSent}
 use Rattle.receiver.specs.Call.{outcomeIn, answeredOf}
-use Rattle.receiver.specs.declared.answer.Answer.{Answer}
+use Rattle.states.specs.declared.answer.Answer.{Answer}
 use Rattle.receiver.specs.declared.call.Call.{Call}
 use Rattle.receiver.specs.declared.call.Phase.{Phase}
 use Rattle.receiver.specs.declared.call.Phase.the-variants.{Receive, Send, Shutdown, Finished}

@@ -1,6 +1,3 @@
-pub mod Refusal
-pub mod State
-pub mod Answer
 pub mod Admission
 pub mod Receiver
 pub mod Call

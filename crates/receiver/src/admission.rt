@@ -2,7 +2,7 @@
 ghost use mathlib.Core.Path.{_≡_};
 ghost use Rattle.receiver.specs.Admission.{readyWith, admissionOf};
 use crate::receiver::ReceiverState;
-use crate::refusal::Refusal;
+use states::Refusal;
 use copies::Ready;
 use copies::demand_ring_memory;
 use sched::Checked;

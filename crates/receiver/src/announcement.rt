@@ -9,8 +9,8 @@ ghost use Rattle.receiver.specs.Receiver.{headerIn, announcedIn, byteIn}
 use crate::sound::max_operation_len;
 use crate::sound::read_off;
 use crate::sound::register;
-use crate::state::Failure;
-use crate::state::Violation;
+use states::Failure;
+use states::Violation;
 use sched::OperationType;
 use sched::RingBufferScheduler;
 

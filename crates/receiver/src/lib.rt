@@ -2,17 +2,10 @@
 // host begins one, does what it waits for, and hands in the answer. `driver` hands in a whole run of answers at once.
 mod admission;
 mod announcement;
-mod answer;
 mod call;
 mod receiver;
-mod refusal;
 mod sound;
-mod state;
 
-pub use answer::Answer;
-pub use answer::Received;
-pub use answer::Sent;
-pub use answer::Shut;
 pub use call::Call;
 pub use call::Ending;
 pub use call::Phase;
@@ -22,11 +15,3 @@ pub use receiver::Ended;
 pub use receiver::Outcome;
 pub use receiver::ReceiverAnswer;
 pub use receiver::ReceiverState;
-pub use refusal::Refusal;
-pub use state::Failure;
-pub use state::FailureAnswer;
-pub use state::OperationalState;
-pub use state::PotentialFailure;
-pub use state::PotentialFailureAnswer;
-pub use state::StateAnswer;
-pub use state::Violation;

@@ -1,9 +1,9 @@
 // The receiver's record, and what its calls come to.
 ghost use mathlib.Core.Path.{_≡_};
 ghost use Rattle.receiver.specs.Receiver.{readOutcome, doneOutcome, failedOutcome, receiverOf};
-use crate::refusal::Refusal;
-use crate::state::Failure;
-use crate::state::OperationalState;
+use states::Refusal;
+use states::Failure;
+use states::OperationalState;
 use sched::Checked;
 use sched::RingBufferScheduler;
 

@@ -31,9 +31,9 @@ use denote.Struct.Laws as LL
 use borrow.Table.Elements.{at, length-take-le, cut-app, join-app}
 use borrow.Rule.Array.Share.{room-take}
 use borrow.Rule.Slice.Shared.{Sh, parts-cells}
-use Rattle.receiver.specs.declared.answer.Answer.{Answer}
-use Rattle.receiver.proofs.answer.Answer as T
-use Rattle.receiver.proofs.answer.Answer.Laws as T′
+use Rattle.states.specs.declared.answer.Answer.{Answer}
+use Rattle.states.proofs.answer.Answer as T
+use Rattle.states.proofs.answer.Answer.Laws as T′
 
 abbrev pub R : RattleType
 R = T.the-row

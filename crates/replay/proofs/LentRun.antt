@@ -35,7 +35,7 @@ use denote.Triple.Statement.{Contract, Triple}
 use denote.Triple.Walked.{says, needs, Stays, stay-dropped, walkOf, goes-dropped, ends-at, walked, walk-meets}
 use denote.Exit.{yes}
 use Rattle.copies.proofs.Calls.{asks, calls}
-use Rattle.receiver.specs.declared.answer.Answer.{Answer}
+use Rattle.states.specs.declared.answer.Answer.{Answer}
 use Rattle.receiver.specs.declared.receiver.Ended.{Ended}
 use Rattle.receiver.specs.declared.receiver.ReceiverState.{ReceiverState}
 use Rattle.driver.proofs.Begun.{answering}

@@ -2,7 +2,7 @@
 ghost use Prim.Native.Nat.{_≤_};
 ghost use lib.ListN.{take};
 ghost use Rattle.driver.specs.Run.{ServiceLeaves, ShutdownLeaves, ReadImplLeaves, ReadLeaves};
-use receiver::Answer;
+use states::Answer;
 use receiver::Ended;
 use receiver::ReceiverState;
 

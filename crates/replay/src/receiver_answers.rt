@@ -2,16 +2,16 @@
 use crate::line::Line;
 use crate::sched_answers;
 use receiver::Came;
-use receiver::Failure;
-use receiver::FailureAnswer;
-use receiver::OperationalState;
+use states::Failure;
+use states::FailureAnswer;
+use states::OperationalState;
 use receiver::Outcome;
-use receiver::PotentialFailure;
-use receiver::PotentialFailureAnswer;
+use states::PotentialFailure;
+use states::PotentialFailureAnswer;
 use receiver::ReceiverAnswer;
 use receiver::ReceiverState;
-use receiver::Refusal;
-use receiver::StateAnswer;
+use states::Refusal;
+use states::StateAnswer;
 
 pub fn refused(asked: Line, e: Refusal) -> Line {
     sched_answers::with_values(asked.push(e.number()), e.values())

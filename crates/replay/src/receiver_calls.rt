@@ -3,7 +3,7 @@ use crate::lent_run;
 use crate::lent_run::MOST;
 use crate::line::Line;
 use crate::receiver_answers;
-use receiver::Answer;
+use states::Answer;
 use receiver::Ended;
 use receiver::ReceiverState;
 

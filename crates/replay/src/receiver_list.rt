@@ -3,11 +3,11 @@ use crate::line::Line;
 use crate::receiver_answers;
 use crate::receiver_calls;
 use crate::sched_list::scheduler;
-use receiver::Failure;
-use receiver::OperationalState;
-use receiver::PotentialFailure;
+use states::Failure;
+use states::OperationalState;
+use states::PotentialFailure;
 use receiver::ReceiverState;
-use receiver::Violation;
+use states::Violation;
 
 pub fn by_code(line: Line) -> Line {
     let op = line.numbers[0];

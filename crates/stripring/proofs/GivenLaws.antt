@@ -52,26 +52,26 @@ use Rattle.ends.specs.declared.reading_end.Got.the-variants as got
 use Rattle.ends.specs.declared.reading_end.ReadCounterAnswer.{ReadCounterAnswer}
 use Rattle.ends.specs.declared.reading_end.ReadCounterAnswer.the-variants as read
 use Rattle.receiver.specs.Given.{ofReceiver, ofStep}
-use Rattle.receiver.specs.Promise.{FailureFits, Stored}
-use Rattle.receiver.specs.State.{fitsFailure, fitsState}
+use Rattle.states.specs.Promise.{FailureFits, Stored}
+use Rattle.states.specs.State.{fitsFailure, fitsState}
 use Rattle.receiver.specs.declared.call.Step.{Step}
 use Rattle.receiver.specs.declared.call.Step.the-variants as step
 use Rattle.receiver.specs.declared.receiver.Ended.{Ended}
 use Rattle.receiver.specs.declared.receiver.Ended.the-variants as ended
 use Rattle.receiver.specs.declared.receiver.ReceiverAnswer.{ReceiverAnswer}
 use Rattle.receiver.specs.declared.receiver.ReceiverAnswer.the-variants as made
-use Rattle.receiver.specs.declared.refusal.Refusal.the-variants.{Misfit}
-use Rattle.receiver.specs.declared.state.Failure.{Failure}
-use Rattle.receiver.specs.declared.state.FailureAnswer.{FailureAnswer}
-use Rattle.receiver.specs.declared.state.FailureAnswer.the-variants as failure
-use Rattle.receiver.specs.declared.state.OperationalState.{OperationalState}
-use Rattle.receiver.specs.declared.state.PotentialFailure.{PotentialFailure}
-use Rattle.receiver.specs.declared.state.PotentialFailure.the-variants.{Some, None}
-use Rattle.receiver.specs.declared.state.PotentialFailureAnswer.{PotentialFailureAnswer}
-use Rattle.receiver.specs.declared.state.PotentialFailureAnswer.the-variants as potential
-use Rattle.receiver.specs.declared.state.StateAnswer.{StateAnswer}
-use Rattle.receiver.specs.declared.state.StateAnswer.the-variants as state
-use Rattle.receiver.proofs.AnswerSays.{failure-fits, state-fits}
+use Rattle.states.specs.declared.refusal.Refusal.the-variants.{Misfit}
+use Rattle.states.specs.declared.state.Failure.{Failure}
+use Rattle.states.specs.declared.state.FailureAnswer.{FailureAnswer}
+use Rattle.states.specs.declared.state.FailureAnswer.the-variants as failure
+use Rattle.states.specs.declared.state.OperationalState.{OperationalState}
+use Rattle.states.specs.declared.state.PotentialFailure.{PotentialFailure}
+use Rattle.states.specs.declared.state.PotentialFailure.the-variants.{Some, None}
+use Rattle.states.specs.declared.state.PotentialFailureAnswer.{PotentialFailureAnswer}
+use Rattle.states.specs.declared.state.PotentialFailureAnswer.the-variants as potential
+use Rattle.states.specs.declared.state.StateAnswer.{StateAnswer}
+use Rattle.states.specs.declared.state.StateAnswer.the-variants as state
+use Rattle.states.proofs.AnswerSays.{failure-fits, state-fits}
 use Rattle.stripring.specs.Back.{RefusalStands}
 use Rattle.stripring.specs.Block.{flatLayout, flatFillState, flatBlockAnswer, flatBlocks}
 use Rattle.stripring.specs.Call.{flatStep}

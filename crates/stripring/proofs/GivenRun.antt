@@ -8,16 +8,16 @@ use lib.ListN.{length}
 use Rattle.copies.specs.Given.{Verdict, verdict, Exactly}
 use Rattle.receiver.specs.Call.{answeredOf, isOver, retriesIn}
 use Rattle.receiver.specs.Given.{GivenAnswer, ofStep}
-use Rattle.receiver.specs.Refusal.{numberOf, valuesOf}
-use Rattle.receiver.specs.declared.answer.Answer.{Answer}
+use Rattle.states.specs.Refusal.{numberOf, valuesOf}
+use Rattle.states.specs.declared.answer.Answer.{Answer}
 use Rattle.receiver.specs.declared.call.Call.{Call}
 use Rattle.receiver.specs.declared.call.Phase.{Phase}
 use Rattle.receiver.specs.declared.call.Phase.the-variants as phase
 use Rattle.receiver.specs.declared.call.Step.{Step}
 use Rattle.receiver.specs.declared.call.Step.the-variants as step
-use Rattle.receiver.specs.declared.refusal.Refusal.{Refusal}
-use Rattle.receiver.proofs.AnswerSays.{interrupted-says}
-use Rattle.receiver.proofs.Given.{number-of}
+use Rattle.states.specs.declared.refusal.Refusal.{Refusal}
+use Rattle.states.proofs.AnswerSays.{interrupted-says}
+use Rattle.states.proofs.PromisedValues.{number-of}
 use Rattle.receiver.proofs.GivenAnswer.{answered-given}
 use Rattle.driver.specs.Drive.{drivenFrom, drivenOf, endedBy, endedOf, waitedOf}
 use Rattle.driver.specs.declared.drive.Driven.{Driven}

@@ -10,24 +10,24 @@ use Rattle.sched.specs.Given.{Given}
 use Rattle.copies.specs.Given.{Exactly}
 use Rattle.receiver.specs.Call.{answeredOf, beginReadOf, beginServiceOf, beginShutdownOf}
 use Rattle.receiver.specs.Given.{GivenAdmission, GivenAnswer, GivenRead}
-use Rattle.receiver.specs.Promise.{FailureFits, Stored}
+use Rattle.states.specs.Promise.{FailureFits, Stored}
 use Rattle.receiver.specs.Receiver.{receiverOf}
 use Rattle.driver.specs.Drive.{endOfStreamIn}
 use Rattle.driver.specs.Run.{serviceOf, shutdownOf, readOf, readImplDelivery, readDelivery}
-use Rattle.receiver.specs.State.{advanceOf, failureOf, normalizeFailureOf, normalizeOf, towardsErrorOf, withFailureOf, withPotentialFailureOf}
+use Rattle.states.specs.State.{advanceOf, failureOf, normalizeFailureOf, normalizeOf, towardsErrorOf, withFailureOf, withPotentialFailureOf}
 use Rattle.receiver.specs.declared.admission.Memory.the-variants as memory
-use Rattle.receiver.specs.declared.answer.Answer.{Answer}
+use Rattle.states.specs.declared.answer.Answer.{Answer}
 use Rattle.receiver.specs.declared.receiver.Ended.{Ended}
 use Rattle.receiver.specs.declared.receiver.Ended.the-variants as ended
 use Rattle.receiver.specs.declared.receiver.ReceiverState.{ReceiverState}
-use Rattle.receiver.specs.declared.state.OperationalState.{OperationalState}
-use Rattle.receiver.specs.declared.state.OperationalState.the-variants.{Normal}
-use Rattle.receiver.specs.declared.state.PotentialFailure.{PotentialFailure}
-use Rattle.receiver.specs.declared.state.PotentialFailure.the-variants.{Some, None}
+use Rattle.states.specs.declared.state.OperationalState.{OperationalState}
+use Rattle.states.specs.declared.state.OperationalState.the-variants.{Normal}
+use Rattle.states.specs.declared.state.PotentialFailure.{PotentialFailure}
+use Rattle.states.specs.declared.state.PotentialFailure.the-variants.{Some, None}
 use Rattle.receiver.proofs.Given as given
 use Rattle.receiver.proofs.GivenAnswer as answer
 use Rattle.receiver.proofs.Promised as promised
-use Rattle.receiver.proofs.PromisedStates as states
+use Rattle.states.proofs.PromisedStates as states
 use Rattle.driver.proofs.Promised.{delivered}
 use Rattle.stripring.specs.Call.{callAt}
 use Rattle.stripring.specs.Failure.{failureAt, potentialFailureAt}

@@ -3,11 +3,11 @@ use Prim.Native.Nat.{ℕ}
 use mathlib.Core.Path.{_≡_, ap}
 use mathlib.Core.List.{List}
 use Rattle.modular.proofs.Saying.{Says}
-use Rattle.receiver.specs.declared.answer.Answer.{Answer}
+use Rattle.states.specs.declared.answer.Answer.{Answer}
 use Rattle.receiver.specs.Call.{answeredOf, beginReadOf, beginServiceOf, beginShutdownOf}
 use Rattle.receiver.specs.Receiver.{receiverOf}
 use Rattle.driver.specs.Run.{serviceOf, shutdownOf, readImplDelivery, readDelivery}
-use Rattle.receiver.specs.State.{advanceOf, failureOf, normalizeFailureOf, normalizeOf, towardsErrorOf, withFailureOf, withPotentialFailureOf}
+use Rattle.states.specs.State.{advanceOf, failureOf, normalizeFailureOf, normalizeOf, towardsErrorOf, withFailureOf, withPotentialFailureOf}
 use Rattle.stripring.specs.Call.{callAt, flatStep}
 use Rattle.stripring.specs.Failure.{failureAt, flatFailureAnswer, flatPotentialFailure, potentialFailureAt}
 use Rattle.stripring.specs.Receiver.{flatEnded, flatReceiverAnswer, receiverAt}

@@ -62,7 +62,7 @@ use Rattle.ends.specs.declared.writing_end.WrittenCounterAnswer.{WrittenCounter
 use Rattle.ends.specs.declared.writing_end.WrittenCounterAnswer.the-variants as written
 use Rattle.ends.specs.declared.writing_end.Wrote.{Wrote}
 use Rattle.ends.specs.declared.writing_end.Wrote.the-variants as wrote
-use Rattle.receiver.proofs.Given.{number-of as receiver-refusal-some}
+use Rattle.states.proofs.PromisedValues.{number-of as receiver-refusal-some}
 use Rattle.receiver.specs.Refusal as of-receiver
 use Rattle.receiver.specs.declared.call.Step.{Step}
 use Rattle.receiver.specs.declared.call.Step.the-variants as step
@@ -70,15 +70,15 @@ use Rattle.receiver.specs.declared.receiver.Ended.{Ended}
 use Rattle.receiver.specs.declared.receiver.Ended.the-variants as ended
 use Rattle.receiver.specs.declared.receiver.ReceiverAnswer.{ReceiverAnswer}
 use Rattle.receiver.specs.declared.receiver.ReceiverAnswer.the-variants as made
-use Rattle.receiver.specs.declared.refusal.Refusal as receiver
-use Rattle.receiver.specs.declared.refusal.Refusal.the-variants.{Copy, AnswerMissing, Misfit, PendingFull}
-use Rattle.receiver.specs.declared.state.FailureAnswer.{FailureAnswer}
-use Rattle.receiver.specs.declared.state.FailureAnswer.the-variants as failure
-use Rattle.receiver.specs.declared.state.PotentialFailure.the-variants as perhaps
-use Rattle.receiver.specs.declared.state.PotentialFailureAnswer.{PotentialFailureAnswer}
-use Rattle.receiver.specs.declared.state.PotentialFailureAnswer.the-variants as potential
-use Rattle.receiver.specs.declared.state.StateAnswer.{StateAnswer}
-use Rattle.receiver.specs.declared.state.StateAnswer.the-variants as state
+use Rattle.states.specs.declared.refusal.Refusal as receiver
+use Rattle.states.specs.declared.refusal.Refusal.the-variants.{Copy, AnswerMissing, Misfit, PendingFull}
+use Rattle.states.specs.declared.state.FailureAnswer.{FailureAnswer}
+use Rattle.states.specs.declared.state.FailureAnswer.the-variants as failure
+use Rattle.states.specs.declared.state.PotentialFailure.the-variants as perhaps
+use Rattle.states.specs.declared.state.PotentialFailureAnswer.{PotentialFailureAnswer}
+use Rattle.states.specs.declared.state.PotentialFailureAnswer.the-variants as potential
+use Rattle.states.specs.declared.state.StateAnswer.{StateAnswer}
+use Rattle.states.specs.declared.state.StateAnswer.the-variants as state
 use Rattle.stripring.specs.Back.{RefusalStands, Sent, resultAt, inFull, nextAt, SchedulerSent, NumberSent, BoolSent, LayoutSent, FillSent, BlockSent, BlocksSent, NextSent, OperationsSent, StartsSent, RangesSent, CopySent, WritingEndSent, WroteSent, WrittenSent, ReadingEndSent, GotSent, ReadSent, FailureSent, PotentialSent, StateSent, ReceiverSent, StepSent, EndedSent, StartsStand}
 use Rattle.stripring.specs.Block.{flatLayout, flatFillState, flatBlockAnswer, flatBlocks}
 use Rattle.stripring.specs.Call.{flatStep}

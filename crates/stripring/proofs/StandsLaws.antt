@@ -26,7 +26,7 @@ use Rattle.sched.specs.declared.operation.OperationType.{OperationType}
 use Rattle.sched.specs.declared.operation.OperationType.the-variants.{Read, Write}
 use Rattle.sched.specs.declared.operation.ScheduledOperation.{ScheduledOperation}
 use Rattle.sched.specs.declared.scheduler.RingBufferScheduler.{RingBufferScheduler}
-use Rattle.receiver.specs.State.{violationNumber}
+use Rattle.states.specs.State.{violationNumber}
 use Rattle.receiver.specs.declared.call.Call.{Call}
 use Rattle.receiver.specs.declared.call.Ending.{Ending}
 use Rattle.receiver.specs.declared.call.Ending.the-variants.{Dropped, Told}
@@ -36,12 +36,12 @@ use Rattle.receiver.specs.declared.receiver.Came.{Came}
 use Rattle.receiver.specs.declared.receiver.Came.the-variants as came
 use Rattle.receiver.specs.declared.receiver.Outcome.{Outcome}
 use Rattle.receiver.specs.declared.receiver.ReceiverState.{ReceiverState}
-use Rattle.receiver.specs.declared.state.Failure.{Failure}
-use Rattle.receiver.specs.declared.state.Failure.the-variants.{Io, Protocol}
-use Rattle.receiver.specs.declared.state.OperationalState.{OperationalState}
-use Rattle.receiver.specs.declared.state.OperationalState.the-variants.{Normal, Draining, Terminated}
-use Rattle.receiver.specs.declared.state.Violation.{Violation}
-use Rattle.receiver.specs.declared.state.Violation.the-variants.{InvalidChunkAnnouncement, ControlOverflow, UnknownHeader, InvalidChunkLength}
+use Rattle.states.specs.declared.state.Failure.{Failure}
+use Rattle.states.specs.declared.state.Failure.the-variants.{Io, Protocol}
+use Rattle.states.specs.declared.state.OperationalState.{OperationalState}
+use Rattle.states.specs.declared.state.OperationalState.the-variants.{Normal, Draining, Terminated}
+use Rattle.states.specs.declared.state.Violation.{Violation}
+use Rattle.states.specs.declared.state.Violation.the-variants.{InvalidChunkAnnouncement, ControlOverflow, UnknownHeader, InvalidChunkLength}
 use Rattle.stripring.specs.Block.{blockTypeNumber, bitNumber, layoutNumber, fillStateNumber, flatBlock}
 use Rattle.stripring.specs.Call.{noEnding, noCall, flatEnding, flatPhase, flatCall}
 use Rattle.stripring.specs.Counter.{boolNumber}

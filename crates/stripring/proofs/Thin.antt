@@ -19,7 +19,7 @@ use Rattle.copies.proofs.read.Reads as lib-read
 use Rattle.copies.proofs.write.Kinds as lib-write-kinds
 use Rattle.copies.proofs.write.Reads as lib-write
 use Rattle.driver.specs.Drive.{Delivery, delivery}
-use Rattle.receiver.specs.declared.answer.Answer.{Answer}
+use Rattle.states.specs.declared.answer.Answer.{Answer}
 use Rattle.receiver.specs.declared.receiver.Ended.{Ended}
 use Rattle.driver.specs.Run.{ServiceLeaves, ShutdownLeaves, ReadImplLeaves, ReadLeaves}
 use Rattle.stripring.specs.Copy.{CopyAnswerLeft, flatCopied}

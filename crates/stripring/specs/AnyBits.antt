@@ -10,10 +10,10 @@ use Rattle.sched.specs.declared.operation.OperationType.the-variants.{Write}
 use Rattle.receiver.specs.declared.call.Ending.the-variants.{Told}
 use Rattle.receiver.specs.declared.call.Phase.the-variants.{Finished}
 use Rattle.receiver.specs.declared.receiver.Came.the-variants.{Failed}
-use Rattle.receiver.specs.declared.state.Failure.the-variants.{Protocol}
-use Rattle.receiver.specs.declared.state.OperationalState.the-variants.{Terminated}
-use Rattle.receiver.specs.declared.state.PotentialFailure.the-variants.{Some}
-use Rattle.receiver.specs.declared.state.Violation.the-variants.{InvalidChunkLength}
+use Rattle.states.specs.declared.state.Failure.the-variants.{Protocol}
+use Rattle.states.specs.declared.state.OperationalState.the-variants.{Terminated}
+use Rattle.states.specs.declared.state.PotentialFailure.the-variants.{Some}
+use Rattle.states.specs.declared.state.Violation.the-variants.{InvalidChunkLength}
 use Rattle.stripring.specs.Block.{blockTypeAt, bitAt}
 use Rattle.stripring.specs.Call.{endingAt, phaseAt}
 use Rattle.stripring.specs.Diff.{diffAt}

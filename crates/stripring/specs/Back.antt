@@ -35,10 +35,10 @@ use Rattle.ends.specs.declared.writing_end.WritingEnd as ends-writing
 use Rattle.receiver.specs.declared.call.Call as receiver-call
 use Rattle.receiver.specs.declared.receiver.Outcome as receiver-outcome
 use Rattle.receiver.specs.declared.receiver.ReceiverState.{ReceiverState}
-use Rattle.receiver.specs.declared.state.Failure as receiver-failure
-use Rattle.receiver.specs.declared.state.OperationalState.{OperationalState}
-use Rattle.receiver.specs.declared.state.PotentialFailure.{PotentialFailure}
-use Rattle.receiver.specs.declared.state.PotentialFailure.the-variants as potential
+use Rattle.states.specs.declared.state.Failure as receiver-failure
+use Rattle.states.specs.declared.state.OperationalState.{OperationalState}
+use Rattle.states.specs.declared.state.PotentialFailure.{PotentialFailure}
+use Rattle.states.specs.declared.state.PotentialFailure.the-variants as potential
 use Rattle.stripring.specs.Block.{blockTypeAt, bitAt}
 use Rattle.stripring.specs.Call.{callAt}
 use Rattle.stripring.specs.Failure.{failureAt, potentialFailureAt}

@@ -2,17 +2,17 @@
 use Prim.Native.Nat.{ℕ}
 use mathlib.Core.Bool.{cond}
 use lib.Dec.{eqb}
-use Rattle.receiver.specs.State.{violationNumber}
-use Rattle.receiver.specs.declared.state.Failure as receiver-failure
-use Rattle.receiver.specs.declared.state.Failure.the-variants.{Io, Protocol}
-use Rattle.receiver.specs.declared.state.FailureAnswer as receiver-answer
-use Rattle.receiver.specs.declared.state.FailureAnswer.the-variants as answer
-use Rattle.receiver.specs.declared.state.PotentialFailure.{PotentialFailure}
-use Rattle.receiver.specs.declared.state.PotentialFailure.the-variants.{Some, None}
-use Rattle.receiver.specs.declared.state.PotentialFailureAnswer as receiver-potential
-use Rattle.receiver.specs.declared.state.PotentialFailureAnswer.the-variants as potential
-use Rattle.receiver.specs.declared.state.Violation.{Violation}
-use Rattle.receiver.specs.declared.state.Violation.the-variants.{InvalidChunkAnnouncement, ControlOverflow, UnknownHeader, InvalidChunkLength}
+use Rattle.states.specs.State.{violationNumber}
+use Rattle.states.specs.declared.state.Failure as receiver-failure
+use Rattle.states.specs.declared.state.Failure.the-variants.{Io, Protocol}
+use Rattle.states.specs.declared.state.FailureAnswer as receiver-answer
+use Rattle.states.specs.declared.state.FailureAnswer.the-variants as answer
+use Rattle.states.specs.declared.state.PotentialFailure.{PotentialFailure}
+use Rattle.states.specs.declared.state.PotentialFailure.the-variants.{Some, None}
+use Rattle.states.specs.declared.state.PotentialFailureAnswer as receiver-potential
+use Rattle.states.specs.declared.state.PotentialFailureAnswer.the-variants as potential
+use Rattle.states.specs.declared.state.Violation.{Violation}
+use Rattle.states.specs.declared.state.Violation.the-variants.{InvalidChunkAnnouncement, ControlOverflow, UnknownHeader, InvalidChunkLength}
 use Rattle.stripring.specs.declared.flat.Failure.{Failure}
 use Rattle.stripring.specs.declared.flat.FailureAnswer.{FailureAnswer}
 use Rattle.stripring.specs.declared.flat.PotentialFailureAnswer.{PotentialFailureAnswer}

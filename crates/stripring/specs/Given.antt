@@ -2,9 +2,9 @@
 -- tables of the libraries. A flat refusal is given so only then, and always then.
 use Prim.Native.Nat.{ℕ}
 use mathlib.Core.List.{List, [], _∷_}
-use Rattle.receiver.specs.Promise.{FailureFits}
-use Rattle.receiver.specs.declared.state.PotentialFailure.{PotentialFailure}
-use Rattle.receiver.specs.declared.state.PotentialFailure.the-variants.{Some, None}
+use Rattle.states.specs.Promise.{FailureFits}
+use Rattle.states.specs.declared.state.PotentialFailure.{PotentialFailure}
+use Rattle.states.specs.declared.state.PotentialFailure.the-variants.{Some, None}
 use Rattle.stripring.specs.Back.{RefusalStands}
 use Rattle.stripring.specs.declared.flat.Refusal.{Refusal}
 

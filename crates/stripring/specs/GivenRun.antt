@@ -7,8 +7,8 @@ use lib.ListN.{length}
 use Rattle.copies.specs.Given.{Verdict, verdict}
 use Rattle.receiver.specs.Call.{answeredOf}
 use Rattle.receiver.specs.Given.{GivenAnswer}
-use Rattle.receiver.specs.Refusal.{numberOf, valuesOf}
-use Rattle.receiver.specs.declared.answer.Answer.{Answer}
+use Rattle.states.specs.Refusal.{numberOf, valuesOf}
+use Rattle.states.specs.declared.answer.Answer.{Answer}
 use Rattle.receiver.specs.declared.call.Call.{Call}
 use Rattle.receiver.specs.declared.call.Phase.{Phase}
 use Rattle.receiver.specs.declared.call.Phase.the-variants as phase

@@ -74,16 +74,16 @@ use Rattle.receiver.specs.declared.receiver.Outcome.{Outcome}
 use Rattle.receiver.specs.declared.receiver.ReceiverAnswer.the-variants as made
 use Rattle.receiver.specs.declared.receiver.ReceiverAnswer.{ReceiverAnswer}
 use Rattle.receiver.specs.declared.receiver.ReceiverState.{ReceiverState}
-use Rattle.receiver.specs.declared.refusal.Refusal as receiver
-use Rattle.receiver.specs.declared.state.Failure.{Failure}
-use Rattle.receiver.specs.declared.state.FailureAnswer.the-variants as failure
-use Rattle.receiver.specs.declared.state.FailureAnswer.{FailureAnswer}
-use Rattle.receiver.specs.declared.state.OperationalState.{OperationalState}
-use Rattle.receiver.specs.declared.state.PotentialFailure.{PotentialFailure}
-use Rattle.receiver.specs.declared.state.PotentialFailureAnswer.the-variants as potential
-use Rattle.receiver.specs.declared.state.PotentialFailureAnswer.{PotentialFailureAnswer}
-use Rattle.receiver.specs.declared.state.StateAnswer.the-variants as state
-use Rattle.receiver.specs.declared.state.StateAnswer.{StateAnswer}
+use Rattle.states.specs.declared.refusal.Refusal as receiver
+use Rattle.states.specs.declared.state.Failure.{Failure}
+use Rattle.states.specs.declared.state.FailureAnswer.the-variants as failure
+use Rattle.states.specs.declared.state.FailureAnswer.{FailureAnswer}
+use Rattle.states.specs.declared.state.OperationalState.{OperationalState}
+use Rattle.states.specs.declared.state.PotentialFailure.{PotentialFailure}
+use Rattle.states.specs.declared.state.PotentialFailureAnswer.the-variants as potential
+use Rattle.states.specs.declared.state.PotentialFailureAnswer.{PotentialFailureAnswer}
+use Rattle.states.specs.declared.state.StateAnswer.the-variants as state
+use Rattle.states.specs.declared.state.StateAnswer.{StateAnswer}
 
 pub data Result (A : Type 0) : Type 0 where
   value : A → Result A

@@ -4,7 +4,7 @@ use Prim.Native.Nat.{ℕ}
 use mathlib.Core.List.{List}
 use Rattle.driver.specs.Drive.{Delivery}
 use Rattle.driver.specs.Run.{serviceOf, shutdownOf, readImplDelivery, readDelivery}
-use Rattle.receiver.specs.declared.answer.Answer.{Answer}
+use Rattle.states.specs.declared.answer.Answer.{Answer}
 use Rattle.stripring.specs.declared.flat.EndedAnswer.{EndedAnswer}
 use Rattle.stripring.specs.declared.flat.Receiver.{Receiver}
 use Rattle.stripring.specs.Receiver.{receiverAt, flatEnded}

@@ -41,12 +41,12 @@ use Rattle.receiver.specs.declared.receiver.Came.{Came}
 use Rattle.receiver.specs.declared.receiver.Came.the-variants as came
 use Rattle.receiver.specs.declared.receiver.Outcome as receiver-outcome
 use Rattle.receiver.specs.declared.receiver.ReceiverState.{ReceiverState}
-use Rattle.receiver.specs.declared.state.Failure as receiver-failure
-use Rattle.receiver.specs.declared.state.Failure.the-variants.{Io, Protocol}
-use Rattle.receiver.specs.declared.state.OperationalState.{OperationalState}
-use Rattle.receiver.specs.declared.state.OperationalState.the-variants.{Normal, Draining, Terminated}
-use Rattle.receiver.specs.declared.state.Violation.{Violation}
-use Rattle.receiver.specs.declared.state.Violation.the-variants.{InvalidChunkAnnouncement, ControlOverflow, UnknownHeader, InvalidChunkLength}
+use Rattle.states.specs.declared.state.Failure as receiver-failure
+use Rattle.states.specs.declared.state.Failure.the-variants.{Io, Protocol}
+use Rattle.states.specs.declared.state.OperationalState.{OperationalState}
+use Rattle.states.specs.declared.state.OperationalState.the-variants.{Normal, Draining, Terminated}
+use Rattle.states.specs.declared.state.Violation.{Violation}
+use Rattle.states.specs.declared.state.Violation.the-variants.{InvalidChunkAnnouncement, ControlOverflow, UnknownHeader, InvalidChunkLength}
 use Rattle.stripring.specs.declared.flat.Block.{Block}
 use Rattle.stripring.specs.declared.flat.Call.{Call}
 use Rattle.stripring.specs.declared.flat.Diff.{Diff}

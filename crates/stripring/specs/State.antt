@@ -1,10 +1,10 @@
 -- What a host's state stands for, and the flat forms of the answers that are one.
 use mathlib.Core.Bool.{cond}
 use lib.Dec.{eqb}
-use Rattle.receiver.specs.declared.state.OperationalState.{OperationalState}
-use Rattle.receiver.specs.declared.state.OperationalState.the-variants.{Normal, Draining, Terminated}
-use Rattle.receiver.specs.declared.state.StateAnswer as receiver-answer
-use Rattle.receiver.specs.declared.state.StateAnswer.the-variants as answer
+use Rattle.states.specs.declared.state.OperationalState.{OperationalState}
+use Rattle.states.specs.declared.state.OperationalState.the-variants.{Normal, Draining, Terminated}
+use Rattle.states.specs.declared.state.StateAnswer as receiver-answer
+use Rattle.states.specs.declared.state.StateAnswer.the-variants as answer
 use Rattle.stripring.specs.declared.flat.State.{State}
 use Rattle.stripring.specs.declared.flat.StateAnswer.{StateAnswer}
 use Rattle.stripring.specs.Failure.{failureAt, noFailure, flatFailure}

@@ -20,7 +20,7 @@ use crate::receiver_record::receiver_state;
 use crate::scheduler::flat_scheduler;
 use crate::scheduler::no_scheduler;
 use crate::scheduler::scheduler;
-use receiver::Answer;
+use states::Answer;
 
 fn ending(e: Ending) -> receiver::Ending
     ensures { λ r. ⌜ r ≡ endingAt e ⌝ }

@@ -1,14 +1,14 @@
 // Why a stream fails. Every call tests the failures that it is given.
 ghost use mathlib.Core.Path.{_≡_};
-ghost use Rattle.receiver.specs.State.{normalizeFailureOf, towardsErrorOf};
+ghost use Rattle.states.specs.State.{normalizeFailureOf, towardsErrorOf};
 ghost use Rattle.stripring.specs.Failure.{violationAt, failureAt, potentialFailureAt, noFailure, flatFailure, flatFailureAnswer, flatPotentialFailure};
 use crate::flat::Failure;
 use crate::flat::FailureAnswer;
 use crate::flat::PotentialFailureAnswer;
 use crate::flat::flat_receiver_refusal;
 use crate::flat::no_refusal;
-use receiver::PotentialFailure;
-use receiver::Violation;
+use states::PotentialFailure;
+use states::Violation;
 
 fn violation(number: u64) -> Violation
     ensures { λ r. ⌜ r ≡ violationAt number ⌝ }
@@ -25,13 +25,13 @@ fn violation(number: u64) -> Violation
     Violation::InvalidChunkLength
 }
 
-pub(crate) fn failure(f: Failure) -> receiver::Failure
+pub(crate) fn failure(f: Failure) -> states::Failure
     ensures { λ r. ⌜ r ≡ failureAt f ⌝ }
 {
     if f.kind == 0 {
-        return receiver::Failure::Io(f.value);
+        return states::Failure::Io(f.value);
     }
-    receiver::Failure::Protocol(violation(f.value))
+    states::Failure::Protocol(violation(f.value))
 }
 
 pub(crate) fn potential_failure(some: u64, f: Failure) -> PotentialFailure
@@ -49,38 +49,38 @@ pub(crate) fn no_failure() -> Failure
     Failure { kind: 0, value: 0 }
 }
 
-pub(crate) fn flat_failure(f: receiver::Failure) -> Failure
+pub(crate) fn flat_failure(f: states::Failure) -> Failure
     ensures { λ r. ⌜ r ≡ flatFailure f ⌝ }
 {
     match f {
-        receiver::Failure::Io(value) => Failure { kind: 0, value },
-        receiver::Failure::Protocol(v) => Failure {
+        states::Failure::Io(value) => Failure { kind: 0, value },
+        states::Failure::Protocol(v) => Failure {
             kind: 1,
             value: v.number(),
         },
     }
 }
 
-fn flat_failure_answer(a: receiver::FailureAnswer) -> FailureAnswer
+fn flat_failure_answer(a: states::FailureAnswer) -> FailureAnswer
     ensures { λ r. ⌜ r ≡ flatFailureAnswer a ⌝ }
 {
     match a {
-        receiver::FailureAnswer::Of(f) => FailureAnswer {
+        states::FailureAnswer::Of(f) => FailureAnswer {
             refusal: no_refusal(),
             failure: flat_failure(f),
         },
-        receiver::FailureAnswer::Refused(e) => FailureAnswer {
+        states::FailureAnswer::Refused(e) => FailureAnswer {
             refusal: flat_receiver_refusal(e),
             failure: no_failure(),
         },
     }
 }
 
-pub(crate) fn flat_potential_failure(a: receiver::PotentialFailureAnswer) -> PotentialFailureAnswer
+pub(crate) fn flat_potential_failure(a: states::PotentialFailureAnswer) -> PotentialFailureAnswer
     ensures { λ r. ⌜ r ≡ flatPotentialFailure a ⌝ }
 {
     match a {
-        receiver::PotentialFailureAnswer::Of(p) => match p {
+        states::PotentialFailureAnswer::Of(p) => match p {
             PotentialFailure::Some(f) => PotentialFailureAnswer {
                 refusal: no_refusal(),
                 some: 1,
@@ -92,7 +92,7 @@ pub(crate) fn flat_potential_failure(a: receiver::PotentialFailureAnswer) -> Pot
                 failure: no_failure(),
             },
         },
-        receiver::PotentialFailureAnswer::Refused(e) => PotentialFailureAnswer {
+        states::PotentialFailureAnswer::Refused(e) => PotentialFailureAnswer {
             refusal: flat_receiver_refusal(e),
             some: 0,
             failure: no_failure(),

@@ -347,7 +347,7 @@ pub(crate) fn flat_end_refusal(e: ends::Refusal) -> Refusal
     refusal_with(e.number(), e.values())
 }
 
-pub(crate) fn flat_receiver_refusal(e: receiver::Refusal) -> Refusal
+pub(crate) fn flat_receiver_refusal(e: states::Refusal) -> Refusal
     ensures { λ r. ⌜ r ≡ flatReceiverRefusal e ⌝ }
 {
     refusal_with(e.number(), e.values())

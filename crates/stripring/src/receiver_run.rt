@@ -4,7 +4,7 @@ use crate::flat::EndedAnswer;
 use crate::flat::Receiver;
 use crate::receiver_record::flat_ended;
 use crate::receiver_record::receiver_state;
-use receiver::Answer;
+use states::Answer;
 
 #[no_mangle]
 pub extern "C" fn stripring_receiver_read_with_fds(

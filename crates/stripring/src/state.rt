@@ -1,6 +1,6 @@
 // The states of the receiver. Every call tests the states and failures that it is given.
 ghost use mathlib.Core.Path.{_≡_};
-ghost use Rattle.receiver.specs.State.{failureOf, withFailureOf, withPotentialFailureOf, normalizeOf, advanceOf};
+ghost use Rattle.states.specs.State.{failureOf, withFailureOf, withPotentialFailureOf, normalizeOf, advanceOf};
 ghost use Rattle.stripring.specs.Failure.{failureAt, potentialFailureAt, flatPotentialFailure};
 ghost use Rattle.stripring.specs.State.{stateAt, noState, flatState, flatStateAnswer};
 use crate::failure::failure;
@@ -14,7 +14,7 @@ use crate::flat::State;
 use crate::flat::StateAnswer;
 use crate::flat::flat_receiver_refusal;
 use crate::flat::no_refusal;
-use receiver::OperationalState;
+use states::OperationalState;
 
 pub(crate) fn state(s: State) -> OperationalState
     ensures { λ r. ⌜ r ≡ stateAt s ⌝ }
@@ -55,15 +55,15 @@ pub(crate) fn flat_state(s: OperationalState) -> State
     }
 }
 
-fn flat_state_answer(a: receiver::StateAnswer) -> StateAnswer
+fn flat_state_answer(a: states::StateAnswer) -> StateAnswer
     ensures { λ r. ⌜ r ≡ flatStateAnswer a ⌝ }
 {
     match a {
-        receiver::StateAnswer::Of(s) => StateAnswer {
+        states::StateAnswer::Of(s) => StateAnswer {
             refusal: no_refusal(),
             state: flat_state(s),
         },
-        receiver::StateAnswer::Refused(e) => StateAnswer {
+        states::StateAnswer::Refused(e) => StateAnswer {
             refusal: flat_receiver_refusal(e),
             state: no_state(),
         },

@@ -48,14 +48,14 @@ use denote.Triple.Spec.{Meets, tripleOf}
 use denote.Triple.Table.{entered, cited}
 use denote.Triple.Walked.{says, Stays, stay-none-slice, stay-none, walkOf, goes-none-slice, goes-none, Walks, ends-at, walked, walk-meets}
 use denote.Exit.{yes}
-use Rattle.receiver.specs.declared.answer.Answer.{Answer}
+use Rattle.states.specs.declared.answer.Answer.{Answer}
 use Rattle.receiver.specs.declared.call.Step.{Step}
 use Rattle.driver.specs.declared.drive.Driven.{Driven}
 use Rattle.driver.specs.declared.drive.Fetched.{Fetched}
 use Rattle.driver.specs.declared.drive.Fetched.the-variants.{Got, Missing}
 use Rattle.driver.specs.Drive.{fetchedOf, overIn, retriesIn, answeredIn, driven, waitedOf, drivenFrom, drivenOf}
-use Rattle.receiver.proofs.answer.Answer as T
-use Rattle.receiver.proofs.answer.Answer.Laws as T′
+use Rattle.states.proofs.answer.Answer as T
+use Rattle.states.proofs.answer.Answer.Laws as T′
 use Rattle.driver.proofs.drive.Fetched as F
 use Rattle.driver.proofs.drive.Fetched.Laws as F′
 use Rattle.receiver.proofs.call.Step as K

@@ -40,7 +40,7 @@ use denote.Triple.Spec.{Meets, tripleOf}
 use denote.Triple.Table.{entered, cited}
 use denote.Triple.Walked.{says, Stays, stay-dropped, walkOf, goes-dropped, Walks, ends-at, walked, walk-meets}
 use denote.Exit.{yes}
-use Rattle.receiver.specs.declared.answer.Answer.{Answer}
+use Rattle.states.specs.declared.answer.Answer.{Answer}
 use Rattle.receiver.specs.declared.call.Step.{Step}
 use Rattle.driver.specs.declared.drive.Driven.{Driven}
 use Rattle.receiver.specs.declared.receiver.Ended.{Ended}

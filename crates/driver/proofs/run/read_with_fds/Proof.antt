@@ -25,7 +25,7 @@ use denote.Enum.Laws as EL
 use denote.Triple.Spec.{tripleOf}
 use denote.Triple.Statement.{Contract, Triple}
 use denote.Triple.Table.{entered, cited}
-use Rattle.receiver.specs.declared.answer.Answer.{Answer}
+use Rattle.states.specs.declared.answer.Answer.{Answer}
 use Rattle.receiver.specs.declared.receiver.Ended.{Ended}
 use Rattle.receiver.specs.declared.receiver.ReceiverState.{ReceiverState}
 use Rattle.driver.specs.Drive.{delivery, endOfStreamIn}

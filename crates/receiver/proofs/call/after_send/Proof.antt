@@ -2,7 +2,7 @@
 use Prim.Native.Nat.{ℕ}
 use mathlib.Core.Path.{sym, ap, _∙_}
 use Rattle.receiver.proofs.CallLaws.{sent-covered}
-use Rattle.receiver.specs.Answer.{sentOf}
+use Rattle.states.specs.Answer.{sentOf}
 use borrow.Author.Needs.{needs}
 use Rattle.receiver.proofs.call.after_send.Statement.{statement}
 use Rattle.receiver.proofs.call.after_send.Tie as tie

@@ -21,10 +21,10 @@ with-pending-requires : tie.Need-with-pending-requires
 with-pending-requires c κs = search needs
 
 returns : tie.Need-returns
-returns c = c .with-pending .ensures ∙ ap (λ (x : ReceiverState). withPending x ((c .before .before .before .before .before .args .q) .«pending_ack_count» + 1)) (c .before .before .before .before .with-scheduler .ensures) ∙ handed-last _ _ (sym (c .before .before .before .max-operation-len .ensures) ∙ c .before .before .if1 .taken)
+returns c = c .with-pending .ensures ∙ ap (λ (x : ReceiverState). withPending x ((c .before .before .before .before .before .args .q) .«pending_ack_count» + 1)) (c .before .before .before .before .with-scheduler .ensures) ∙ handed-last (c .before .before .before .before .before .args .q) (c .before .before .before .before .before .args .scheduler) (sym (c .before .before .before .max-operation-len .ensures) ∙ c .before .before .if1 .taken)
 
 returns-2 : tie.Need-returns-2
-returns-2 c = c .before .before .with-scheduler .ensures ∙ handed-on _ _ (λ z. c .if1 .left (c .before .max-operation-len .ensures ∙ z))
+returns-2 c = c .before .before .with-scheduler .ensures ∙ handed-on (c .before .before .before .args .q) (c .before .before .before .args .scheduler) (λ z. c .if1 .left (c .before .max-operation-len .ensures ∙ z))
 
 pub handed-out-spec : {M : Type 1} → statement M
 handed-out-spec =

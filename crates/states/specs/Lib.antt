@@ -1,0 +1,4 @@
+pub mod Refusal
+pub mod State
+pub mod Answer
+pub mod Promise

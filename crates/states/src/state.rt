@@ -1,0 +1,242 @@
+// The states of the receiver, and the failures in them. Every state and failure that is handed in is tested: an errno is a number
+// from 1 to 4095.
+ghost use mathlib.Core.Path.{_≡_};
+ghost use Rattle.states.specs.State.{violationNumber, fitsFailure, fitsState, failureIn, withFailureIn, isErrno, normalizeIn, towardsErrorIn, advanceIn, failureOf, withFailureOf, withPotentialFailureOf, normalizeOf, advanceOf, normalizeFailureOf, towardsErrorOf};
+use crate::refusal::Refusal;
+
+pub enum Violation {
+    InvalidChunkAnnouncement,
+    ControlOverflow,
+    UnknownHeader,
+    InvalidChunkLength,
+}
+
+impl Violation {
+    pub fn number(self) -> u64
+        ensures { λ r. ⌜ r ≡ violationNumber self ⌝ }
+    {
+        match self {
+            Violation::InvalidChunkAnnouncement => 1,
+            Violation::ControlOverflow => 2,
+            Violation::UnknownHeader => 3,
+            Violation::InvalidChunkLength => 4,
+        }
+    }
+}
+
+// Why a stream fails: an errno by its Linux number, or a violation of the protocol.
+pub enum Failure {
+    Io(u64),
+    Protocol(Violation),
+}
+
+pub enum OperationalState {
+    Normal,
+    Draining(Failure),
+    Terminated(Failure),
+}
+
+pub enum PotentialFailure {
+    Some(Failure),
+    None,
+}
+
+pub enum FailureAnswer {
+    Of(Failure),
+    Refused(Refusal),
+}
+
+pub enum PotentialFailureAnswer {
+    Of(PotentialFailure),
+    Refused(Refusal),
+}
+
+pub enum StateAnswer {
+    Of(OperationalState),
+    Refused(Refusal),
+}
+
+// The stored errno that does not fit: 12 with place 0.
+fn stored_misfit() -> Refusal
+    ensures { λ r. ⌜ r ≡ Refusal.Misfit 0 ⌝ }
+{
+    Refusal::Misfit { place: 0 }
+}
+
+impl Failure {
+    pub const WOULDBLOCK: u64 = 11;
+
+    pub const SHUTDOWN: u64 = 32;
+
+    // WOULDBLOCK and EAGAIN are one number on Linux, so a failure is normal as it is.
+    pub fn normalize(self) -> FailureAnswer
+        ensures { λ r. ⌜ r ≡ normalizeFailureOf self ⌝ }
+    {
+        if self.fits() {
+            return FailureAnswer::Of(self);
+        }
+        FailureAnswer::Refused(stored_misfit())
+    }
+
+    // The end of the stream gives way to a real error, and nothing else does.
+    pub fn advance_failure_towards_error(self, error: Failure) -> FailureAnswer
+        ensures { λ r. ⌜ r ≡ towardsErrorOf self error ⌝ }
+    {
+        if !self.fits() {
+            return FailureAnswer::Refused(stored_misfit());
+        }
+        if !error.fits() {
+            return FailureAnswer::Refused(stored_misfit());
+        }
+        FailureAnswer::Of(self.towards_error(error))
+    }
+
+    fn fits(self) -> bool
+        ensures { λ r. ⌜ r ≡ fitsFailure self ⌝ }
+    {
+        match self {
+            Failure::Io(e) => {
+                if e == 0 {
+                    return false;
+                }
+                e <= 4095
+            }
+            Failure::Protocol(_) => true,
+        }
+    }
+
+    pub fn is_errno(self, errno: u64) -> bool
+        ensures { λ r. ⌜ r ≡ isErrno self errno ⌝ }
+    {
+        match self {
+            Failure::Io(e) => e == errno,
+            Failure::Protocol(_) => false,
+        }
+    }
+
+    fn towards_error(self, error: Failure) -> Failure
+        ensures { λ r. ⌜ r ≡ towardsErrorIn self error ⌝ }
+    {
+        if self.is_errno(Failure::SHUTDOWN) {
+            return error;
+        }
+        self
+    }
+}
+
+impl OperationalState {
+    pub fn failure(self) -> PotentialFailureAnswer
+        ensures { λ r. ⌜ r ≡ failureOf self ⌝ }
+    {
+        if self.fits() {
+            return PotentialFailureAnswer::Of(self.cached_failure());
+        }
+        PotentialFailureAnswer::Refused(stored_misfit())
+    }
+
+    pub fn with_failure(self, reason: Failure) -> StateAnswer
+        ensures { λ r. ⌜ r ≡ withFailureOf self reason ⌝ }
+    {
+        if !self.fits() {
+            return StateAnswer::Refused(stored_misfit());
+        }
+        if !reason.fits() {
+            return StateAnswer::Refused(stored_misfit());
+        }
+        StateAnswer::Of(self.carrying(reason))
+    }
+
+    pub fn with_potential_failure(self, reason: PotentialFailure) -> StateAnswer
+        ensures { λ r. ⌜ r ≡ withPotentialFailureOf self reason ⌝ }
+    {
+        if !self.fits() {
+            return StateAnswer::Refused(stored_misfit());
+        }
+        match reason {
+            PotentialFailure::Some(f) => self.with_failure(f),
+            PotentialFailure::None => StateAnswer::Of(OperationalState::Normal),
+        }
+    }
+
+    // Turns WOULDBLOCK into Normal.
+    pub fn normalize(self) -> StateAnswer
+        ensures { λ r. ⌜ r ≡ normalizeOf self ⌝ }
+    {
+        if self.fits() {
+            return StateAnswer::Of(self.normal());
+        }
+        StateAnswer::Refused(stored_misfit())
+    }
+
+    // Everything only gets more terminal here.
+    pub fn advance_state_towards_termination(self, advanced: OperationalState) -> StateAnswer
+        ensures { λ r. ⌜ r ≡ advanceOf self advanced ⌝ }
+    {
+        if !self.fits() {
+            return StateAnswer::Refused(stored_misfit());
+        }
+        if !advanced.fits() {
+            return StateAnswer::Refused(stored_misfit());
+        }
+        StateAnswer::Of(self.advance(advanced))
+    }
+
+    pub fn fits(self) -> bool
+        ensures { λ r. ⌜ r ≡ fitsState self ⌝ }
+    {
+        match self {
+            OperationalState::Normal => true,
+            OperationalState::Draining(f) => f.fits(),
+            OperationalState::Terminated(f) => f.fits(),
+        }
+    }
+
+    pub fn cached_failure(self) -> PotentialFailure
+        ensures { λ r. ⌜ r ≡ failureIn self ⌝ }
+    {
+        match self {
+            OperationalState::Normal => PotentialFailure::None,
+            OperationalState::Draining(f) => PotentialFailure::Some(f),
+            OperationalState::Terminated(f) => PotentialFailure::Some(f),
+        }
+    }
+
+    // The same state with another failure; Normal has none.
+    fn carrying(self, reason: Failure) -> OperationalState
+        ensures { λ r. ⌜ r ≡ withFailureIn self reason ⌝ }
+    {
+        match self {
+            OperationalState::Normal => OperationalState::Normal,
+            OperationalState::Draining(_) => OperationalState::Draining(reason),
+            OperationalState::Terminated(_) => OperationalState::Terminated(reason),
+        }
+    }
+
+    fn normal(self) -> OperationalState
+        ensures { λ r. ⌜ r ≡ normalizeIn self ⌝ }
+    {
+        match self.cached_failure() {
+            PotentialFailure::Some(f) => {
+                if f.is_errno(Failure::WOULDBLOCK) {
+                    return OperationalState::Normal;
+                }
+                self
+            }
+            PotentialFailure::None => self,
+        }
+    }
+
+    pub fn advance(self, advanced: OperationalState) -> OperationalState
+        ensures { λ r. ⌜ r ≡ advanceIn self advanced ⌝ }
+    {
+        let to = advanced.normal();
+        match self.normal() {
+            OperationalState::Normal => to,
+            OperationalState::Terminated(f) => OperationalState::Terminated(f),
+            OperationalState::Draining(c) => match to.cached_failure() {
+                PotentialFailure::Some(e) => to.carrying(c.towards_error(e)),
+                PotentialFailure::None => OperationalState::Draining(c),
+            },
+        }
+    }
+}

@@ -1,25 +1,23 @@
 -- What is promised of the calls, in the words of `specs/Promise.antt`: every outcome that an attached contract allows keeps it.
 use Prim.Native.Nat.{ℕ, _+_, _-_, _^_, _<_, _≤_}
-use mathlib.Core.Path.{_≡_, refl, sym, ap, _∙_}
+use mathlib.Core.Path.{_≡_, sym, _∙_}
 use mathlib.Core.Bool.{true}
-use mathlib.Core.List.{List, [], _∷_, _++_, append-assoc}
-use lib.ListN.{length, take, drop, length-append, length-drop, take-append-drop}
-use lib.Seq.{drop-at}
+use mathlib.Core.List.{List}
+use lib.ListN.{length, drop}
 use borrow.Author.Tests.{leb-true, le-leb}
 use native.Mathlib.Omega.{arith}
 use contract.Lifetimes.{Lfts}
 use denote.Triple.Clauses.{Lasts, atExit}
-use borrow.Fn.Kinds.{Dens, resT, endedOf}
+use borrow.Fn.Kinds.{Dens, endedOf}
 use Rattle.modular.proofs.Saying.{Allows, Keeps}
 use Rattle.lines.specs.declared.cut.Took.{Took}
 use Rattle.lines.specs.declared.decimal.Number.{Number}
 use Rattle.lines.specs.declared.decimal.Number.the-variants as number
-use Rattle.lines.specs.Cut.{Taken, takeOf, reached}
-use Rattle.lines.specs.Decimal.{decimal, Front, some, none, numberFront, frontIn, numberIn, numberAt}
-use Rattle.lines.specs.Numeral.{Plain, Numeral}
-use Rattle.lines.specs.Promise.{Stops, Stands, Behind, there, no-room, Part, Held}
+use Rattle.lines.specs.Decimal.{decimal, numberAt}
+use Rattle.lines.specs.Numeral.{Numeral}
+use Rattle.lines.specs.Promise.{Stops, Stands, Behind, Part, Held}
 use Rattle.lines.specs.Text.{filled}
-use Rattle.lines.proofs.CutLaws.{Cut, cut-of, held-of}
+use Rattle.lines.proofs.CutLaws.{cut-of, held-of}
 use Rattle.lines.proofs.NumberLaws.{stands-number, number-stands, printed-stands}
 use Rattle.lines.proofs.NumeralLaws.{decimal-numeral}
 use Rattle.lines.proofs.Says.{number-at-says, put-decimal-says, put-says, has-room-says, take-line-says}

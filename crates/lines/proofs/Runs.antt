@@ -1,21 +1,20 @@
 -- Every run over the same input makes the same text, that of the input's lines: however the input is cut into pieces, and
 -- whenever text is written out. It takes calls that answer what the definitions say.
-use Prim.Native.Nat.{ℕ, _+_, _<_, _≤_, min}
+use Prim.Native.Nat.{ℕ, _+_, _<_, _≤_}
 use mathlib.Core.Path.{_≡_, refl, sym, ap, _∙_}
-use mathlib.Core.Bool.{Bool, true, false, cond}
+use mathlib.Core.Bool.{Bool, true, false}
 use mathlib.Core.List.{List, [], _∷_, _++_, append-assoc, append-nil}
-use mathlib.Core.Logic.{⊎-elim}
 use lib.Dec.{eqb}
 use lib.ListN.{length, take, drop, length-append, length-take, drop-of-length-le}
 use lib.Seq.{take-nil, drop-drop, drop-at}
 use native.Mathlib.Omega.{arith}
-use borrow.Author.Tests.{eqb-true, eqb-false, eq-eqb, ne-eqb}
+use borrow.Author.Tests.{eqb-true, eqb-false, ne-eqb}
 use Rattle.lines.specs.Answer.{textsOf, Step, isReady, stepOf, lastOf}
-use Rattle.lines.specs.Cut.{Taken, capped, bound, takeOf}
+use Rattle.lines.specs.Cut.{Taken, takeOf}
 use Rattle.lines.specs.Lines.{lastLines, linesFrom, linesOf, joined, Clean}
 use Rattle.lines.specs.Promise.{Part, feed, no-feed}
 use Rattle.lines.specs.Run.{Place, place, Moves, ends, steps, writes, Run, last, next, Start}
-use Rattle.lines.specs.Text.{Filled, filled, textIn, appendOf}
+use Rattle.lines.specs.Text.{Filled, textIn, appendOf}
 use Rattle.lines.proofs.AnswerLaws.{ready-long, ready-there, last-none, last-there, ready-whole, ready-part}
 use Rattle.lines.proofs.CutLaws.{InPlace, Holds, holds-place, Cut, cut, take-again, take-in-place}
 use Rattle.lines.proofs.TextLaws.{append-taken}

@@ -23,9 +23,6 @@ same-leb a b c d f g = go (leb a b) refl
     go true q = sym (le-leb c d (f (leb-true a b q)))
     go false q = sym (lt-leb c d (⊎-elim (λ h. h) (λ h. absurd (omega (arith, g h, leb-false a b q))) (lt-or-le d c)))
 
-pub room-is : (o : Filled) {w n : ℕ} {r v : Bool} → w ≡ n → r ≡ hasRoom w o → r ≡ v → hasRoom n o ≡ v
-room-is o p q e = ap (λ (k : ℕ). hasRoom k o) (sym p) ∙ sym q ∙ e
-
 -- ---- stores, one run behind the other
 sets-append : (a b l : List ℕ) (i : ℕ) → sets l i (a ++ b) ≡ sets (sets l i a) (i + length a) b
 sets-append [] b l i = ap (λ (k : ℕ). sets l k b) (omega arith)

@@ -5,8 +5,11 @@ ghost use lib.ListN.{length, drop};
 ghost use lib.Dec.{ltb};
 ghost use Rattle.lines.specs.Decimal.{decimal, isDigit, digitsOn, numberIn, numberAt};
 ghost use Rattle.lines.specs.Stored.{Stored};
-ghost use Rattle.lines.specs.Text.{filled, putOf};
+ghost use Rattle.lines.specs.Text.{filled, hasRoom, putOf};
 use crate::text::has_room;
+
+// 2^64 - 1 has as many.
+const MOST_DIGITS: usize = 20;
 
 // A number, and the index behind it.
 pub enum Number {
@@ -92,10 +95,20 @@ fn fits_u64(n: u64, digit: u64) -> bool
 pub fn put_decimal(out: &mut [u8], at: usize, n: u64) -> usize
     ensures { λ r. ⌜ filled r (now (out .exit)) ≡ putOf (decimal n) (filled at (now (out .entry))) ⌝ }
 {
-    if has_room(out, at, width(n)) {
+    if has_room_for(out, at, n) {
         return put_digits(out, at, n);
     }
     at
+}
+
+// Digits are counted only near the buffer's end: no number has more than 20.
+fn has_room_for(out: &[u8], at: usize, n: u64) -> bool
+    ensures { λ r. ⌜ r ≡ hasRoom (length (decimal n)) (filled at (now (out .entry))) ⌝ }
+{
+    if has_room(out, at, MOST_DIGITS) {
+        return true;
+    }
+    has_room(out, at, width(n))
 }
 
 // How many digits the number has.

@@ -14,32 +14,28 @@ use Rattle.lines.specs.Promise.{Stops}
 use Rattle.lines.proofs.DecimalLaws.{is-digit, digit-bounds, no-digit, digit-none, tenth, decimal-one, decimal-more}
 
 -- ---- reading on, byte by byte
-on-digit : (v d : ℕ) (xs : List ℕ) → d < 10 → v * 10 + d < 2 ^ 64 → digitsOn v ((48 + d) ∷ xs) ≡ digitsOn (v * 10 + d) xs
+pub on-digit : (v x : ℕ) (xs : List ℕ) → 48 ≤ x → x ≤ 57 → v * 10 + (x - 48) < 2 ^ 64 → digitsOn v (x ∷ xs) ≡ digitsOn (v * 10 + (x - 48)) xs
 unfolding digitsOn
-on-digit v d xs h k =
-    let e : 48 + d - 48 ≡ d = omega arith in
-    rw (is-digit (48 + d) (omega arith) (omega arith), e, lt-ltb _ _ k)
+on-digit v x xs p q k = rw (is-digit x p q, lt-ltb _ _ k)
+
+pub front-first : (x : ℕ) (xs : List ℕ) → 48 < x → x ≤ 57 → numberFront (x ∷ xs) ≡ digitsOn (x - 48) xs
+unfolding numberFront
+front-first x xs p q = rw (ne-eqb x 48 (λ z. omega arith), is-digit x (omega arith) q)
 
 -- ---- from the decimal form
-front-first : (n : ℕ) (xs : List ℕ) → 0 < n → n < 10 → numberFront ((48 + n) ∷ xs) ≡ digitsOn n xs
-unfolding numberFront
-front-first n xs p h =
-    let e : 48 + n - 48 ≡ n = omega arith in
-    rw (ne-eqb (48 + n) 48 (λ z. omega arith), is-digit (48 + n) (omega arith) (omega arith), e)
-
 -- the digits of a number that is not 0, and whatever stands behind them
 front-positive : (k n : ℕ) (xs : List ℕ) → n < 10 ^ k → 0 < n → n < 2 ^ 64 → numberFront (decimal n ++ xs) ≡ digitsOn n xs
 front-positive zero n xs h p f = absurd (omega arith)
 front-positive (suc k) n xs h p f =
     ⊎-elim
-    (λ small. rw (decimal-one n small) (front-first n xs p small))
+    (λ small. rw (decimal-one n small) (front-first (48 + n) xs (omega arith) (omega arith) ∙ ap (λ (v : ℕ). digitsOn v xs) (omega arith)))
     (λ large.
     let m : n % 10 < 10 = mod-lt n (omega arith) in
     ap (λ (ys : List ℕ). numberFront (ys ++ xs)) (decimal-more n large (omega arith))
     ∙ ap numberFront (append-assoc (decimal (n / 10)) ((48 + n % 10) ∷ []) xs)
     ∙ front-positive k (n / 10) ((48 + n % 10) ∷ xs) (tenth n (10 ^ k) (rw (pow-suc 10 k) at h)) (omega (arith, div-add-mod' n 10)) (omega (arith, div-add-mod' n 10))
-    ∙ on-digit (n / 10) (n % 10) xs m (omega (arith, div-add-mod' n 10))
-    ∙ ap (λ (v : ℕ). digitsOn v xs) (div-add-mod' n 10))
+    ∙ on-digit (n / 10) (48 + n % 10) xs (omega arith) (omega arith) (omega (arith, div-add-mod' n 10))
+    ∙ ap (λ (v : ℕ). digitsOn v xs) (omega (arith, div-add-mod' n 10)))
     (lt-or-le n 10)
 
 front-nothing : (xs : List ℕ) → numberFront (decimal 0 ++ xs) ≡ some 0 xs
@@ -78,7 +74,7 @@ same v n ys rest p f s q =
     let g : ys ≡ rest = cc in
     rw (← e, ← g) (record { is = q; fits = f; stops = s })
 
-never : {A : Type 0} (n : ℕ) (rest : List ℕ) → none ≡ some n rest → A
+pub never : {A : Type 0} (n : ℕ) (rest : List ℕ) → none ≡ some n rest → A
 never n rest p = absurd (let z : _≡_ {A = ℕ} 0 1 = cc in omega arith)
 
 on-decimal : (v : ℕ) (xs : List ℕ) (n : ℕ) (rest : List ℕ) → 0 < v → v < 2 ^ 64 → digitsOn v xs ≡ some n rest → Reads (decimal v ++ xs) n rest

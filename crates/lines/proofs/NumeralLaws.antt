@@ -5,12 +5,11 @@ use mathlib.Core.List.{List, [], _∷_, _++_, append-nil}
 use mathlib.Core.Logic.{⊎-elim}
 use native.Mathlib.Nat.{div-add-mod', mod-lt, pow-suc}
 use native.Mathlib.Omega.{arith}
-use borrow.Author.Tests.{lt-ltb, ne-eqb}
 use Rattle.modular.proofs.Laws.{lt-or-le}
 use Rattle.lines.specs.Decimal.{decimal, some, digitsOn, numberFront}
 use Rattle.lines.specs.Numeral.{worth, Digits, Plain, Numeral}
-use Rattle.lines.proofs.DecimalForm.{front-reads}
-use Rattle.lines.proofs.DecimalLaws.{is-digit, tenth, decimal-one, decimal-more}
+use Rattle.lines.proofs.DecimalForm.{on-digit, front-first, front-reads}
+use Rattle.lines.proofs.DecimalLaws.{tenth, decimal-one, decimal-more}
 
 -- ---- one digit more
 worth-last : (xs : List ℕ) (v x : ℕ) → worth v (xs ++ (x ∷ [])) ≡ worth v xs * 10 + (x - 48)
@@ -81,7 +80,7 @@ unfolding digitsOn worth
 reads-all [] v d l = refl
 reads-all (x ∷ xs) v d l =
     let b : v * 10 + (x - 48) < 2 ^ 64 = omega (arith, worth-most xs (v * 10 + (x - 48))) in
-    rw (is-digit x (d .0 .0) (d .0 .1), lt-ltb _ _ b) (reads-all xs (v * 10 + (x - 48)) (d .1) l)
+    on-digit v x xs (d .0 .0) (d .0 .1) b ∙ reads-all xs (v * 10 + (x - 48)) (d .1) l
 
 reads-zero : numberFront (48 ∷ []) ≡ some 0 []
 unfolding numberFront
@@ -90,10 +89,6 @@ reads-zero = refl
 worth-first : (x : ℕ) (xs : List ℕ) → worth 0 (x ∷ xs) ≡ worth (x - 48) xs
 unfolding worth
 worth-first x xs = let e : 0 * 10 + (x - 48) ≡ x - 48 = omega arith in ap (λ (v : ℕ). worth v xs) e
-
-front-first : (x : ℕ) (xs : List ℕ) → 48 < x → x ≤ 57 → numberFront (x ∷ xs) ≡ digitsOn (x - 48) xs
-unfolding numberFront
-front-first x xs p q = rw (ne-eqb x 48 (λ z. omega arith), is-digit x (omega arith) q)
 
 reads-first : (x : ℕ) (xs : List ℕ) → 48 < x → Digits (x ∷ xs) → worth 0 (x ∷ xs) < 2 ^ 64 → numberFront (x ∷ xs) ≡ some (worth 0 (x ∷ xs)) []
 reads-first x xs p d l =

@@ -10,7 +10,7 @@ use native.Mathlib.Omega.{arith}
 use borrow.Author.Tests.{eqb-true}
 use Rattle.modular.proofs.Laws.{lt-or-le}
 use Rattle.lines.specs.Decimal.{decimal, Front, some, none, numberFront}
-use Rattle.lines.proofs.DecimalForm.{Reads, front-decimal, front-reads}
+use Rattle.lines.proofs.DecimalForm.{Reads, front-decimal, never, front-reads}
 use Rattle.lines.proofs.DecimalLaws.{decimal-short}
 use Rattle.sched.specs.declared.operation.OperationType.{OperationType}
 use Rattle.sched.specs.declared.operation.OperationType.the-variants.{Read, Write}
@@ -54,9 +54,6 @@ accepts a f =
     ∙ ap (withAmount (a .«buf_len») (a .written) (a .read) (kind.Of (a .typ))) (last-decimal (a .«max_len») (f .max))
 
 -- ---- and nothing else
-never : {A : Type 0} (n : ℕ) (xs : List ℕ) → none ≡ some n xs → A
-never n xs p = absurd (let z : _≡_ {A = ℕ} 0 1 = cc in omega arith)
-
 bad : {A : Type 0} (a : Asked) → parsed.Bad ≡ parsed.Of a → A
 bad a p = absurd (let z : _≡_ {A = ℕ} 0 1 = cc in omega arith)
 

@@ -9,6 +9,9 @@ use lib.ListN.{length, drop, length-append}
 use native.Mathlib.Omega.{arith}
 use borrow.Author.Tests.{eqb-true}
 use Rattle.modular.proofs.Laws.{lt-or-le}
+use Rattle.lines.specs.Decimal.{decimal, Front, some, none, numberFront}
+use Rattle.lines.proofs.DecimalForm.{Reads, front-decimal, never, front-reads}
+use Rattle.lines.proofs.DecimalLaws.{decimal-short}
 use Rattle.sched.specs.declared.operation.OperationType.{OperationType}
 use Rattle.sched.specs.declared.operation.OperationType.the-variants.{Read, Write}
 use Rattle.planline.specs.declared.line.Asked.{Asked}
@@ -17,22 +20,11 @@ use Rattle.planline.specs.declared.line.Kind.the-variants as kind
 use Rattle.planline.specs.declared.line.Parsed.{Parsed}
 use Rattle.planline.specs.declared.line.Parsed.the-variants as parsed
 use Rattle.planline.specs.declared.line.Plan.the-variants as plan
-use Rattle.planline.specs.Decimal.{decimal, Front, some, none, isDigit, digitsOn, numberFront}
 use Rattle.planline.specs.Grammar.{Fits, WellFormed}
 use Rattle.planline.specs.Line.{letterOf, lineOf, spaceThen, afterSpace, spacedFront, endThen, atEnd, lastFront, kindOf, kindFront, askedOf, withAmount, withRead, withWritten, withLength, parseOf, planFor, planFrom, planOf}
-use Rattle.planline.proofs.DecimalForm.{front-decimal, front-reads}
-use Rattle.planline.proofs.DecimalLaws.{decimal-short}
 use Rattle.planline.proofs.LineLaws.{plan-long, plan-short}
 
 -- ---- every well-formed line is read
-stop-space : (xs : List ℕ) (v : ℕ) → digitsOn v (32 ∷ xs) ≡ some v (32 ∷ xs)
-unfolding digitsOn isDigit
-stop-space xs v = refl
-
-stop-end : (v : ℕ) → digitsOn v [] ≡ some v []
-unfolding digitsOn
-stop-end v = refl
-
 space-taken : (n : ℕ) (xs : List ℕ) → spaceThen n (32 ∷ xs) ≡ some n xs
 unfolding spaceThen
 space-taken n xs = refl
@@ -42,10 +34,10 @@ unfolding endThen
 end-taken n = refl
 
 spaced-decimal : (n : ℕ) (xs : List ℕ) → n < 2 ^ 64 → spacedFront (decimal n ++ (32 ∷ xs)) ≡ some n xs
-spaced-decimal n xs f = ap afterSpace (front-decimal n (32 ∷ xs) f (stop-space xs)) ∙ space-taken n xs
+spaced-decimal n xs f = ap afterSpace (front-decimal n (32 ∷ xs) f (λ p h k. omega arith)) ∙ space-taken n xs
 
 last-decimal : (n : ℕ) → n < 2 ^ 64 → lastFront (decimal n) ≡ some n []
-last-decimal n f = ap lastFront (sym (append-nil (decimal n))) ∙ ap atEnd (front-decimal n [] f stop-end) ∙ end-taken n
+last-decimal n f = ap lastFront (sym (append-nil (decimal n))) ∙ ap atEnd (front-decimal n [] f (λ p. tt)) ∙ end-taken n
 
 kind-letter : (t : OperationType) (xs : List ℕ) → kindFront (letterOf t ∷ (32 ∷ xs)) ≡ kind.Of t
 unfolding kindFront kindOf
@@ -62,9 +54,6 @@ accepts a f =
     ∙ ap (withAmount (a .«buf_len») (a .written) (a .read) (kind.Of (a .typ))) (last-decimal (a .«max_len») (f .max))
 
 -- ---- and nothing else
-never : {A : Type 0} (n : ℕ) (xs : List ℕ) → none ≡ some n xs → A
-never n xs p = absurd (let z : _≡_ {A = ℕ} 0 1 = cc in omega arith)
-
 bad : {A : Type 0} (a : Asked) → parsed.Bad ≡ parsed.Of a → A
 bad a p = absurd (let z : _≡_ {A = ℕ} 0 1 = cc in omega arith)
 
@@ -87,7 +76,8 @@ spaced-reads xs n ys p = go (numberFront xs) refl p
     go none q p = never n ys p
     go (some m zs) q p =
         let r : (m ≡ n) × (zs ≡ 32 ∷ ys) = space-reads m n zs ys p in
-        front-reads xs n (32 ∷ ys) (q ∙ ap (λ (k : ℕ). some k zs) (r .0) ∙ ap (λ (z : List ℕ). some n z) (r .1))
+        let s : Reads xs n (32 ∷ ys) = front-reads xs n (32 ∷ ys) (q ∙ ap (λ (k : ℕ). some k zs) (r .0) ∙ ap (λ (z : List ℕ). some n z) (r .1)) in
+        (s .is, s .fits)
 
 end-reads : (m n : ℕ) (zs ys : List ℕ) → endThen m zs ≡ some n ys → (m ≡ n) × (zs ≡ [])
 unfolding endThen
@@ -101,8 +91,8 @@ last-reads xs n ys p = go (numberFront xs) refl p
     go none q p = never n ys p
     go (some m zs) q p =
         let r : (m ≡ n) × (zs ≡ []) = end-reads m n zs ys p in
-        let s : (xs ≡ decimal n ++ []) × (n < 2 ^ 64) = front-reads xs n [] (q ∙ ap (λ (k : ℕ). some k zs) (r .0) ∙ ap (λ (z : List ℕ). some n z) (r .1)) in
-        (s .0 ∙ append-nil (decimal n), s .1)
+        let s : Reads xs n [] = front-reads xs n [] (q ∙ ap (λ (k : ℕ). some k zs) (r .0) ∙ ap (λ (z : List ℕ). some n z) (r .1)) in
+        (s .is ∙ append-nil (decimal n), s .fits)
 
 letter-reads : (x : ℕ) (t : OperationType) → kindOf x ≡ kind.Of t → x ≡ letterOf t
 unfolding kindOf

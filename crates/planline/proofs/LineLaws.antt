@@ -6,15 +6,15 @@ use lib.ListN.{length, drop, getD, length-drop, drop-of-length-le}
 use lib.Seq.{drop-drop}
 use native.Mathlib.Omega.{arith}
 use borrow.Author.Tests.{eq-eqb, ne-eqb, lt-ltb, le-ltb}
+use Rattle.lines.specs.declared.decimal.Number.{Number}
+use Rattle.lines.specs.Decimal.{Front, some, none, frontIn}
+use Rattle.lines.proofs.DecimalLaws.{at-cons}
 use Rattle.sched.specs.declared.operation.OperationType.{OperationType}
-use Rattle.planline.specs.declared.decimal.Number.{Number}
 use Rattle.planline.specs.declared.line.Kind.{Kind}
 use Rattle.planline.specs.declared.line.Kind.the-variants as kind
 use Rattle.planline.specs.declared.line.Parsed.the-variants as parsed
 use Rattle.planline.specs.declared.line.Plan.the-variants as plan
-use Rattle.planline.specs.Decimal.{Front, some, none}
-use Rattle.planline.specs.Line.{frontIn, spaceThen, endThen, lastFront, kindOf, kindFront, askedOf, withAmount, parseOf, planFrom, planOf}
-use Rattle.planline.proofs.DecimalLaws.{at-cons}
+use Rattle.planline.specs.Line.{spaceThen, endThen, lastFront, kindOf, kindFront, askedOf, withAmount, parseOf, planFrom, planOf}
 
 module _ (xs : List ℕ) (i n : ℕ) where
   pub space-there : i < length xs → getD xs i 0 ≡ 32 → spaceThen n (drop i xs) ≡ some n (drop (i + 1) xs)

@@ -1,11 +1,14 @@
--- Lines and answers in the words of `Numeral`, over the definitions; `Promised` states it of the calls.
+-- Lines and answers in the words of `Promise`, over the definitions; `Promised` states it of the calls.
 use Prim.Native.Nat.{ℕ, _+_, _^_, _<_, _≤_}
 use mathlib.Core.Path.{_≡_, refl, sym, ap, _∙_}
-use mathlib.Core.List.{List}
+use mathlib.Core.List.{List, [], _∷_}
 use mathlib.Core.Logic.{⊎-elim}
 use lib.ListN.{length}
 use native.Mathlib.Omega.{arith}
 use Rattle.modular.proofs.Laws.{lt-or-le}
+use Rattle.lines.specs.Answer.{textsOf}
+use Rattle.lines.specs.Decimal.{decimal}
+use Rattle.lines.proofs.NumeralLaws.{decimal-numeral, numeral-is}
 use Rattle.sched.specs.declared.list.ScheduledOperations.{ScheduledOperations}
 use Rattle.sched.specs.declared.list.ScheduledOperations.the-variants as list
 use Rattle.sched.specs.declared.operation.OperationType.{OperationType}
@@ -25,14 +28,13 @@ use Rattle.planline.specs.declared.line.Parsed.{Parsed}
 use Rattle.planline.specs.declared.line.Parsed.the-variants as parsed
 use Rattle.planline.specs.declared.line.Plan.{Plan}
 use Rattle.planline.specs.declared.line.Plan.the-variants as plan
-use Rattle.planline.specs.Decimal.{decimal}
+use Rattle.planline.specs.Cut.{lineText}
 use Rattle.planline.specs.Grammar.{WellFormed}
 use Rattle.planline.specs.Line.{lineOf, parseOf, planAfter, planFor, planFrom, planOf}
-use Rattle.planline.specs.Numeral.{Line, Pair, pair, Printed, bad, refused, ok-none, ok-one, ok-two}
+use Rattle.planline.specs.Promise.{Line, Pair, pair, Printed, bad, refused, ok-none, ok-one, ok-two, Answered, none, more}
 use Rattle.planline.specs.Text.{operationText, listText, planText}
 use Rattle.planline.proofs.Grammar.{accepts, accepted, planned, bad-else}
 use Rattle.planline.proofs.LineLaws.{plan-long, plan-short}
-use Rattle.planline.proofs.NumeralLaws.{decimal-numeral, numeral-is}
 
 -- ---- lines
 line-formed : (xs : List ℕ) (a : Asked) → Line xs a → xs ≡ lineOf a
@@ -126,3 +128,9 @@ plan-small xs = ⊎-elim (λ long. rw (← plan-long xs long) tt) (λ short. rw 
 
 pub plan-printed : (xs : List ℕ) → Printed (planText (planOf xs)) (planOf xs)
 plan-printed xs = printed (planOf xs) (plan-small xs)
+
+module _ (Plans : List ℕ → Plan → Type 0) (plans-is : (line : List ℕ) (p : Plan) → Plans line p → p ≡ planOf line) where
+  pub answered : (lines : List (List ℕ)) → Answered Plans lines (textsOf lineText lines)
+  unfolding textsOf
+  answered [] = none
+  answered (line ∷ lines) = more {text = lineText line} (λ p h. rw (plans-is line p h) (plan-printed line)) (answered lines)

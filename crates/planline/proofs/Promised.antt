@@ -2,15 +2,20 @@
 use Prim.Native.Nat.{ℕ, _+_, _-_, _<_, _≤_}
 use mathlib.Core.Path.{_≡_, refl, sym, ap, _∙_}
 use mathlib.Core.List.{List}
-use mathlib.Core.Logic.{_⊎_, ⊎-elim}
+use mathlib.Core.Logic.{_⊎_}
 use lib.ListN.{length, getD}
-use lib.Seq.{sets-eq}
-use borrow.Author.Tests.{le-leb, lt-leb}
 use native.Mathlib.Omega.{arith}
 use contract.Lifetimes.{Lfts}
 use denote.Triple.Clauses.{Lasts, atExit}
 use borrow.Fn.Kinds.{Dens, resT, endedOf}
-use Rattle.modular.proofs.Laws.{lt-or-le}
+use Rattle.lines.specs.Answer.{Step, step}
+use Rattle.lines.specs.Lines.{linesOf, joined, LinesOf}
+use Rattle.lines.specs.Run.{Place, Run, Start}
+use Rattle.lines.specs.Text.{Filled, filled}
+use Rattle.lines.proofs.AnswerLaws.{ready-there, unready, last-unready, step-unready, step-moves, step-other}
+use Rattle.lines.proofs.LinesLaws.{lines-are}
+use Rattle.lines.proofs.Runs.{run-text}
+use Rattle.lines.proofs.TextLaws.{appended}
 use Rattle.modular.proofs.Saying.{Allows, Keeps}
 use Rattle.sched.specs.declared.list.OperationsAnswer.{OperationsAnswer}
 use Rattle.sched.specs.declared.list.OperationsAnswer.the-variants as operations
@@ -26,21 +31,14 @@ use Rattle.planline.specs.declared.line.Asked.{Asked}
 use Rattle.planline.specs.declared.line.Parsed.the-variants as parsed
 use Rattle.planline.specs.declared.line.Plan.{Plan}
 use Rattle.planline.specs.declared.line.Plan.the-variants as plan
-use Rattle.planline.specs.Cut.{Step, step, stepOf, lastOf}
-use Rattle.planline.specs.Input.{linesOf, textsOf, joined}
+use Rattle.planline.specs.Cut.{mostHeld, lineText, stepOf, lastOf, textsOf}
 use Rattle.planline.specs.Line.{parseOf, planAfter, planOf}
-use Rattle.planline.specs.Lines.{LinesOf, Answered}
-use Rattle.planline.specs.Numeral.{Line, Printed, Appended, there, no-room}
-use Rattle.planline.specs.Run.{Place, Run, Start}
-use Rattle.planline.specs.Text.{Filled, filled, planText, appendOf}
+use Rattle.planline.specs.Promise.{Line, Appended, Answered}
+use Rattle.planline.specs.Text.{planText, longest}
 use Rattle.planline.proofs.Case.{input, output, case}
-use Rattle.planline.proofs.CutLaws.{ready-there, unready, last-unready, step-unready, step-moves}
-use Rattle.planline.proofs.FrameLaws.{step-other}
-use Rattle.planline.proofs.LinesLaws.{lines-are, answered}
-use Rattle.planline.proofs.Printing.{line-parsed, parsed-line, line-planned, else-bad, plan-printed}
-use Rattle.planline.proofs.Runs.{run-text}
+use Rattle.planline.proofs.Printing.{line-parsed, parsed-line, line-planned, else-bad, plan-printed, answered}
 use Rattle.planline.proofs.Says.{parse-says, plan-line-says, append-says, answer-next-says, answer-last-says}
-use Rattle.planline.proofs.TextLaws.{plan-text-short}
+use Rattle.planline.proofs.TextLaws.{plan-text-short, text-kept}
 use Rattle.planline.proofs.line.parse.Kinds as parse-kinds
 use Rattle.planline.proofs.line.parse.Reads as parse
 use Rattle.planline.proofs.line.plan_line.Kinds as plan-line-kinds
@@ -82,18 +80,6 @@ plan-line-promised κs a z q = (λ x l. (λ ops r. planned x l (operations.Of op
     planned x l y r = said ∙ line-planned (a .0 .now) x l ∙ ap planAfter (sym (schedule-contiguous-operations-says tt _ y (r .0) (r .1)))
 
 -- ---- the text of a line's answer, of which every number is worth what it says
-appended : (p : Plan) (text before : List ℕ) (at : ℕ) → Printed text p → length text ≤ 89 → Appended before at p (appendOf text (filled at before) .at) (appendOf text (filled at before) .bytes)
-unfolding appendOf
-appended p text before at h l = ⊎-elim none some (lt-or-le (length before) (at + 89))
-  where
-    none : length before < at + 89 → Appended before at p (appendOf text (filled at before) .at) (appendOf text (filled at before) .bytes)
-    none g = rw (lt-leb _ _ g) (no-room g)
-
-    some : at + 89 ≤ length before → Appended before at p (appendOf text (filled at before) .at) (appendOf text (filled at before) .bytes)
-    some g =
-        let f : at + length text ≤ length before = omega arith in
-        rw (le-leb _ _ g, sets-eq text before at f) (there text g h)
-
 pub append-promised :
     (κs : Lfts 2) (a : Dens κs append-kinds.ps) (z : resT append-kinds.r κs .Denot) (ws : Lasts (endedOf 2 append-kinds.ps append-kinds.r) κs a) →
     append.Learnt κs a z (atExit (endedOf 2 append-kinds.ps append-kinds.r) κs a ws) →
@@ -103,8 +89,9 @@ pub append-promised :
 append-promised κs a z ws q ηs b e p r =
     let said : p ≡ planOf (a .0 .now) = plan-line-says ηs b p (r .0) (r .1) ∙ ap planOf e in
     let left = append-says κs a z ws q in
+    let text : List ℕ = planText (planOf (a .0 .now)) in
     rw (left .0, left .1, said)
-    (appended (planOf (a .0 .now)) (planText (planOf (a .0 .now))) (a .1 .0 .now) (a .1 .1 .0) (plan-printed (a .0 .now)) (plan-text-short (planOf (a .0 .now))))
+    (text, plan-printed (a .0 .now), appended longest text (a .1 .0 .now) (a .1 .1 .0) (plan-text-short (planOf (a .0 .now))))
 
 -- ---- one step
 -- where there is room and a byte is left, it goes on, and not over the piece's end
@@ -115,7 +102,7 @@ pub answer-next-moves :
     (a .1 .1 .1 .0 < z .next) × (z .next ≤ length (a .1 .1 .0 .now)))
 answer-next-moves κs a z q h g l =
     rw (answer-next-says κs a z (q .0) (q .1) .0)
-    (step-moves (filled (a .1 .0) (a .0 .now)) (a .1 .1 .1 .0) (a .1 .1 .0 .now) (filled (a .1 .1 .1 .1 .1 .0) (a .1 .1 .1 .1 .0 .now)) (ready-there (a .0 .now) (filled (a .1 .1 .1 .1 .1 .0) (a .1 .1 .1 .1 .0 .now)) h g) l)
+    (step-moves lineText mostHeld longest (filled (a .1 .0) (a .0 .now)) (a .1 .1 .1 .0) (a .1 .1 .0 .now) (filled (a .1 .1 .1 .1 .1 .0) (a .1 .1 .1 .1 .0 .now)) (ready-there mostHeld longest (a .0 .now) (filled (a .1 .1 .1 .1 .1 .0) (a .1 .1 .1 .1 .0 .now)) h g) l)
 
 -- where there is no room, nothing changes: the three numbers and both buffers
 pub answer-next-no-room :
@@ -126,7 +113,7 @@ pub answer-next-no-room :
 answer-next-no-room κs a z ws q n =
     let h : Filled = filled (a .1 .0) (a .0 .now) in
     let o : Filled = filled (a .1 .1 .1 .1 .1 .0) (a .1 .1 .1 .1 .0 .now) in
-    let same : stepOf h (a .1 .1 .1 .0) (a .1 .1 .0 .now) o ≡ step h (a .1 .1 .1 .0) o = sym (step-unready h (a .1 .1 .1 .0) (a .1 .1 .0 .now) o (unready (a .0 .now) o n)) in
+    let same : stepOf h (a .1 .1 .1 .0) (a .1 .1 .0 .now) o ≡ step h (a .1 .1 .1 .0) o = sym (step-unready lineText mostHeld longest h (a .1 .1 .1 .0) (a .1 .1 .0 .now) o (unready mostHeld longest (a .0 .now) o n)) in
     let left = answer-next-says κs a z ws q in
     rw (left .0, left .1, same) ((refl, refl, refl), refl, refl)
 
@@ -139,7 +126,7 @@ pub answer-next-else-same :
     × ((j < a .1 .0) ⊎ (a .1 .0 + (z .next - a .1 .1 .1 .0) ≤ j) → getD (ws .0) j 0 ≡ getD (a .0 .now) j 0)
 answer-next-else-same κs a z ws q j =
     let left = answer-next-says κs a z ws q in
-    rw (left .0, left .1) (step-other (filled (a .1 .0) (a .0 .now)) (a .1 .1 .1 .0) (a .1 .1 .0 .now) (filled (a .1 .1 .1 .1 .1 .0) (a .1 .1 .1 .1 .0 .now)) j)
+    rw (left .0, left .1) (step-other lineText mostHeld longest (filled (a .1 .0) (a .0 .now)) (a .1 .1 .1 .0) (a .1 .1 .0 .now) (filled (a .1 .1 .1 .1 .1 .0) (a .1 .1 .1 .1 .0 .now)) j)
 
 pub answer-last-no-room :
     (κs : Lfts 2) (a : Dens κs answer-last-kinds.ps) (z : ℕ) (ws : Lasts (endedOf 2 answer-last-kinds.ps answer-last-kinds.r) κs a) →
@@ -148,7 +135,7 @@ pub answer-last-no-room :
     (z ≡ a .1 .1 .1 .0) × (ws .1 .1 .0 ≡ a .1 .1 .0 .now)
 answer-last-no-room κs a z ws q n =
     let o : Filled = filled (a .1 .1 .1 .0) (a .1 .1 .0 .now) in
-    let same : lastOf (filled (a .1 .0) (a .0 .now)) o ≡ o = sym (last-unready (a .1 .0) (a .0 .now) o (unready (a .0 .now) o n)) in
+    let same : lastOf (filled (a .1 .0) (a .0 .now)) o ≡ o = sym (last-unready lineText mostHeld longest (a .1 .0) (a .0 .now) o (unready mostHeld longest (a .0 .now) o n)) in
     let left = answer-last-says κs a z ws q in
     rw (left .0, left .1, same) (refl, refl)
 
@@ -196,12 +183,12 @@ last-is s o c =
     let left = answer-last-says (c .κs) (c .a) (c .z) (c .ws) (c .allowed) in
     c .leaves ∙ rw (left .0, left .1, c .lent-line, c .lent-out)
 
-run-is : (pieces : List (List ℕ)) (s : Place) (text : List ℕ) → Start s → Run NextCall LastCall pieces s text → text ≡ textsOf (linesOf (joined pieces))
-run-is = run-text NextCall LastCall next-is last-is
+run-is : (pieces : List (List ℕ)) (s : Place) (text : List ℕ) → Start mostHeld s → Run mostHeld longest NextCall LastCall pieces s text → text ≡ textsOf (linesOf (joined pieces))
+run-is = run-text lineText mostHeld longest (omega arith) text-kept (λ line. plan-text-short (planOf line)) NextCall LastCall next-is last-is
 
-pub run-promised : (pieces : List (List ℕ)) (s : Place) (text : List ℕ) → Start s → Run NextCall LastCall pieces s text → (lines : List (List ℕ)) × LinesOf (joined pieces) lines × Answered PlanCall lines text
+pub run-promised : (pieces : List (List ℕ)) (s : Place) (text : List ℕ) → Start mostHeld s → Run mostHeld longest NextCall LastCall pieces s text → (lines : List (List ℕ)) × LinesOf (joined pieces) lines × Answered PlanCall lines text
 run-promised pieces s text b r = (linesOf (joined pieces), lines-are (joined pieces), rw (run-is pieces s text b r) (answered PlanCall plan-is (linesOf (joined pieces))))
 
 -- the paper's whole case, in whatever pieces
-pub case-promised : (pieces : List (List ℕ)) (s : Place) (text : List ℕ) → Start s → joined pieces ≡ input → Run NextCall LastCall pieces s text → text ≡ output
+pub case-promised : (pieces : List (List ℕ)) (s : Place) (text : List ℕ) → Start mostHeld s → joined pieces ≡ input → Run mostHeld longest NextCall LastCall pieces s text → text ≡ output
 case-promised pieces s text b e r = run-is pieces s text b r ∙ ap (λ (xs : List ℕ). textsOf (linesOf xs)) e ∙ case

@@ -4,9 +4,11 @@ use Prim.Native.Nat.{ℕ}
 use mathlib.Core.Path.{ap}
 use mathlib.Core.List.{List}
 use Rattle.modular.proofs.Saying.{Says, Leaves, Decides, leaves-decides}
-use Rattle.planline.specs.Cut.{Step, reached, stepOf, lastOf}
+use Rattle.lines.specs.Answer.{Step}
+use Rattle.lines.specs.Text.{Filled, filled, appendOf}
+use Rattle.planline.specs.Cut.{reached, stepOf, lastOf}
 use Rattle.planline.specs.Line.{parseOf, planOf}
-use Rattle.planline.specs.Text.{Filled, filled, planText, appendOf}
+use Rattle.planline.specs.Text.{planText, longest}
 use Rattle.planline.proofs.line.parse.Kinds as parse-kinds
 use Rattle.planline.proofs.line.parse.Reads as parse
 use Rattle.planline.proofs.line.plan_line.Kinds as plan-line-kinds
@@ -28,8 +30,8 @@ plan-line-says κs a z ws p = p
 -- ---- the answer as text, in a lent buffer
 pub append-says :
     Leaves 2 append-kinds.ps append-kinds.r append.Learnt
-    (λ κs a. appendOf (planText (planOf (a .0 .now))) (filled (a .1 .1 .0) (a .1 .0 .now)) .at)
-    (λ κs a. (tt, (appendOf (planText (planOf (a .0 .now))) (filled (a .1 .1 .0) (a .1 .0 .now)) .bytes, (tt, tt))))
+    (λ κs a. appendOf longest (planText (planOf (a .0 .now))) (filled (a .1 .1 .0) (a .1 .0 .now)) .at)
+    (λ κs a. (tt, (appendOf longest (planText (planOf (a .0 .now))) (filled (a .1 .1 .0) (a .1 .0 .now)) .bytes, (tt, tt))))
 append-says κs a z ws p = (ap (λ (x : Filled). x .at) p, ap (λ (x : Filled). (tt, (x .bytes, (tt, tt)))) p)
 
 -- ---- the lines of an input that comes in pieces

@@ -1,10 +1,5 @@
 pub mod Cut
-pub mod Decimal
 pub mod Grammar
-pub mod Input
 pub mod Line
-pub mod Lines
-pub mod Numeral
-pub mod Run
-pub mod Stored
+pub mod Promise
 pub mod Text

@@ -10,8 +10,7 @@ use Rattle.sched.specs.declared.operation.OperationType.{OperationType}
 use Rattle.sched.specs.declared.operation.OperationType.the-variants.{Read, Write}
 use Rattle.sched.specs.Refusal.{numberOf}
 use Rattle.sched.specs.Scheduler.{schedulerOf, scheduleOf}
-use Rattle.planline.specs.declared.decimal.Number.{Number}
-use Rattle.planline.specs.declared.decimal.Number.the-variants as number
+use Rattle.lines.specs.Decimal.{decimal, Front, some, none, numberFront}
 use Rattle.planline.specs.declared.line.Asked.{Asked}
 use Rattle.planline.specs.declared.line.Kind.{Kind}
 use Rattle.planline.specs.declared.line.Kind.the-variants as kind
@@ -19,7 +18,6 @@ use Rattle.planline.specs.declared.line.Parsed.{Parsed}
 use Rattle.planline.specs.declared.line.Parsed.the-variants as parsed
 use Rattle.planline.specs.declared.line.Plan.{Plan}
 use Rattle.planline.specs.declared.line.Plan.the-variants as plan
-use Rattle.planline.specs.Decimal.{decimal, Front, some, none, numberFront}
 
 -- ---- the well-formed line
 abbrev pub letterOf : OperationType → ℕ
@@ -31,11 +29,6 @@ lineOf a =
     decimal (a .«buf_len») ++ (32 ∷ (decimal (a .written) ++ (32 ∷ (decimal (a .read) ++ (32 ∷ (letterOf (a .typ) ∷ (32 ∷ decimal (a .«max_len»))))))))
 
 -- ---- what a line says
--- the answer of a reader at an index, as the bytes from there on
-abbrev pub frontIn : Number → List ℕ → Front
-frontIn (number.Of n next) line = some n (drop next line)
-frontIn number.Bad line = none
-
 unfoldable pub spaceThen : ℕ → List ℕ → Front
 spaceThen n [] = none
 spaceThen n (x ∷ xs) = cond (eqb x 32) (some n xs) none

@@ -1,6 +1,5 @@
-// A line that asks the scheduler for a plan, its answer as text, and how lines are cut out of the pieces of an input.
+// A line that asks the scheduler for a plan, its answer as text, and the answers to the lines of an input that comes in pieces.
 mod cut;
-mod decimal;
 mod line;
 mod text;
 

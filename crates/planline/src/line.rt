@@ -1,9 +1,10 @@
 // What a line asks, and the scheduler's answer.
 ghost use mathlib.Core.Path.{_≡_};
 ghost use lib.ListN.{drop};
-ghost use Rattle.planline.specs.Line.{frontIn, spacedFront, lastFront, kindOf, kindFront, withWritten, withRead, withAmount, parseOf, planFor, planOf};
-use crate::decimal::Number;
-use crate::decimal::number_at;
+ghost use Rattle.lines.specs.Decimal.{frontIn};
+ghost use Rattle.planline.specs.Line.{spacedFront, lastFront, kindOf, kindFront, withWritten, withRead, withAmount, parseOf, planFor, planOf};
+use lines::Number;
+use lines::number_at;
 use sched::Counter;
 use sched::OperationType;
 use sched::OperationsAnswer;

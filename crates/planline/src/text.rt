@@ -1,64 +1,33 @@
 // A plan's text, behind what a lent buffer holds already.
 ghost use mathlib.Core.Path.{_≡_};
-ghost use Prim.Native.Nat.{_+_, _≤_};
-ghost use lib.ListN.{length};
-ghost use lib.Dec.{leb};
+ghost use Rattle.lines.specs.Stored.{Stores};
+ghost use Rattle.lines.specs.Text.{filled, appendOf};
 ghost use Rattle.planline.specs.Line.{planOf};
-ghost use Rattle.planline.specs.Stored.{Stored};
-ghost use Rattle.planline.specs.Text.{operationText, listText, planText, filled, longest, appendOf};
-use crate::decimal::put_decimal;
+ghost use Rattle.planline.specs.Text.{operationText, listText, planText, longest};
 use crate::line::Plan;
 use crate::line::plan_line;
+use lines::has_room;
+use lines::put;
+use lines::put_decimal;
 use sched::ScheduledOperation;
 use sched::ScheduledOperations;
 
 // No text is longer: "ok 2", four numbers of 20 digits with a space before each, and the line feed.
-const LONGEST: usize = 89;
+pub(crate) const LONGEST: usize = 89;
 
-// The bytes at `at`; answers the index behind them.
-fn put(out: &mut [u8], at: usize, bytes: &[u8]) -> usize
-    requires { ⌜ at + length (now bytes) ≤ length (now out) ⌝ }
-    ensures { λ r. ⌜ Stored (now (out .entry)) at (now (bytes .entry)) (now (out .exit)) r ⌝ }
+// The line's answer at `at` of the buffer, with its line feed; answers the index behind it. A buffer without room for the
+// longest text stays as it is, and the index too.
+pub fn append(line: &[u8], out: &mut [u8], at: usize) -> usize
+    ensures { λ r. ⌜ filled r (now (out .exit)) ≡ appendOf longest (planText (planOf (now (line .entry)))) (filled at (now (out .entry))) ⌝ }
 {
-    let mut i = 0;
-    while i < bytes.len() {
-        out[at + i] = bytes[i];
-        i += 1;
+    if has_room(out, at, LONGEST) {
+        return put_plan(out, at, plan_line(line));
     }
-    at + i
-}
-
-fn put_operation(out: &mut [u8], at: usize, op: ScheduledOperation) -> usize
-    requires { ⌜ at + 42 ≤ length (now out) ⌝ }
-    ensures { λ r. ⌜ Stored (now (out .entry)) at (operationText op) (now (out .exit)) r ⌝ }
-{
-    let offset = put(out, at, b" ");
-    let space = put_decimal(out, offset, op.off.0);
-    let len = put(out, space, b" ");
-    put_decimal(out, len, op.len)
-}
-
-fn put_list(out: &mut [u8], at: usize, list: ScheduledOperations) -> usize
-    requires { ⌜ at + 85 ≤ length (now out) ⌝ }
-    ensures { λ r. ⌜ Stored (now (out .entry)) at (listText list) (now (out .exit)) r ⌝ }
-{
-    match list {
-        ScheduledOperations::None => put(out, at, b"0"),
-        ScheduledOperations::One(a) => {
-            let first = put(out, at, b"1");
-            put_operation(out, first, a)
-        }
-        ScheduledOperations::Two(a, b) => {
-            let first = put(out, at, b"2");
-            let second = put_operation(out, first, a);
-            put_operation(out, second, b)
-        }
-    }
+    at
 }
 
 fn put_plan(out: &mut [u8], at: usize, plan: Plan) -> usize
-    requires { ⌜ at + 89 ≤ length (now out) ⌝ }
-    ensures { λ r. ⌜ Stored (now (out .entry)) at (planText plan) (now (out .exit)) r ⌝ }
+    ensures { λ r. ⌜ Stores (now (out .entry)) at (planText plan) (now (out .exit)) r ⌝ }
 {
     match plan {
         Plan::Bad => put(out, at, b"bad\n"),
@@ -75,23 +44,28 @@ fn put_plan(out: &mut [u8], at: usize, plan: Plan) -> usize
     }
 }
 
-// Whether the longest text has room behind `at`.
-pub(crate) fn has_room(out: &[u8], at: usize) -> bool
-    ensures { λ r. ⌜ r ≡ leb (at + longest) (length (now (out .entry))) ⌝ }
+fn put_list(out: &mut [u8], at: usize, list: ScheduledOperations) -> usize
+    ensures { λ r. ⌜ Stores (now (out .entry)) at (listText list) (now (out .exit)) r ⌝ }
 {
-    if out.len() < LONGEST {
-        return false;
+    match list {
+        ScheduledOperations::None => put(out, at, b"0"),
+        ScheduledOperations::One(a) => {
+            let first = put(out, at, b"1");
+            put_operation(out, first, a)
+        }
+        ScheduledOperations::Two(a, b) => {
+            let first = put(out, at, b"2");
+            let second = put_operation(out, first, a);
+            put_operation(out, second, b)
+        }
     }
-    at <= out.len() - LONGEST
 }
 
-// The line's answer at `at` of the buffer, with its line feed; answers the index behind it. A buffer without room for the
-// longest text stays as it is, and the index too.
-pub fn append(line: &[u8], out: &mut [u8], at: usize) -> usize
-    ensures { λ r. ⌜ filled r (now (out .exit)) ≡ appendOf (planText (planOf (now (line .entry)))) (filled at (now (out .entry))) ⌝ }
+fn put_operation(out: &mut [u8], at: usize, op: ScheduledOperation) -> usize
+    ensures { λ r. ⌜ Stores (now (out .entry)) at (operationText op) (now (out .exit)) r ⌝ }
 {
-    if has_room(out, at) {
-        return put_plan(out, at, plan_line(line));
-    }
-    at
+    let offset = put(out, at, b" ");
+    let space = put_decimal(out, offset, op.off.0);
+    let len = put(out, space, b" ");
+    put_decimal(out, len, op.len)
 }

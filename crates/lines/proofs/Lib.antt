@@ -1,0 +1,11 @@
+pub mod AnswerLaws
+pub mod CutLaws
+pub mod DecimalForm
+pub mod DecimalLaws
+pub mod LinesLaws
+pub mod NumberLaws
+pub mod NumeralLaws
+pub mod Promised
+pub mod Runs
+pub mod Says
+pub mod TextLaws

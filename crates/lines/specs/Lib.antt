@@ -1,0 +1,9 @@
+pub mod Answer
+pub mod Cut
+pub mod Decimal
+pub mod Lines
+pub mod Numeral
+pub mod Promise
+pub mod Run
+pub mod Stored
+pub mod Text

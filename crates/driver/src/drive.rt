@@ -2,16 +2,16 @@
 ghost use mathlib.Core.Path.{_≡_};
 ghost use Rattle.driver.specs.Drive.{overIn, retriesIn, answeredIn, drivenOf, endedIn, endedOf, delivery, deliveredFor, deliveredBy, deliveryOf, endOfStreamFor, endOfStreamIn};
 ghost use Rattle.driver.specs.Run.{FetchLeaves};
-use states::Answer;
 use receiver::Call;
 use receiver::Came;
 use receiver::Ended;
-use states::Failure;
 use receiver::Outcome;
 use receiver::Phase;
-use states::Refusal;
 use receiver::Step;
 use sched::RingBufferScheduler;
+use states::Answer;
+use states::Failure;
+use states::Refusal;
 
 pub enum Fetched {
     Got(Answer),

@@ -6,11 +6,11 @@ ghost use Rattle.driver.specs.Run.{readOf, ServiceLeaves, ShutdownLeaves
 use crate::drive::Driven;
 use crate::drive::drive;
 use crate::drive::end_of_stream;
-use states::Answer;
 use receiver::Call;
 use receiver::Ended;
 use receiver::ReceiverState;
 use receiver::Step;
+use states::Answer;
 
 // A call that waits for no announcement looks at no ring: it is driven over an empty one.
 pub(crate) fn drive_without_ring(begun: Step, answers: &[Answer]) -> Ended

@@ -2,11 +2,11 @@
 ghost use mathlib.Core.Path.{_≡_};
 ghost use Rattle.receiver.specs.Admission.{readyWith, admissionOf};
 use crate::receiver::ReceiverState;
-use states::Refusal;
 use copies::Ready;
 use copies::demand_ring_memory;
 use sched::Checked;
 use sched::RingBufferScheduler;
+use states::Refusal;
 
 pub enum Admission {
     Passed,

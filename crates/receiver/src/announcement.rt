@@ -9,10 +9,10 @@ ghost use Rattle.receiver.specs.Receiver.{headerIn, announcedIn, byteIn}
 use crate::sound::max_operation_len;
 use crate::sound::read_off;
 use crate::sound::register;
-use states::Failure;
-use states::Violation;
 use sched::OperationType;
 use sched::RingBufferScheduler;
+use states::Failure;
+use states::Violation;
 
 // The scheduler with the chunk written, and the count of descriptors; or what is wrong.
 pub enum Announced {

@@ -11,20 +11,20 @@ use crate::admission::Memory;
 use crate::admission::admit;
 use crate::announcement::Announced;
 use crate::announcement::recv_chunk_announcement;
-use states::Answer;
-use states::Received;
-use states::Sent;
-use states::Shut;
 use crate::receiver::Outcome;
 use crate::receiver::ReceiverState;
-use states::Refusal;
 use crate::sound::max_operation_len;
 use crate::sound::moved;
+use sched::OperationType;
+use sched::RingBufferScheduler;
+use states::Answer;
 use states::Failure;
 use states::OperationalState;
 use states::PotentialFailure;
-use sched::OperationType;
-use sched::RingBufferScheduler;
+use states::Received;
+use states::Refusal;
+use states::Sent;
+use states::Shut;
 
 // How a call ends that still services acknowledgements or shuts down: with this outcome whatever comes of that, or unless it
 // fails.

@@ -1,11 +1,11 @@
 // The receiver's record, and what its calls come to.
 ghost use mathlib.Core.Path.{_≡_};
 ghost use Rattle.receiver.specs.Receiver.{readOutcome, doneOutcome, failedOutcome, receiverOf};
-use states::Refusal;
-use states::Failure;
-use states::OperationalState;
 use sched::Checked;
 use sched::RingBufferScheduler;
+use states::Failure;
+use states::OperationalState;
+use states::Refusal;
 
 pub struct ReceiverState {
     pub scheduler: RingBufferScheduler,

@@ -2,9 +2,9 @@
 ghost use Prim.Native.Nat.{_≤_};
 ghost use lib.ListN.{take};
 ghost use Rattle.driver.specs.Run.{ServiceLeaves, ShutdownLeaves, ReadImplLeaves, ReadLeaves};
-use states::Answer;
 use receiver::Ended;
 use receiver::ReceiverState;
+use states::Answer;
 
 // The most answers of a run. A line that says more is bad.
 pub const MOST: usize = 16;

@@ -2,14 +2,14 @@
 use crate::line::Line;
 use crate::sched_answers;
 use receiver::Came;
+use receiver::Outcome;
+use receiver::ReceiverAnswer;
+use receiver::ReceiverState;
 use states::Failure;
 use states::FailureAnswer;
 use states::OperationalState;
-use receiver::Outcome;
 use states::PotentialFailure;
 use states::PotentialFailureAnswer;
-use receiver::ReceiverAnswer;
-use receiver::ReceiverState;
 use states::Refusal;
 use states::StateAnswer;
 

@@ -3,9 +3,9 @@ use crate::lent_run;
 use crate::lent_run::MOST;
 use crate::line::Line;
 use crate::receiver_answers;
-use states::Answer;
 use receiver::Ended;
 use receiver::ReceiverState;
+use states::Answer;
 
 // The most bytes of a ring and of a destination. A line that says more is bad.
 const ROOM: usize = 64;

@@ -3,10 +3,10 @@ use crate::line::Line;
 use crate::receiver_answers;
 use crate::receiver_calls;
 use crate::sched_list::scheduler;
+use receiver::ReceiverState;
 use states::Failure;
 use states::OperationalState;
 use states::PotentialFailure;
-use receiver::ReceiverState;
 use states::Violation;
 
 pub fn by_code(line: Line) -> Line {

@@ -26,7 +26,8 @@ use Rattle.states.specs.declared.state.PotentialFailure.{PotentialFailure}
 use Rattle.states.specs.declared.state.PotentialFailure.the-variants.{Some, None}
 use Rattle.receiver.proofs.Given as given
 use Rattle.receiver.proofs.GivenAnswer as answer
-use Rattle.receiver.proofs.Promised as promised
+use Rattle.states.proofs.Promised as promised
+use Rattle.receiver.proofs.PromisedCalls as calls
 use Rattle.states.proofs.PromisedStates as states
 use Rattle.driver.proofs.Promised.{delivered}
 use Rattle.stripring.specs.Call.{callAt}
@@ -69,7 +70,7 @@ use Rattle.stripring.proofs.failure.stripring_failure_advance_failure_t
 
 -- ---- the receiver and a call in progress
 pub receiver-new-refuses : Keeps 0 receiver-new-kinds.ps receiver-new-kinds.r receiver-new.Learnt (λ κs a z. GivenAt (Given (schedulerAt (a .0))) (z .refusal))
-receiver-new-refuses κs a z (ws, p) = rw (receiver-new-says κs a z ws p) (made-given (receiverOf (schedulerAt (a .0))) (states.new-promised tt (schedulerAt (a .0), tt) (receiverOf (schedulerAt (a .0))) ((tt, tt), refl) .0))
+receiver-new-refuses κs a z (ws, p) = rw (receiver-new-says κs a z ws p) (made-given (receiverOf (schedulerAt (a .0))) (calls.new-promised tt (schedulerAt (a .0), tt) (receiverOf (schedulerAt (a .0))) ((tt, tt), refl) .0))
 
 pub call-begin-read-refuses : Keeps 0 call-begin-read-kinds.ps call-begin-read-kinds.r call-begin-read.Learnt (λ κs a z. GivenAt (GivenRead (receiverAt (a .0)) (a .1 .0) (a .1 .1 .1 .0)) (z .refusal))
 call-begin-read-refuses κs a z (ws, p) = rw (call-begin-read-says κs a z ws p) (step-given (beginReadOf (receiverAt (a .0)) (a .1 .0) (a .1 .1 .0) (a .1 .1 .1 .0)) (given.begin-read-given tt (receiverAt (a .0), (a .1 .0, (a .1 .1 .0, (a .1 .1 .1 .0, tt)))) (beginReadOf (receiverAt (a .0)) (a .1 .0) (a .1 .1 .0) (a .1 .1 .1 .0)) ((tt, (tt, (tt, (tt, tt)))), refl)))

@@ -63,7 +63,7 @@ use Rattle.ends.specs.declared.writing_end.WrittenCounterAnswer.the-variants as
 use Rattle.ends.specs.declared.writing_end.Wrote.{Wrote}
 use Rattle.ends.specs.declared.writing_end.Wrote.the-variants as wrote
 use Rattle.states.proofs.PromisedValues.{number-of as receiver-refusal-some}
-use Rattle.receiver.specs.Refusal as of-receiver
+use Rattle.states.specs.Refusal as of-receiver
 use Rattle.receiver.specs.declared.call.Step.{Step}
 use Rattle.receiver.specs.declared.call.Step.the-variants as step
 use Rattle.receiver.specs.declared.receiver.Ended.{Ended}

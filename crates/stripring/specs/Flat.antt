@@ -9,7 +9,7 @@ use Rattle.copies.specs.Copies as of-copies
 use Rattle.ends.specs.declared.refusal.Refusal as ends
 use Rattle.ends.specs.Ends as of-ends
 use Rattle.states.specs.declared.refusal.Refusal as receiver
-use Rattle.receiver.specs.Refusal as of-receiver
+use Rattle.states.specs.Refusal as of-receiver
 use Rattle.stripring.specs.declared.flat.Refusal.{Refusal}
 
 abbrev pub refusalOf : ℕ → ℕ → ℕ → ℕ → Refusal

@@ -64,7 +64,7 @@ use Rattle.ends.specs.declared.writing_end.WrittenCounterAnswer.the-variants as
 use Rattle.ends.specs.declared.writing_end.WrittenCounterAnswer.{WrittenCounterAnswer}
 use Rattle.ends.specs.declared.writing_end.Wrote.the-variants as wrote
 use Rattle.ends.specs.declared.writing_end.Wrote.{Wrote}
-use Rattle.receiver.specs.Refusal as of-receiver
+use Rattle.states.specs.Refusal as of-receiver
 use Rattle.receiver.specs.declared.call.Call.{Call}
 use Rattle.receiver.specs.declared.call.Step.the-variants as step
 use Rattle.receiver.specs.declared.call.Step.{Step}

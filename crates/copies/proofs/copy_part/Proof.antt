@@ -5,36 +5,6 @@ use borrow.Author.Needs.{needs}
 use Rattle.copies.proofs.copy_part.Statement.{statement}
 use Rattle.copies.proofs.copy_part.Tie as tie
 
-add-c : tie.Need-add-c
-add-c c = search needs
-
-add-d : tie.Need-add-d
-add-d c = search needs
-
-sub-copy : tie.Need-sub-copy
-sub-copy c = search needs
-
-part-copy-start : tie.Need-part-copy-start
-part-copy-start c = search needs
-
-part-copy-end : tie.Need-part-copy-end
-part-copy-end c = search needs
-
-sub-copy-2 : tie.Need-sub-copy-2
-sub-copy-2 c = search needs
-
-part-copy-start-2 : tie.Need-part-copy-start-2
-part-copy-start-2 c = search needs
-
-part-copy-end-2 : tie.Need-part-copy-end-2
-part-copy-end-2 c = search needs
-
-copy-requires : tie.Need-copy-requires
-copy-requires c κs = search needs
-
-same-length : tie.Need-same-length
-same-length c = search needs
-
 returns : tie.Need-returns
 returns c =
     let s = c .before .before .before .before .before .before .before .args in
@@ -42,16 +12,5 @@ returns c =
 
 pub copy-part-spec : {M : Type 1} → statement M
 copy-part-spec =
-    tie.close
-    (tie.spec
-    add-c
-    add-d
-    sub-copy
-    part-copy-start
-    part-copy-end
-    sub-copy-2
-    part-copy-start-2
-    part-copy-end-2
-    copy-requires
-    same-length
-    returns)
+    tie.close (tie.spec (search needs) (search needs) (search needs) (search needs) (search needs) (search needs) (search needs)
+    (search needs) (search needs) (search needs) returns)

@@ -6,18 +6,9 @@ use borrow.Author.Needs.{needs}
 use Rattle.copies.proofs.demand_ring_memory.Statement.{statement}
 use Rattle.copies.proofs.demand_ring_memory.Tie as tie
 
-demand-soundness-requires : tie.Need-demand-soundness-requires
-demand-soundness-requires c κs = search needs
-
-enum-known-s : tie.Need-enum-known-s
-enum-known-s c = search needs
-
 returns : tie.Need-returns
 unfolding readyFrom
 returns c = rw (← (sym (c .before .before .before .s .given .1) ∙ c .before .before .before .before .before .demand-soundness .ensures), eq-eqb _ _ (c .if1 .taken))
-
-enum-known-e : tie.Need-enum-known-e
-enum-known-e c = search needs
 
 returns-2 : tie.Need-returns-2
 unfolding readyFrom
@@ -28,6 +19,4 @@ unfolding readyFrom
 returns-3 c = rw (← (sym (c .before .e .given .1) ∙ c .before .before .before .demand-soundness .ensures))
 
 pub demand-ring-memory-spec : {M : Type 1} → statement M
-demand-ring-memory-spec =
-    tie.close
-    (tie.spec demand-soundness-requires enum-known-s returns enum-known-e returns-2 returns-3)
+demand-ring-memory-spec = tie.close (tie.spec (search needs) (search needs) returns (search needs) returns-2 returns-3)

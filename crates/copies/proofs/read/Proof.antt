@@ -6,12 +6,6 @@ use borrow.Author.Needs.{needs}
 use Rattle.copies.proofs.read.Statement.{statement}
 use Rattle.copies.proofs.read.Tie as tie
 
-schedule-and-register-requires : tie.Need-schedule-and-register-requires
-schedule-and-register-requires c κs = search needs
-
-enum-known-m : tie.Need-enum-known-m
-enum-known-m c = search needs
-
 returns : tie.Need-returns
 returns c =
     let at-m = c .before .before .before in
@@ -21,15 +15,6 @@ get-round-requires : tie.Need-get-round-requires
 get-round-requires c κs =
     let at-m = c .before .before .before .before in
     move-fits _ Read _ _ _ (sym (at-m .m .given .1) ∙ at-m .before .before .schedule-and-register .ensures) (c .before .if1 .left)
-
-moved-requires : tie.Need-moved-requires
-moved-requires c κs = search needs
-
-enum-known-e : tie.Need-enum-known-e
-enum-known-e c = search needs
-
-same-length : tie.Need-same-length
-same-length c = search needs
 
 returns-2 : tie.Need-returns-2
 returns-2 c =
@@ -44,14 +29,5 @@ returns-3 c =
 
 pub read-spec : {M : Type 1} → statement M
 read-spec =
-    tie.close
-    (tie.spec
-    schedule-and-register-requires
-    enum-known-m
-    returns
-    get-round-requires
-    moved-requires
-    enum-known-e
-    same-length
-    returns-2
+    tie.close (tie.spec (search needs) (search needs) returns get-round-requires (search needs) (search needs) (search needs) returns-2
     returns-3)

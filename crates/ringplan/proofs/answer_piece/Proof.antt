@@ -62,23 +62,5 @@ returns-3 c = search needs
 
 pub answer-piece-spec : {M : Type 1} → statement M
 answer-piece-spec =
-    tie.close
-    (tie.spec
-    Inv-loop
-    μ-loop
-    loop-holds
-    has-more-requires
-    answer-one-requires
-    sub-turns
-    loop-less
-    loop-again
-    print-requires
-    same-length
-    same-length-2
-    returns
-    same-length-3
-    same-length-4
-    returns-2
-    same-length-5
-    same-length-6
-    returns-3)
+    tie.close (tie.spec Inv-loop μ-loop loop-holds has-more-requires answer-one-requires sub-turns loop-less loop-again print-requires
+    same-length same-length-2 returns same-length-3 same-length-4 returns-2 same-length-5 same-length-6 returns-3)

@@ -50,19 +50,5 @@ returns-2 c = search needs
 
 pub read-all-spec : {M : Type 1} → statement M
 read-all-spec =
-    tie.close
-    (tie.spec
-    Inv-loop
-    μ-loop
-    loop-holds
-    is-open-requires
-    read-some-requires
-    sub-turns
-    loop-less
-    loop-again
-    same-length
-    same-length-2
-    returns
-    same-length-3
-    same-length-4
-    returns-2)
+    tie.close (tie.spec Inv-loop μ-loop loop-holds is-open-requires read-some-requires sub-turns loop-less loop-again same-length
+    same-length-2 returns same-length-3 same-length-4 returns-2)

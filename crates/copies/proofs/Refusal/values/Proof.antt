@@ -3,18 +3,6 @@ use borrow.Author.Needs.{needs}
 use Rattle.copies.proofs.Refusal.values.Statement.{statement}
 use Rattle.copies.proofs.Refusal.values.Tie as tie
 
-enum-known-self : tie.Need-enum-known-self
-enum-known-self c = search needs
-
-values-requires : tie.Need-values-requires
-values-requires c κs = search needs
-
-enum-told : tie.Need-enum-told
-enum-told c = search needs
-
-none-requires : tie.Need-none-requires
-none-requires c κs = search needs
-
 returns : tie.Need-returns
 returns c = rw (c .before .before .self .given .1, c .values .ensures)
 
@@ -22,12 +10,4 @@ returns-2 : tie.Need-returns-2
 returns-2 c = rw (c .before .enum-told .given .1, c .none .ensures)
 
 pub values-spec : {M : Type 1} → statement M
-values-spec =
-    tie.close
-    (tie.spec
-    enum-known-self
-    values-requires
-    enum-told
-    none-requires
-    returns
-    returns-2)
+values-spec = tie.close (tie.spec (search needs) (search needs) (search needs) (search needs) returns returns-2)

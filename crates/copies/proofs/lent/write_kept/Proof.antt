@@ -4,17 +4,8 @@ use borrow.Author.Needs.{needs}
 use Rattle.copies.proofs.lent.write_kept.Statement.{statement}
 use Rattle.copies.proofs.lent.write_kept.Tie as tie
 
-write-requires : tie.Need-write-requires
-write-requires c κs = search needs
-
-keep-requires : tie.Need-keep-requires
-keep-requires c κs = search needs
-
-same-length : tie.Need-same-length
-same-length c = search needs
-
 returns : tie.Need-returns
 returns c = kept-leaves _ _ _ _ _ _ (c .before .before .before .write .ensures) (c .keep .ensures)
 
 pub write-kept-spec : {M : Type 1} → statement M
-write-kept-spec = tie.close (tie.spec write-requires keep-requires same-length returns)
+write-kept-spec = tie.close (tie.spec (search needs) (search needs) (search needs) returns)

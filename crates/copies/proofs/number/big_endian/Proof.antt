@@ -9,15 +9,8 @@ use Rattle.copies.proofs.number.big_endian.Tie as tie
 returns : tie.Need-returns
 returns c = sym (outside _ _ (c .if1 .taken))
 
-then-half-requires : tie.Need-then-half-requires
-then-half-requires c κs = search needs
-
-then-half-requires-2 : tie.Need-then-half-requires-2
-then-half-requires-2 c κs = search needs
-
 returns-2 : tie.Need-returns-2
 returns-2 c = both _ (now (c .before .before .before .before .args .bytes)) _ (c .before .before .if1 .left) _ _ _ (c .before .then-half .ensures .0) (c .then-half2 .ensures .0 .0) ∙ sym (inside _ _ (c .before .before .if1 .left))
 
 pub big-endian-spec : {M : Type 1} → statement M
-big-endian-spec =
-    tie.close (tie.spec returns then-half-requires then-half-requires-2 returns-2)
+big-endian-spec = tie.close (tie.spec returns (search needs) (search needs) returns-2)

@@ -6,18 +6,6 @@ use borrow.Author.Needs.{needs}
 use Rattle.copies.proofs.number.then_half.Statement.{statement}
 use Rattle.copies.proofs.number.then_half.Tie as tie
 
-then-byte-requires : tie.Need-then-byte-requires
-then-byte-requires c κs = search needs
-
-then-byte-requires-2 : tie.Need-then-byte-requires-2
-then-byte-requires-2 c κs = search needs
-
-then-byte-requires-3 : tie.Need-then-byte-requires-3
-then-byte-requires-3 c κs = search needs
-
-then-byte-requires-4 : tie.Need-then-byte-requires-4
-then-byte-requires-4 c κs = search needs
-
 returns : tie.Need-returns
 returns c = (
   half _ (now (c .before .before .before .before .before .args .bytes)) _ (c .before .before .before .before .before .pre .0) _ _ _ _ _ _ _ _ _ (c .before .before .before .then-byte .ensures .0) (c .before .before .then-byte2 .ensures .0) (c .before .then-byte3 .ensures .0) (c .then-byte4 .ensures .0),
@@ -25,11 +13,4 @@ returns c = (
 )
 
 pub then-half-spec : {M : Type 1} → statement M
-then-half-spec =
-    tie.close
-    (tie.spec
-    then-byte-requires
-    then-byte-requires-2
-    then-byte-requires-3
-    then-byte-requires-4
-    returns)
+then-half-spec = tie.close (tie.spec (search needs) (search needs) (search needs) (search needs) returns)

@@ -5,15 +5,6 @@ use borrow.Author.Needs.{needs}
 use Rattle.driver.proofs.drive.answered.Statement.{statement}
 use Rattle.driver.proofs.drive.answered.Tie as tie
 
-enum-known-step : tie.Need-enum-known-step
-enum-known-step c = search needs
-
-answered-requires : tie.Need-answered-requires
-answered-requires c κs = search needs
-
-enum-known-step-2 : tie.Need-enum-known-step-2
-enum-known-step-2 c = search needs
-
 returns : tie.Need-returns
 returns c = answered-by _ _ (c .before .before .step .given .1) _ _ _ _ (c .answered .ensures)
 
@@ -21,5 +12,4 @@ returns-2 : tie.Need-returns-2
 returns-2 c = answered-by _ _ (c .before .step2 .given .1) _ _ _ _ refl
 
 pub answered-spec : {M : Type 1} → statement M
-answered-spec =
-    tie.close (tie.spec enum-known-step answered-requires enum-known-step-2 returns returns-2)
+answered-spec = tie.close (tie.spec (search needs) (search needs) (search needs) returns returns-2)

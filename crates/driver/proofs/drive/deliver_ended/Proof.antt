@@ -4,18 +4,6 @@ use borrow.Author.Needs.{needs}
 use Rattle.driver.proofs.drive.deliver_ended.Statement.{statement}
 use Rattle.driver.proofs.drive.deliver_ended.Tie as tie
 
-enum-known-ended : tie.Need-enum-known-ended
-enum-known-ended c = search needs
-
-deliver-by-requires : tie.Need-deliver-by-requires
-deliver-by-requires c κs = search needs
-
-enum-known-ended-2 : tie.Need-enum-known-ended-2
-enum-known-ended-2 c = search needs
-
-same-length : tie.Need-same-length
-same-length c = search needs
-
 returns : tie.Need-returns
 returns c = delivered _ _ _ _ _ _ _ _ (c .before .before .before .before .before .ended .given .1) (c .before .before .deliver-by .ensures)
 
@@ -23,12 +11,4 @@ returns-2 : tie.Need-returns-2
 returns-2 c = not-delivered _ _ _ _ _ (c .before .ended2 .given .1)
 
 pub deliver-ended-spec : {M : Type 1} → statement M
-deliver-ended-spec =
-    tie.close
-    (tie.spec
-    enum-known-ended
-    deliver-by-requires
-    enum-known-ended-2
-    same-length
-    returns
-    returns-2)
+deliver-ended-spec = tie.close (tie.spec (search needs) (search needs) (search needs) (search needs) returns returns-2)

@@ -5,18 +5,6 @@ use borrow.Author.Needs.{needs}
 use Rattle.driver.proofs.drive.end_of_stream_for.Statement.{statement}
 use Rattle.driver.proofs.drive.end_of_stream_for.Tie as tie
 
-enum-told : tie.Need-enum-told
-enum-told c = search needs
-
-enum-told-2 : tie.Need-enum-told-2
-enum-told-2 c = search needs
-
-enum-known-came : tie.Need-enum-known-came
-enum-known-came c = search needs
-
-is-errno-requires : tie.Need-is-errno-requires
-is-errno-requires c κs = search needs
-
 returns : tie.Need-returns
 returns c = turns-by _ _ (c .before .before .before .came .given .1) _ (rw (sym (c .before .is-errno .ensures) ∙ c .if1 .taken))
 
@@ -31,13 +19,4 @@ returns-4 c = turns-by _ _ (c .before .before .before .came .given .1) _ (rw (sy
 
 pub end-of-stream-for-spec : {M : Type 1} → statement M
 end-of-stream-for-spec =
-    tie.close
-    (tie.spec
-    enum-told
-    enum-told-2
-    enum-known-came
-    is-errno-requires
-    returns
-    returns-2
-    returns-3
-    returns-4)
+    tie.close (tie.spec (search needs) (search needs) (search needs) (search needs) returns returns-2 returns-3 returns-4)

@@ -5,18 +5,6 @@ use borrow.Author.Needs.{needs}
 use Rattle.driver.proofs.drive.ended_in.Statement.{statement}
 use Rattle.driver.proofs.drive.ended_in.Tie as tie
 
-enum-told : tie.Need-enum-told
-enum-told c = search needs
-
-enum-told-2 : tie.Need-enum-told-2
-enum-told-2 c = search needs
-
-enum-told-3 : tie.Need-enum-told-3
-enum-told-3 c = search needs
-
-enum-known-phase : tie.Need-enum-known-phase
-enum-known-phase c = search needs
-
 returns : tie.Need-returns
 returns c = ended-by _ _ _ (c .enum-told .given .1) _ refl
 
@@ -30,14 +18,4 @@ returns-4 : tie.Need-returns-4
 returns-4 c = ended-by _ _ _ (c .before .phase .given .1) _ refl
 
 pub ended-in-spec : {M : Type 1} → statement M
-ended-in-spec =
-    tie.close
-    (tie.spec
-    enum-told
-    enum-told-2
-    enum-told-3
-    enum-known-phase
-    returns
-    returns-2
-    returns-3
-    returns-4)
+ended-in-spec = tie.close (tie.spec (search needs) (search needs) (search needs) (search needs) returns returns-2 returns-3 returns-4)

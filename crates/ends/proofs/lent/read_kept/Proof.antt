@@ -4,19 +4,10 @@ use borrow.Author.Needs.{needs}
 use Rattle.ends.proofs.lent.read_kept.Statement.{statement}
 use Rattle.ends.proofs.lent.read_kept.Tie as tie
 
-read-requires : tie.Need-read-requires
-read-requires c κs = search needs
-
-keep-reader-requires : tie.Need-keep-reader-requires
-keep-reader-requires c κs = search needs
-
-same-length : tie.Need-same-length
-same-length c = search needs
-
 returns : tie.Need-returns
 returns c =
     let s = c .before .before .before .before .before .before .before .args in
     kept-reader _ (s .ring .now) (s .dst .now) _ _ _ _ (c .before .before .before .read .ensures) (c .keep-reader .ensures)
 
 pub read-kept-spec : {M : Type 1} → statement M
-read-kept-spec = tie.close (tie.spec read-requires keep-reader-requires same-length returns)
+read-kept-spec = tie.close (tie.spec (search needs) (search needs) (search needs) returns)

@@ -4,15 +4,6 @@ use borrow.Author.Needs.{needs}
 use Rattle.ends.proofs.lent.take_read_kept.Statement.{statement}
 use Rattle.ends.proofs.lent.take_read_kept.Tie as tie
 
-take-requires : tie.Need-take-requires
-take-requires c κs = search needs
-
-enum-known-next : tie.Need-enum-known-next
-enum-known-next c = search needs
-
-enum-known-e : tie.Need-enum-known-e
-enum-known-e c = search needs
-
 returns : tie.Need-returns
 returns c = rw (← (sym (c .before .next .given .1) ∙ c .before .before .before .take .ensures)) (refl, refl)
 
@@ -20,5 +11,4 @@ returns-2 : tie.Need-returns-2
 returns-2 c = rw (← (sym (c .before .e .given .1) ∙ c .before .before .before .take .ensures)) (refl, refl)
 
 pub take-read-kept-spec : {M : Type 1} → statement M
-take-read-kept-spec =
-    tie.close (tie.spec take-requires enum-known-next enum-known-e returns returns-2)
+take-read-kept-spec = tie.close (tie.spec (search needs) (search needs) (search needs) returns returns-2)

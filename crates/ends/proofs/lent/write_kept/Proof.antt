@@ -4,19 +4,10 @@ use borrow.Author.Needs.{needs}
 use Rattle.ends.proofs.lent.write_kept.Statement.{statement}
 use Rattle.ends.proofs.lent.write_kept.Tie as tie
 
-write-requires : tie.Need-write-requires
-write-requires c κs = search needs
-
-keep-writer-requires : tie.Need-keep-writer-requires
-keep-writer-requires c κs = search needs
-
-same-length : tie.Need-same-length
-same-length c = search needs
-
 returns : tie.Need-returns
 returns c =
     let s = c .before .before .before .before .before .before .before .args in
     kept-writer _ (s .ring .now) (s .src .now) _ _ _ _ (c .before .before .before .write .ensures) (c .keep-writer .ensures)
 
 pub write-kept-spec : {M : Type 1} → statement M
-write-kept-spec = tie.close (tie.spec write-requires keep-writer-requires same-length returns)
+write-kept-spec = tie.close (tie.spec (search needs) (search needs) (search needs) returns)

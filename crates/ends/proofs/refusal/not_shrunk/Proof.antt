@@ -6,21 +6,9 @@ use borrow.Author.Needs.{needs}
 use Rattle.ends.proofs.refusal.not_shrunk.Statement.{statement}
 use Rattle.ends.proofs.refusal.not_shrunk.Tie as tie
 
-enum-known-before : tie.Need-enum-known-before
-enum-known-before c = search needs
-
-enum-known-after : tie.Need-enum-known-after
-enum-known-after c = search needs
-
 returns : tie.Need-returns
 unfolding takenFrom
 returns c = rw (c .before .before .before .before .before .before2 .given .1, c .before .before .after .given .1, lt-ltb (c .before .before .after .given .0 .0) (c .before .before .before .before .before .before2 .given .0 .0) (omega arith))
-
-enum-known-after-2 : tie.Need-enum-known-after-2
-enum-known-after-2 c = search needs
-
-enum-known-before-2 : tie.Need-enum-known-before-2
-enum-known-before-2 c = search needs
 
 returns-2 : tie.Need-returns-2
 unfolding takenFrom
@@ -35,14 +23,4 @@ unfolding takenFrom
 returns-4 c = rw (c .before .before3 .given .1)
 
 pub not-shrunk-spec : {M : Type 1} → statement M
-not-shrunk-spec =
-    tie.close
-    (tie.spec
-    enum-known-before
-    enum-known-after
-    returns
-    enum-known-after-2
-    enum-known-before-2
-    returns-2
-    returns-3
-    returns-4)
+not-shrunk-spec = tie.close (tie.spec (search needs) (search needs) returns (search needs) (search needs) returns-2 returns-3 returns-4)

@@ -5,15 +5,6 @@ use Rattle.lines.proofs.CutLaws.{hold-room, hold-full}
 use Rattle.lines.proofs.cut.hold.Statement.{statement}
 use Rattle.lines.proofs.cut.hold.Tie as tie
 
-slice-write-line : tie.Need-slice-write-line
-slice-write-line c = search needs
-
-add-result : tie.Need-add-result
-add-result c = search needs
-
-same-length : tie.Need-same-length
-same-length c = search needs
-
 returns : tie.Need-returns
 returns c = hold-room (c .before .args .most) (c .before .args .held) (c .before .args .line .now) (c .before .args .byte) (omega arith)
 
@@ -21,4 +12,4 @@ returns-2 : tie.Need-returns-2
 returns-2 c = hold-full (c .before .args .most) (c .before .args .held) (c .before .args .line .now) (c .before .args .byte) (omega arith)
 
 pub hold-spec : {M : Type 1} → statement M
-hold-spec = tie.close (tie.spec slice-write-line add-result same-length returns returns-2)
+hold-spec = tie.close (tie.spec (search needs) (search needs) (search needs) returns returns-2)

@@ -5,18 +5,6 @@ use Rattle.lines.proofs.CutLaws.{take-bounded}
 use Rattle.lines.proofs.cut.take_line.Statement.{statement}
 use Rattle.lines.proofs.cut.take_line.Tie as tie
 
-least-requires : tie.Need-least-requires
-least-requires c κs = search needs
-
-least-requires-2 : tie.Need-least-requires-2
-least-requires-2 c κs = search needs
-
-take-within-requires : tie.Need-take-within-requires
-take-within-requires c κs = search needs
-
-same-length : tie.Need-same-length
-same-length c = search needs
-
 returns : tie.Need-returns
 returns c =
     let a = c .before .before .before .before .before .before .before .before .args in
@@ -24,5 +12,4 @@ returns c =
     (c .before .before .before .before .before .least .result) (c .before .before .before .least2 .result) (c .before .before .take-within .ensures) (c .before .before .before .before .before .least .ensures) (c .before .before .before .least2 .ensures)
 
 pub take-line-spec : {M : Type 1} → statement M
-take-line-spec =
-    tie.close (tie.spec least-requires least-requires-2 take-within-requires same-length returns)
+take-line-spec = tie.close (tie.spec (search needs) (search needs) (search needs) (search needs) returns)

@@ -62,17 +62,5 @@ returns-2 c =
 
 pub take-within-spec : {M : Type 1} → statement M
 take-within-spec =
-    tie.close
-    (tie.spec
-    Inv-loop
-    μ-loop
-    loop-holds
-    shared-slice-read-byte
-    add-next
-    same-length
-    returns
-    hold-requires
-    loop-less
-    loop-again
-    same-length-2
-    returns-2)
+    tie.close (tie.spec Inv-loop μ-loop loop-holds shared-slice-read-byte add-next same-length returns hold-requires loop-less loop-again
+    same-length-2 returns-2)

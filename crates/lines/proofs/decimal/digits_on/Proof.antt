@@ -78,20 +78,5 @@ returns-3 c =
 
 pub digits-on-spec : {M : Type 1} → statement M
 digits-on-spec =
-    tie.close
-    (tie.spec
-    Inv-loop
-    μ-loop
-    loop-holds
-    shared-slice-read-byte
-    is-digit-requires
-    returns
-    digit-of-requires
-    fits-u64-requires
-    returns-2
-    mul-n
-    add-n
-    add-next
-    loop-less
-    loop-again
-    returns-3)
+    tie.close (tie.spec Inv-loop μ-loop loop-holds shared-slice-read-byte is-digit-requires returns digit-of-requires fits-u64-requires
+    returns-2 mul-n add-n add-next loop-less loop-again returns-3)

@@ -11,19 +11,10 @@ use Rattle.lines.proofs.DecimalLaws.{decimal-short}
 use Rattle.lines.proofs.decimal.has_room_for.Statement.{statement}
 use Rattle.lines.proofs.decimal.has_room_for.Tie as tie
 
-has-room-requires : tie.Need-has-room-requires
-has-room-requires c κs = search needs
-
 returns : tie.Need-returns
 returns c =
     let a = c .before .before .before .args in
     sym (le-leb (a .at + length (decimal (a .n))) (length (a .out .now)) (omega (arith, leb-true (a .at + 20) (length (a .out .now)) (sym (c .before .has-room .ensures) ∙ c .if1 .taken), decimal-short (a .n))))
-
-width-requires : tie.Need-width-requires
-width-requires c κs = search needs
-
-has-room-requires-2 : tie.Need-has-room-requires-2
-has-room-requires-2 c κs = search needs
 
 returns-2 : tie.Need-returns-2
 returns-2 c =
@@ -31,5 +22,4 @@ returns-2 c =
     c .has-room2 .ensures ∙ ap (λ (k : ℕ). hasRoom k (filled (a .at) (a .out .now))) (c .before .width .ensures)
 
 pub has-room-for-spec : {M : Type 1} → statement M
-has-room-for-spec =
-    tie.close (tie.spec has-room-requires returns width-requires has-room-requires-2 returns-2)
+has-room-for-spec = tie.close (tie.spec (search needs) returns (search needs) (search needs) returns-2)

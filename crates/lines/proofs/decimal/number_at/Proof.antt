@@ -11,28 +11,13 @@ use Rattle.lines.proofs.decimal.number_at.Tie as tie
 returns : tie.Need-returns
 returns c = ap (numberIn (c .before .before .args .line .now)) (sym (front-end (c .before .before .args .line .now) (c .before .before .args .at) (omega arith)))
 
-shared-slice-read-byte : tie.Need-shared-slice-read-byte
-shared-slice-read-byte c = search needs
-
-add-t8 : tie.Need-add-t8
-add-t8 c = search needs
-
 returns-2 : tie.Need-returns-2
 returns-2 c =
     let a = c .before .before .before .before .args in
     number-there (a .line .now) 0 (a .at + 1) (omega arith) ∙ ap (numberIn (a .line .now)) (sym (front-zero (a .line .now) (a .at) (omega arith) (omega arith)))
 
-is-digit-requires : tie.Need-is-digit-requires
-is-digit-requires c κs = search needs
-
-add-digits-on : tie.Need-add-digits-on
-add-digits-on c = search needs
-
 digit-of-requires : tie.Need-digit-of-requires
 digit-of-requires c κs = digit-bounds _ (sym (c .before .is-digit .ensures) ∙ c .if3 .taken) .0
-
-digits-on-requires : tie.Need-digits-on-requires
-digits-on-requires c κs = search needs
 
 returns-3 : tie.Need-returns-3
 returns-3 c =
@@ -50,15 +35,5 @@ returns-4 c =
 
 pub number-at-spec : {M : Type 1} → statement M
 number-at-spec =
-    tie.close
-    (tie.spec
-    returns
-    shared-slice-read-byte
-    add-t8
-    returns-2
-    is-digit-requires
-    add-digits-on
-    digit-of-requires
-    digits-on-requires
-    returns-3
-    returns-4)
+    tie.close (tie.spec returns (search needs) (search needs) returns-2 (search needs) (search needs) digit-of-requires (search needs)
+    returns-3 returns-4)

@@ -9,16 +9,10 @@ use Rattle.lines.proofs.TextLaws.{append-room, append-full}
 use Rattle.lines.proofs.decimal.put_decimal.Statement.{statement}
 use Rattle.lines.proofs.decimal.put_decimal.Tie as tie
 
-has-room-for-requires : tie.Need-has-room-for-requires
-has-room-for-requires c κs = search needs
-
 put-digits-requires : tie.Need-put-digits-requires
 put-digits-requires c κs =
     let a = c .before .before .before .before .before .args in
     leb-true (a .at + length (decimal (a .n))) (length (a .out .now)) (sym (c .before .before .has-room-for .ensures) ∙ c .before .if1 .taken)
-
-same-length : tie.Need-same-length
-same-length c = search needs
 
 returns : tie.Need-returns
 returns c =
@@ -26,21 +20,10 @@ returns c =
     append-room (length (decimal (a .n))) (decimal (a .n)) (a .out .now) (c .before .before .put-digits .last .0) (a .at) (c .before .before .put-digits .result)
     (sym (c .before .before .before .before .before .has-room-for .ensures) ∙ c .before .before .before .before .if1 .taken) (c .before .before .put-digits .ensures)
 
-same-length-2 : tie.Need-same-length-2
-same-length-2 c = search needs
-
 returns-2 : tie.Need-returns-2
 returns-2 c =
     let a = c .before .before .before .before .args in
     append-full (length (decimal (a .n))) (decimal (a .n)) (a .out .now) (a .at) (sym (c .before .has-room-for .ensures) ∙ c .if1 .left)
 
 pub put-decimal-spec : {M : Type 1} → statement M
-put-decimal-spec =
-    tie.close
-    (tie.spec
-    has-room-for-requires
-    put-digits-requires
-    same-length
-    returns
-    same-length-2
-    returns-2)
+put-decimal-spec = tie.close (tie.spec (search needs) put-digits-requires (search needs) returns (search needs) returns-2)

@@ -33,5 +33,4 @@ returns : tie.Need-returns Inv-loop μ-loop
 returns c = omega (arith, ap length (decimal-one (c .before .loop .rest) (omega arith)))
 
 pub width-spec : {M : Type 1} → statement M
-width-spec =
-    tie.close (tie.spec Inv-loop μ-loop loop-holds add-digits loop-less loop-again returns)
+width-spec = tie.close (tie.spec Inv-loop μ-loop loop-holds add-digits loop-less loop-again returns)

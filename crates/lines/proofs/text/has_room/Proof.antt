@@ -12,11 +12,8 @@ use Rattle.lines.proofs.text.has_room.Tie as tie
 returns : tie.Need-returns
 returns c = sym (lt-leb (c .before .args .at + c .before .args .longest) (length (c .before .args .out .now)) (omega arith))
 
-sub-result : tie.Need-sub-result
-sub-result c = search needs
-
 returns-2 : tie.Need-returns-2
 returns-2 c = same-leb (c .before .args .at) (length (c .before .args .out .now) - c .before .args .longest) (c .before .args .at + c .before .args .longest) (length (c .before .args .out .now)) (λ h. omega arith) (λ h. omega arith)
 
 pub has-room-spec : {M : Type 1} → statement M
-has-room-spec = tie.close (tie.spec returns sub-result returns-2)
+has-room-spec = tie.close (tie.spec returns (search needs) returns-2)

@@ -8,16 +8,10 @@ use Rattle.lines.proofs.TextLaws.{append-room, append-full}
 use Rattle.lines.proofs.text.put.Statement.{statement}
 use Rattle.lines.proofs.text.put.Tie as tie
 
-has-room-requires : tie.Need-has-room-requires
-has-room-requires c κs = search needs
-
 put-bytes-requires : tie.Need-put-bytes-requires
 put-bytes-requires c κs =
     let a = c .before .before .before .before .before .before .args in
     leb-true (a .at + length (a .bytes .now)) (length (a .out .now)) (sym (c .before .before .has-room .ensures) ∙ c .before .if1 .taken)
-
-same-length : tie.Need-same-length
-same-length c = search needs
 
 returns : tie.Need-returns
 returns c =
@@ -25,21 +19,10 @@ returns c =
     append-room (length (a .bytes .now)) (a .bytes .now) (a .out .now) (c .before .before .put-bytes .last .0) (a .at) (c .before .before .put-bytes .result)
     (sym (c .before .before .before .before .before .has-room .ensures) ∙ c .before .before .before .before .if1 .taken) (c .before .before .put-bytes .ensures)
 
-same-length-2 : tie.Need-same-length-2
-same-length-2 c = search needs
-
 returns-2 : tie.Need-returns-2
 returns-2 c =
     let a = c .before .before .before .before .before .args in
     append-full (length (a .bytes .now)) (a .bytes .now) (a .out .now) (a .at) (sym (c .before .has-room .ensures) ∙ c .if1 .left)
 
 pub put-spec : {M : Type 1} → statement M
-put-spec =
-    tie.close
-    (tie.spec
-    has-room-requires
-    put-bytes-requires
-    same-length
-    returns
-    same-length-2
-    returns-2)
+put-spec = tie.close (tie.spec (search needs) put-bytes-requires (search needs) returns (search needs) returns-2)

@@ -7,26 +7,14 @@ use Rattle.modular.proofs.Laws.{whole-zero, whole-pos, whole-some, wrap
 use Rattle.modular.proofs.Modulus.add.Statement.{statement}
 use Rattle.modular.proofs.Modulus.add.Tie as tie
 
-wrapping-add-u64-requires : tie.Need-wrapping-add-u64-requires
-wrapping-add-u64-requires c κs = search needs
-
 returns : tie.Need-returns
 returns c =
     rw (whole-zero 64 _ (c .before .if1 .taken)) (wrapped-add _ _ _ _ (c .wrapping-add-u64 .ensures))
-
-new-number-requires : tie.Need-new-number-requires
-new-number-requires c κs = search needs
-
-new-number-requires-2 : tie.Need-new-number-requires-2
-new-number-requires-2 c κs = search needs
 
 sub-room : tie.Need-sub-room
 sub-room c =
     let s = c .before .before .before .args in
     omega (arith, whole-pos 64 _ (c .before .before .if1 .left), mod-lt (s .b) (whole-some 64 (s .self .0)))
-
-add-result : tie.Need-add-result
-add-result c = search needs
 
 returns-2 : tie.Need-returns-2
 returns-2 c =
@@ -37,14 +25,4 @@ returns-3 c =
     add-wraps _ _ _ _ _ (whole-some 64 _) (c .before .before .new-number .ensures) (c .before .new-number2 .ensures) _ (sym (whole-pos 64 _ (c .before .before .before .if1 .left))) (c .if2 .left)
 
 pub add-spec : {M : Type 1} → statement M
-add-spec =
-    tie.close
-    (tie.spec
-    wrapping-add-u64-requires
-    returns
-    new-number-requires
-    new-number-requires-2
-    sub-room
-    add-result
-    returns-2
-    returns-3)
+add-spec = tie.close (tie.spec (search needs) returns (search needs) (search needs) sub-room (search needs) returns-2 returns-3)

@@ -11,12 +11,9 @@ returns c = double-none 64 _ (omega (arith, whole-zero 64 _ (c .if1 .taken)))
 returns-2 : tie.Need-returns-2
 returns-2 c = double-none 64 _ (omega (arith, whole-pos 64 _ (c .before .if1 .left)))
 
-wrapping-add-u64-requires : tie.Need-wrapping-add-u64-requires
-wrapping-add-u64-requires c κs = search needs
-
 returns-3 : tie.Need-returns-3
 returns-3 c =
     double-sum 64 _ _ (whole-pos 64 _ (c .before .before .if1 .left)) (omega arith) (c .wrapping-add-u64 .ensures)
 
 pub double-spec : {M : Type 1} → statement M
-double-spec = tie.close (tie.spec returns returns-2 wrapping-add-u64-requires returns-3)
+double-spec = tie.close (tie.spec returns returns-2 (search needs) returns-3)

@@ -7,15 +7,9 @@ use Rattle.modular.proofs.Laws.{whole-zero, whole-pos, whole-some, wrap
 use Rattle.modular.proofs.Modulus.neg.Statement.{statement}
 use Rattle.modular.proofs.Modulus.neg.Tie as tie
 
-wrapping-sub-u64-requires : tie.Need-wrapping-sub-u64-requires
-wrapping-sub-u64-requires c κs = search needs
-
 returns : tie.Need-returns
 returns c =
     rw (whole-zero 64 _ (c .before .if1 .taken)) (wrapped-neg _ _ _ (omega arith) (omega arith) (omega arith) (c .wrapping-sub-u64 .ensures))
-
-new-number-requires : tie.Need-new-number-requires
-new-number-requires c κs = search needs
 
 sub-result : tie.Need-sub-result
 sub-result c =
@@ -32,5 +26,4 @@ returns-3 c =
     neg-pos _ _ _ (whole-some 64 _) (c .before .new-number .ensures) _ (sym (whole-pos 64 _ (c .before .before .if1 .left))) (c .if2 .left)
 
 pub neg-spec : {M : Type 1} → statement M
-neg-spec =
-    tie.close (tie.spec wrapping-sub-u64-requires returns new-number-requires sub-result returns-2 returns-3)
+neg-spec = tie.close (tie.spec (search needs) returns (search needs) sub-result returns-2 returns-3)

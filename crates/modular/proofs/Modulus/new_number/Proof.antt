@@ -11,9 +11,6 @@ use Rattle.modular.proofs.Laws.{whole-pos, whole-above}
 use Rattle.modular.proofs.Modulus.new_number.Statement.{statement}
 use Rattle.modular.proofs.Modulus.new_number.Tie as tie
 
-contains-requires : tie.Need-contains-requires
-contains-requires c κs = search needs
-
 returns : tie.Need-returns
 returns c =
     let v = c .before .before .args .value in
@@ -30,4 +27,4 @@ returns-2 c =
     rw (whole-pos 64 _ (whole-above 64 _ (c .before .before .before .args .value) (omega arith) (ltb-false _ _ (sym (c .before .before .contains .ensures) ∙ c .before .if1 .left))))
 
 pub new-number-spec : {M : Type 1} → statement M
-new-number-spec = tie.close (tie.spec contains-requires returns rem-result returns-2)
+new-number-spec = tie.close (tie.spec (search needs) returns rem-result returns-2)

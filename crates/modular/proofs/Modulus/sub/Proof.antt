@@ -7,21 +7,9 @@ use Rattle.modular.proofs.Laws.{whole-zero, whole-pos, whole-some, wrap
 use Rattle.modular.proofs.Modulus.sub.Statement.{statement}
 use Rattle.modular.proofs.Modulus.sub.Tie as tie
 
-wrapping-sub-u64-requires : tie.Need-wrapping-sub-u64-requires
-wrapping-sub-u64-requires c κs = search needs
-
 returns : tie.Need-returns
 returns c =
     rw (whole-zero 64 _ (c .before .if1 .taken)) (wrapped-sub _ _ _ _ (omega arith) (omega arith) (omega arith) (c .wrapping-sub-u64 .ensures))
-
-new-number-requires : tie.Need-new-number-requires
-new-number-requires c κs = search needs
-
-new-number-requires-2 : tie.Need-new-number-requires-2
-new-number-requires-2 c κs = search needs
-
-sub-result : tie.Need-sub-result
-sub-result c = search needs
 
 sub-result-2 : tie.Need-sub-result-2
 sub-result-2 c =
@@ -37,14 +25,4 @@ returns-3 c =
     sub-below _ _ _ _ _ (whole-some 64 _) (c .before .before .new-number .ensures) (c .before .new-number2 .ensures) _ (sym (whole-pos 64 _ (c .before .before .before .if1 .left))) (c .if2 .left)
 
 pub sub-spec : {M : Type 1} → statement M
-sub-spec =
-    tie.close
-    (tie.spec
-    wrapping-sub-u64-requires
-    returns
-    new-number-requires
-    new-number-requires-2
-    sub-result
-    sub-result-2
-    returns-2
-    returns-3)
+sub-spec = tie.close (tie.spec (search needs) returns (search needs) (search needs) (search needs) sub-result-2 returns-2 returns-3)

@@ -5,9 +5,6 @@ use Rattle.modular.proofs.Laws.{number-some, number-none}
 use Rattle.modular.proofs.Modulus.try_new_number.Statement.{statement}
 use Rattle.modular.proofs.Modulus.try_new_number.Tie as tie
 
-contains-requires : tie.Need-contains-requires
-contains-requires c κs = search needs
-
 returns : tie.Need-returns
 returns c = number-some _ _ (sym (c .before .contains .ensures) ∙ c .if1 .taken)
 
@@ -15,4 +12,4 @@ returns-2 : tie.Need-returns-2
 returns-2 c = number-none _ _ (sym (c .before .contains .ensures) ∙ c .if1 .left)
 
 pub try-new-number-spec : {M : Type 1} → statement M
-try-new-number-spec = tie.close (tie.spec contains-requires returns returns-2)
+try-new-number-spec = tie.close (tie.spec (search needs) returns returns-2)

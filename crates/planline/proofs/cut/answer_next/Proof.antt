@@ -13,22 +13,10 @@ use Rattle.planline.specs.Text.{longest}
 use Rattle.planline.proofs.cut.answer_next.Statement.{statement}
 use Rattle.planline.proofs.cut.answer_next.Tie as tie
 
-is-ready-requires : tie.Need-is-ready-requires
-is-ready-requires c κs = search needs
-
-same-length : tie.Need-same-length
-same-length c = search needs
-
-same-length-2 : tie.Need-same-length-2
-same-length-2 c = search needs
-
 returns : tie.Need-returns
 returns c =
     let a = c .before .before .before .before .before .before .before .args in
     step-unready lineText mostHeld longest (filled (a .held) (a .line .now)) (a .from) (a .piece .now) (filled (a .at) (a .out .now)) (sym (c .before .is-ready .ensures) ∙ not-true _ (c .if1 .taken))
-
-take-line-requires : tie.Need-take-line-requires
-take-line-requires c κs = search needs
 
 slice-reshare-prefix-append : tie.Need-slice-reshare-prefix-append
 slice-reshare-prefix-append c =
@@ -41,27 +29,12 @@ slice-aggregate-append c =
     let t = c .before .before .before .before .take-line in
     sym (length-take-le (t .result .held) (t .last .0) (omega (arith, took-within mostHeld (a .held) (a .from) (a .line .now) (a .piece .now) (t .ensures))))
 
-append-requires : tie.Need-append-requires
-append-requires c κs = search needs
-
-same-length-3 : tie.Need-same-length-3
-same-length-3 c = search needs
-
-same-length-4 : tie.Need-same-length-4
-same-length-4 c = search needs
-
 returns-2 : tie.Need-returns-2
 returns-2 c =
     let a = c .before .before .before .before .before .before .before .before .before .before .before .before .before .before .before .before .before .args in
     let t = c .before .before .before .before .before .before .before .before .take-line in
     ap (λ (o : Filled). step (filled 0 (t .last .0)) (t .result .next) o) (c .before .before .append .ensures)
     ∙ step-whole lineText mostHeld longest (filled (a .held) (a .line .now)) (a .from) (a .piece .now) (filled (a .at) (a .out .now)) (sym (c .before .before .before .before .before .before .before .before .before .before .before .is-ready .ensures) ∙ not-false _ (c .before .before .before .before .before .before .before .before .before .before .if1 .left)) (t .ensures) (c .before .before .before .before .before .if2 .taken)
-
-same-length-5 : tie.Need-same-length-5
-same-length-5 c = search needs
-
-same-length-6 : tie.Need-same-length-6
-same-length-6 c = search needs
 
 returns-3 : tie.Need-returns-3
 returns-3 c =
@@ -71,19 +44,5 @@ returns-3 c =
 
 pub answer-next-spec : {M : Type 1} → statement M
 answer-next-spec =
-    tie.close
-    (tie.spec
-    is-ready-requires
-    same-length
-    same-length-2
-    returns
-    take-line-requires
-    slice-reshare-prefix-append
-    slice-aggregate-append
-    append-requires
-    same-length-3
-    same-length-4
-    returns-2
-    same-length-5
-    same-length-6
-    returns-3)
+    tie.close (tie.spec (search needs) (search needs) (search needs) returns (search needs) slice-reshare-prefix-append
+    slice-aggregate-append (search needs) (search needs) (search needs) returns-2 (search needs) (search needs) returns-3)

@@ -12,11 +12,8 @@ use Rattle.planline.proofs.cut.is_ready.Tie as tie
 returns : tie.Need-returns
 returns c = ready-short mostHeld longest (c .before .before .before .args .line .now) (filled (c .before .before .before .args .at) (c .before .before .before .args .out .now)) (omega arith)
 
-has-room-requires : tie.Need-has-room-requires
-has-room-requires c κs = search needs
-
 returns-2 : tie.Need-returns-2
 returns-2 c = c .has-room .ensures ∙ ready-long mostHeld longest (c .before .before .before .before .args .line .now) (filled (c .before .before .before .before .args .at) (c .before .before .before .before .args .out .now)) (omega arith)
 
 pub is-ready-spec : {M : Type 1} → statement M
-is-ready-spec = tie.close (tie.spec returns has-room-requires returns-2)
+is-ready-spec = tie.close (tie.spec returns (search needs) returns-2)

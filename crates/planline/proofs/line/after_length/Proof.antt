@@ -6,18 +6,6 @@ use Rattle.planline.specs.Line.{withWritten}
 use Rattle.planline.proofs.line.after_length.Statement.{statement}
 use Rattle.planline.proofs.line.after_length.Tie as tie
 
-spaced-requires : tie.Need-spaced-requires
-spaced-requires c κs = search needs
-
-enum-known-n : tie.Need-enum-known-n
-enum-known-n c = search needs
-
-after-written-requires : tie.Need-after-written-requires
-after-written-requires c κs = search needs
-
-enum-told : tie.Need-enum-told
-enum-told c = search needs
-
 returns : tie.Need-returns
 returns c = c .after-written .ensures ∙ ap (withWritten (c .before .before .before .before .before .before .args .buf-len)) (front-is (c .before .before .before .before .before .before .args .line .now) (c .before .before .n .given .1) (c .before .before .before .before .spaced .ensures))
 
@@ -25,6 +13,4 @@ returns-2 : tie.Need-returns-2
 returns-2 c = ap (withWritten (c .before .before .before .before .args .buf-len)) (front-is (c .before .before .before .before .args .line .now) (c .enum-told .given .1) (c .before .before .spaced .ensures))
 
 pub after-length-spec : {M : Type 1} → statement M
-after-length-spec =
-    tie.close
-    (tie.spec spaced-requires enum-known-n after-written-requires enum-told returns returns-2)
+after-length-spec = tie.close (tie.spec (search needs) (search needs) (search needs) (search needs) returns returns-2)

@@ -8,26 +8,8 @@ use Rattle.planline.specs.Line.{lastFront}
 use Rattle.planline.proofs.line.after_read.Statement.{statement}
 use Rattle.planline.proofs.line.after_read.Tie as tie
 
-kind-at-requires : tie.Need-kind-at-requires
-kind-at-requires c κs = search needs
-
-enum-known-typ : tie.Need-enum-known-typ
-enum-known-typ c = search needs
-
 add-last : tie.Need-add-last
 add-last c = record { fits = omega (arith, kind-room (c .before .before .before .before .before .args .line .now) (c .before .before .before .before .before .args .at) (c .before .typ .given .0 .0) (sym (c .before .typ .given .1) ∙ c .before .before .before .kind-at .ensures)) }
-
-last-requires : tie.Need-last-requires
-last-requires c κs = search needs
-
-enum-known-n : tie.Need-enum-known-n
-enum-known-n c = search needs
-
-enum-told : tie.Need-enum-told
-enum-told c = search needs
-
-enum-told-2 : tie.Need-enum-told-2
-enum-told-2 c = search needs
 
 returns : tie.Need-returns
 returns c =
@@ -48,15 +30,5 @@ returns-3 c =
 
 pub after-read-spec : {M : Type 1} → statement M
 after-read-spec =
-    tie.close
-    (tie.spec
-    kind-at-requires
-    enum-known-typ
-    add-last
-    last-requires
-    enum-known-n
-    enum-told
-    enum-told-2
-    returns
-    returns-2
-    returns-3)
+    tie.close (tie.spec (search needs) (search needs) add-last (search needs) (search needs) (search needs) (search needs) returns
+    returns-2 returns-3)

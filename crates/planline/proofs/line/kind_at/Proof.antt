@@ -9,20 +9,8 @@ use Rattle.planline.proofs.line.kind_at.Tie as tie
 returns : tie.Need-returns
 returns c = sym (kind-end (c .before .before .args .line .now) (c .before .before .args .at) (omega arith))
 
-add-next : tie.Need-add-next
-add-next c = search needs
-
 returns-2 : tie.Need-returns-2
 returns-2 c = sym (kind-alone (c .before .before .before .args .line .now) (c .before .before .before .args .at) (omega arith) (omega arith))
-
-shared-slice-read-if3 : tie.Need-shared-slice-read-if3
-shared-slice-read-if3 c = search needs
-
-shared-slice-read-kind-of : tie.Need-shared-slice-read-kind-of
-shared-slice-read-kind-of c = search needs
-
-kind-of-requires : tie.Need-kind-of-requires
-kind-of-requires c κs = search needs
 
 returns-3 : tie.Need-returns-3
 returns-3 c = c .kind-of .ensures ∙ sym (kind-there (c .before .before .before .before .before .before .before .args .line .now) (c .before .before .before .before .before .before .before .args .at) (omega arith) (c .before .before .if3 .taken))
@@ -31,14 +19,4 @@ returns-4 : tie.Need-returns-4
 returns-4 c = sym (kind-other (c .before .before .before .before .before .args .line .now) (c .before .before .before .before .before .args .at) (omega arith) (c .if3 .left))
 
 pub kind-at-spec : {M : Type 1} → statement M
-kind-at-spec =
-    tie.close
-    (tie.spec
-    returns
-    add-next
-    returns-2
-    shared-slice-read-if3
-    shared-slice-read-kind-of
-    kind-of-requires
-    returns-3
-    returns-4)
+kind-at-spec = tie.close (tie.spec returns (search needs) returns-2 (search needs) (search needs) (search needs) returns-3 returns-4)

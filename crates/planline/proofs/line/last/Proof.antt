@@ -8,19 +8,10 @@ use Rattle.planline.specs.Line.{atEnd}
 use Rattle.planline.proofs.line.last.Statement.{statement}
 use Rattle.planline.proofs.line.last.Tie as tie
 
-number-at-requires : tie.Need-number-at-requires
-number-at-requires c κs = search needs
-
-enum-known-n : tie.Need-enum-known-n
-enum-known-n c = search needs
-
 returns : tie.Need-returns
 returns c =
     sym (end-other (c .before .before .before .before .before .before .args .line .now) (c .before .before .n .given .0 .1 .0) (c .before .before .n .given .0 .0) (omega arith))
     ∙ ap atEnd (front-is (c .before .before .before .before .before .before .args .line .now) (c .before .before .n .given .1) (front-at (c .before .before .before .before .before .before .args .line .now) (c .before .before .before .before .before .before .args .at) (c .before .before .before .before .number-at .ensures)))
-
-enum-told : tie.Need-enum-told
-enum-told c = search needs
 
 returns-2 : tie.Need-returns-2
 returns-2 c =
@@ -31,5 +22,4 @@ returns-3 : tie.Need-returns-3
 returns-3 c = ap atEnd (front-is (c .before .before .before .before .args .line .now) (c .enum-told .given .1) (front-at (c .before .before .before .before .args .line .now) (c .before .before .before .before .args .at) (c .before .before .number-at .ensures)))
 
 pub last-spec : {M : Type 1} → statement M
-last-spec =
-    tie.close (tie.spec number-at-requires enum-known-n returns enum-told returns-2 returns-3)
+last-spec = tie.close (tie.spec (search needs) (search needs) returns (search needs) returns-2 returns-3)

@@ -10,18 +10,6 @@ use Rattle.planline.proofs.line.plan_line.Tie as tie
 returns : tie.Need-returns
 returns c = plan-long (c .before .before .args .line .now) (omega arith)
 
-parse-requires : tie.Need-parse-requires
-parse-requires c κs = search needs
-
-enum-known-asked : tie.Need-enum-known-asked
-enum-known-asked c = search needs
-
-plan-for-requires : tie.Need-plan-for-requires
-plan-for-requires c κs = search needs
-
-enum-told : tie.Need-enum-told
-enum-told c = search needs
-
 returns-2 : tie.Need-returns-2
 returns-2 c = c .plan-for .ensures ∙ ap planFrom (sym (c .before .before .asked .given .1) ∙ c .before .before .before .before .parse .ensures) ∙ plan-short (c .before .before .before .before .before .before .before .args .line .now) (omega arith)
 
@@ -29,13 +17,4 @@ returns-3 : tie.Need-returns-3
 returns-3 c = ap planFrom (sym (c .enum-told .given .1) ∙ c .before .before .parse .ensures) ∙ plan-short (c .before .before .before .before .before .args .line .now) (omega arith)
 
 pub plan-line-spec : {M : Type 1} → statement M
-plan-line-spec =
-    tie.close
-    (tie.spec
-    returns
-    parse-requires
-    enum-known-asked
-    plan-for-requires
-    enum-told
-    returns-2
-    returns-3)
+plan-line-spec = tie.close (tie.spec returns (search needs) (search needs) (search needs) (search needs) returns-2 returns-3)

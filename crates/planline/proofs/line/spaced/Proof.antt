@@ -8,25 +8,10 @@ use Rattle.planline.specs.Line.{afterSpace}
 use Rattle.planline.proofs.line.spaced.Statement.{statement}
 use Rattle.planline.proofs.line.spaced.Tie as tie
 
-number-at-requires : tie.Need-number-at-requires
-number-at-requires c κs = search needs
-
-enum-known-n : tie.Need-enum-known-n
-enum-known-n c = search needs
-
-shared-slice-read-if2 : tie.Need-shared-slice-read-if2
-shared-slice-read-if2 c = search needs
-
-add-t12 : tie.Need-add-t12
-add-t12 c = search needs
-
 returns : tie.Need-returns
 returns c =
     let n = c .before .before .before .before .n .given in
     sym (space-there (c .before .before .before .before .before .before .before .before .args .line .now) (n .0 .1 .0) (n .0 .0) (omega arith) (c .if2 .taken)) ∙ ap afterSpace (front-is (c .before .before .before .before .before .before .before .before .args .line .now) (n .1) (front-at (c .before .before .before .before .before .before .before .before .args .line .now) (c .before .before .before .before .before .before .before .before .args .at) (c .before .before .before .before .before .before .number-at .ensures)))
-
-enum-told : tie.Need-enum-told
-enum-told c = search needs
 
 returns-2 : tie.Need-returns-2
 returns-2 c =
@@ -43,14 +28,4 @@ returns-4 c = ap afterSpace (front-is (c .before .before .before .before .args .
 
 pub spaced-spec : {M : Type 1} → statement M
 spaced-spec =
-    tie.close
-    (tie.spec
-    number-at-requires
-    enum-known-n
-    shared-slice-read-if2
-    add-t12
-    returns
-    enum-told
-    returns-2
-    returns-3
-    returns-4)
+    tie.close (tie.spec (search needs) (search needs) (search needs) (search needs) returns (search needs) returns-2 returns-3 returns-4)

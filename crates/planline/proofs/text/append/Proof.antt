@@ -15,18 +15,6 @@ use Rattle.planline.proofs.TextLaws.{plan-text-short}
 use Rattle.planline.proofs.text.append.Statement.{statement}
 use Rattle.planline.proofs.text.append.Tie as tie
 
-has-room-requires : tie.Need-has-room-requires
-has-room-requires c κs = search needs
-
-plan-line-requires : tie.Need-plan-line-requires
-plan-line-requires c κs = search needs
-
-put-plan-requires : tie.Need-put-plan-requires
-put-plan-requires c κs = search needs
-
-same-length : tie.Need-same-length
-same-length c = search needs
-
 returns : tie.Need-returns
 returns c =
     let a = c .before .before .before .before .before .before .before .before .before .before .args in
@@ -36,22 +24,10 @@ returns c =
     (c .before .before .put-plan .ensures (omega (arith, leb-true (a .at + longest) (length (a .out .now)) room, plan-text-short (plan .result))))
     ∙ ap (λ (p : Plan). appendOf longest (planText p) (filled (a .at) (a .out .now))) (plan .ensures)
 
-same-length-2 : tie.Need-same-length-2
-same-length-2 c = search needs
-
 returns-2 : tie.Need-returns-2
 returns-2 c =
     let a = c .before .before .before .before .before .args in
     append-full longest (planText (planOf (a .line .now))) (a .out .now) (a .at) (sym (c .before .has-room .ensures) ∙ c .if1 .left)
 
 pub append-spec : {M : Type 1} → statement M
-append-spec =
-    tie.close
-    (tie.spec
-    has-room-requires
-    plan-line-requires
-    put-plan-requires
-    same-length
-    returns
-    same-length-2
-    returns-2)
+append-spec = tie.close (tie.spec (search needs) (search needs) (search needs) (search needs) returns (search needs) returns-2)

@@ -4,24 +4,6 @@ use borrow.Author.Needs.{needs}
 use Rattle.receiver.proofs.admission.ready_with.Statement.{statement}
 use Rattle.receiver.proofs.admission.ready_with.Tie as tie
 
-enum-known-memory : tie.Need-enum-known-memory
-enum-known-memory c = search needs
-
-demand-ring-memory-requires : tie.Need-demand-ring-memory-requires
-demand-ring-memory-requires c κs = search needs
-
-enum-told : tie.Need-enum-told
-enum-told c = search needs
-
-demand-soundness-requires : tie.Need-demand-soundness-requires
-demand-soundness-requires c κs = search needs
-
-enum-known-s : tie.Need-enum-known-s
-enum-known-s c = search needs
-
-enum-known-e : tie.Need-enum-known-e
-enum-known-e c = search needs
-
 returns : tie.Need-returns
 returns c = rw (c .before .before .memory .given .1, c .demand-ring-memory .ensures)
 
@@ -33,14 +15,5 @@ returns-3 c = rw (c .before .before .before .before .enum-told .given .1, ← (s
 
 pub ready-with-spec : {M : Type 1} → statement M
 ready-with-spec =
-    tie.close
-    (tie.spec
-    enum-known-memory
-    demand-ring-memory-requires
-    enum-told
-    demand-soundness-requires
-    enum-known-s
-    enum-known-e
-    returns
-    returns-2
+    tie.close (tie.spec (search needs) (search needs) (search needs) (search needs) (search needs) (search needs) returns returns-2
     returns-3)

@@ -5,14 +5,8 @@ use borrow.Author.Needs.{needs}
 use Rattle.receiver.proofs.announcement.header.Statement.{statement}
 use Rattle.receiver.proofs.announcement.header.Tie as tie
 
-read-off-requires : tie.Need-read-off-requires
-read-off-requires c κs = search needs
-
-big-endian-requires : tie.Need-big-endian-requires
-big-endian-requires c κs = search needs
-
 returns : tie.Need-returns
 returns c = header-is (c .before .before .before .args .s) (c .before .before .before .pre .0) (now (c .before .before .before .args .ring)) (c .before .before .before .pre .1) _ (c .before .read-off .ensures) _ (c .big-endian .ensures)
 
 pub header-spec : {M : Type 1} → statement M
-header-spec = tie.close (tie.spec read-off-requires big-endian-requires returns)
+header-spec = tie.close (tie.spec (search needs) (search needs) returns)

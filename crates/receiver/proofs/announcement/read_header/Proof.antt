@@ -4,22 +4,11 @@ use borrow.Author.Needs.{needs}
 use Rattle.receiver.proofs.announcement.read_header.Statement.{statement}
 use Rattle.receiver.proofs.announcement.read_header.Tie as tie
 
-max-operation-len-requires : tie.Need-max-operation-len-requires
-max-operation-len-requires c κs = search needs
-
 returns : tie.Need-returns
 returns c = rw (short _ _ (c .before .max-operation-len .ensures) (c .if1 .taken))
-
-header-requires : tie.Need-header-requires
-header-requires c κs = search needs
-
-write-chunk-requires : tie.Need-write-chunk-requires
-write-chunk-requires c κs = search needs
 
 returns-2 : tie.Need-returns-2
 returns-2 c = rw (enough _ _ (c .before .before .before .max-operation-len .ensures) (c .before .before .if1 .left), c .write-chunk .ensures, c .before .header .ensures)
 
 pub read-header-spec : {M : Type 1} → statement M
-read-header-spec =
-    tie.close
-    (tie.spec max-operation-len-requires returns header-requires write-chunk-requires returns-2)
+read-header-spec = tie.close (tie.spec (search needs) returns (search needs) (search needs) returns-2)

@@ -4,9 +4,6 @@ use borrow.Author.Needs.{needs}
 use Rattle.receiver.proofs.announcement.recv_chunk_announcement.Statement.{statement}
 use Rattle.receiver.proofs.announcement.recv_chunk_announcement.Tie as tie
 
-read-header-requires : tie.Need-read-header-requires
-read-header-requires c κs = search needs
-
 returns : tie.Need-returns
 returns c = rw (eq-eqb _ _ (c .before .if1 .taken), c .read-header .ensures)
 
@@ -14,4 +11,4 @@ returns-2 : tie.Need-returns-2
 returns-2 c = rw (ne-eqb _ _ (c .if1 .left))
 
 pub recv-chunk-announcement-spec : {M : Type 1} → statement M
-recv-chunk-announcement-spec = tie.close (tie.spec read-header-requires returns returns-2)
+recv-chunk-announcement-spec = tie.close (tie.spec (search needs) returns returns-2)

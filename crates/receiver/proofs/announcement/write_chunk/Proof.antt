@@ -11,12 +11,6 @@ returns c = rw (ne-eqb _ _ (c .if1 .taken))
 returns-2 : tie.Need-returns-2
 returns-2 c = rw (eq-eqb _ _ (c .before .if1 .left), eq-eqb _ _ (c .if2 .taken))
 
-max-operation-len-requires : tie.Need-max-operation-len-requires
-max-operation-len-requires c κs = search needs
-
-body-fits-requires : tie.Need-body-fits-requires
-body-fits-requires c κs = search needs
-
 register-requires : tie.Need-register-requires
 register-requires c κs = (c .before .before .before .before .before .pre .0, c .before .before .before .before .before .pre .1)
 
@@ -37,14 +31,5 @@ returns-4 c = rw (eq-eqb _ _ (c .before .before .before .before .if1 .left), ne-
 
 pub write-chunk-spec : {M : Type 1} → statement M
 write-chunk-spec =
-    tie.close
-    (tie.spec
-    returns
-    returns-2
-    max-operation-len-requires
-    body-fits-requires
-    register-requires
-    register-requires-2
-    register-requires-3
-    returns-3
-    returns-4)
+    tie.close (tie.spec returns returns-2 (search needs) (search needs) register-requires register-requires-2 register-requires-3
+    returns-3 returns-4)

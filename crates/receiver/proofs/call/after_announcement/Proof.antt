@@ -5,29 +5,11 @@ use borrow.Author.Needs.{needs}
 use Rattle.receiver.proofs.call.after_announcement.Statement.{statement}
 use Rattle.receiver.proofs.call.after_announcement.Tie as tie
 
-enum-known-announced : tie.Need-enum-known-announced
-enum-known-announced c = search needs
-
-with-scheduler-requires : tie.Need-with-scheduler-requires
-with-scheduler-requires c κs = search needs
-
 read-chunk-bytes-requires : tie.Need-read-chunk-bytes-requires
 read-chunk-bytes-requires c κs = rw (c .with-scheduler .ensures) (announces-chunk _ _ _ _ (c .before .before .announced .given .1) (c .before .before .before .before .pre))
 
-enum-known-announced-2 : tie.Need-enum-known-announced-2
-enum-known-announced-2 c = search needs
-
-is-errno-requires : tie.Need-is-errno-requires
-is-errno-requires c κs = search needs
-
-terminate-draining-requires : tie.Need-terminate-draining-requires
-terminate-draining-requires c κs = search needs
-
 returns : tie.Need-returns
 returns c = rw (c .before .before .before .before .announced2 .given .1, sym (c .before .before .is-errno .ensures) ∙ c .before .if1 .taken, c .terminate-draining .ensures)
-
-terminate-immediately-requires : tie.Need-terminate-immediately-requires
-terminate-immediately-requires c κs = search needs
 
 returns-2 : tie.Need-returns-2
 returns-2 c = rw (c .before .before .before .announced .given .1, c .read-chunk-bytes .ensures, c .before .with-scheduler .ensures)
@@ -37,15 +19,5 @@ returns-3 c = rw (c .before .before .before .before .announced2 .given .1, sym (
 
 pub after-announcement-spec : {M : Type 1} → statement M
 after-announcement-spec =
-    tie.close
-    (tie.spec
-    enum-known-announced
-    with-scheduler-requires
-    read-chunk-bytes-requires
-    enum-known-announced-2
-    is-errno-requires
-    terminate-draining-requires
-    returns
-    terminate-immediately-requires
-    returns-2
-    returns-3)
+    tie.close (tie.spec (search needs) (search needs) read-chunk-bytes-requires (search needs) (search needs) (search needs) returns
+    (search needs) returns-2 returns-3)

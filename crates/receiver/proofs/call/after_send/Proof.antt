@@ -7,26 +7,8 @@ use borrow.Author.Needs.{needs}
 use Rattle.receiver.proofs.call.after_send.Statement.{statement}
 use Rattle.receiver.proofs.call.after_send.Tie as tie
 
-least-requires : tie.Need-least-requires
-least-requires c κs = search needs
-
-sent-requires : tie.Need-sent-requires
-sent-requires c κs = search needs
-
-enum-known-n : tie.Need-enum-known-n
-enum-known-n c = search needs
-
 sent-requires-2 : tie.Need-sent-requires-2
 sent-requires-2 c κs = sent-covered _ (c .before .before .before .before .before .args .receiver) _ (sym (sym (c .before .n .given .1) ∙ c .before .before .before .sent .ensures ∙ ap (λ (x : ℕ). sentOf x (c .before .before .before .before .before .args .answer)) (c .before .before .before .before .least .ensures)))
-
-enum-known-errno : tie.Need-enum-known-errno
-enum-known-errno c = search needs
-
-unsent-requires : tie.Need-unsent-requires
-unsent-requires c κs = search needs
-
-enum-told : tie.Need-enum-told
-enum-told c = search needs
 
 returns : tie.Need-returns
 returns c = rw (← (sym (c .before .before .n .given .1) ∙ c .before .before .before .before .sent .ensures ∙ ap (λ (x : ℕ). sentOf x (c .before .before .before .before .before .before .args .answer)) (c .before .before .before .before .before .least .ensures)), c .sent2 .ensures)
@@ -39,15 +21,5 @@ returns-3 c = rw (← (sym (c .enum-told .given .1) ∙ c .before .before .sent 
 
 pub after-send-spec : {M : Type 1} → statement M
 after-send-spec =
-    tie.close
-    (tie.spec
-    least-requires
-    sent-requires
-    enum-known-n
-    sent-requires-2
-    enum-known-errno
-    unsent-requires
-    enum-told
-    returns
-    returns-2
-    returns-3)
+    tie.close (tie.spec (search needs) (search needs) (search needs) sent-requires-2 (search needs) (search needs) (search needs) returns
+    returns-2 returns-3)

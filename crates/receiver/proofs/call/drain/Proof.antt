@@ -3,17 +3,8 @@ use borrow.Author.Needs.{needs}
 use Rattle.receiver.proofs.call.drain.Statement.{statement}
 use Rattle.receiver.proofs.call.drain.Tie as tie
 
-told-requires : tie.Need-told-requires
-told-requires c κs = search needs
-
-advance-operational-state-towards-termination-requires :
-    tie.Need-advance-operational-state-towards-termination-requires
-advance-operational-state-towards-termination-requires c κs = search needs
-
 returns : tie.Need-returns
 returns c = rw (c .advance-operational-state-towards-termination .ensures, c .before .told .ensures)
 
 pub drain-spec : {M : Type 1} → statement M
-drain-spec =
-    tie.close
-    (tie.spec told-requires advance-operational-state-towards-termination-requires returns)
+drain-spec = tie.close (tie.spec (search needs) (search needs) returns)

@@ -5,23 +5,13 @@ use borrow.Author.Needs.{needs}
 use Rattle.receiver.proofs.call.flush_chunk_acknowledgements.Statement.{statement}
 use Rattle.receiver.proofs.call.flush_chunk_acknowledgements.Tie as tie
 
-outcome-requires : tie.Need-outcome-requires
-outcome-requires c κs = search needs
-
-finish-requires : tie.Need-finish-requires
-finish-requires c κs = search needs
-
 returns : tie.Need-returns
 unfolding flushCall
 returns c = rw (eq-eqb _ _ (c .before .before .if1 .taken), c .finish .ensures, c .before .outcome .ensures)
-
-least-requires : tie.Need-least-requires
-least-requires c κs = search needs
 
 returns-2 : tie.Need-returns-2
 unfolding flushCall
 returns-2 c = rw (ne-eqb _ _ (c .before .if1 .left), c .least .ensures)
 
 pub flush-chunk-acknowledgements-spec : {M : Type 1} → statement M
-flush-chunk-acknowledgements-spec =
-    tie.close (tie.spec outcome-requires finish-requires returns least-requires returns-2)
+flush-chunk-acknowledgements-spec = tie.close (tie.spec (search needs) (search needs) returns (search needs) returns-2)

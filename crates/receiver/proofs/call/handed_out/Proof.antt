@@ -8,17 +8,8 @@ use borrow.Author.Needs.{needs}
 use Rattle.receiver.proofs.call.handed_out.Statement.{statement}
 use Rattle.receiver.proofs.call.handed_out.Tie as tie
 
-with-scheduler-requires : tie.Need-with-scheduler-requires
-with-scheduler-requires c κs = search needs
-
 max-operation-len-requires : tie.Need-max-operation-len-requires
 max-operation-len-requires c κs = c .before .pre .0
-
-add-with-pending : tie.Need-add-with-pending
-add-with-pending c = search needs
-
-with-pending-requires : tie.Need-with-pending-requires
-with-pending-requires c κs = search needs
 
 returns : tie.Need-returns
 returns c = c .with-pending .ensures ∙ ap (λ (x : ReceiverState). withPending x ((c .before .before .before .before .before .args .q) .«pending_ack_count» + 1)) (c .before .before .before .before .with-scheduler .ensures) ∙ handed-last (c .before .before .before .before .before .args .q) (c .before .before .before .before .before .args .scheduler) (sym (c .before .before .before .max-operation-len .ensures) ∙ c .before .before .if1 .taken)
@@ -27,12 +18,4 @@ returns-2 : tie.Need-returns-2
 returns-2 c = c .before .before .with-scheduler .ensures ∙ handed-on (c .before .before .before .args .q) (c .before .before .before .args .scheduler) (λ z. c .if1 .left (c .before .max-operation-len .ensures ∙ z))
 
 pub handed-out-spec : {M : Type 1} → statement M
-handed-out-spec =
-    tie.close
-    (tie.spec
-    with-scheduler-requires
-    max-operation-len-requires
-    add-with-pending
-    with-pending-requires
-    returns
-    returns-2)
+handed-out-spec = tie.close (tie.spec (search needs) max-operation-len-requires (search needs) (search needs) returns returns-2)

@@ -6,27 +6,11 @@ use borrow.Author.Needs.{needs}
 use Rattle.receiver.proofs.call.read_chunk_bytes.Statement.{statement}
 use Rattle.receiver.proofs.call.read_chunk_bytes.Tie as tie
 
-moved-requires : tie.Need-moved-requires
-moved-requires c κs = search needs
-
 handed-out-requires : tie.Need-handed-out-requires
 handed-out-requires c κs = (rw (c .before .moved .ensures) (advanced-sound (c .before .before .before .args .receiver .scheduler) (c .before .before .before .pre .sound) _ Read (omega arith)), c .before .before .before .pre .counted)
-
-read-requires : tie.Need-read-requires
-read-requires c κs = search needs
-
-service-requires : tie.Need-service-requires
-service-requires c κs = search needs
 
 returns : tie.Need-returns
 returns c = rw (c .service .ensures, c .before .read .ensures, c .before .before .handed-out .ensures, c .before .before .before .before .moved .ensures)
 
 pub read-chunk-bytes-spec : {M : Type 1} → statement M
-read-chunk-bytes-spec =
-    tie.close
-    (tie.spec
-    moved-requires
-    handed-out-requires
-    read-requires
-    service-requires
-    returns)
+read-chunk-bytes-spec = tie.close (tie.spec (search needs) handed-out-requires (search needs) (search needs) returns)

@@ -5,39 +5,17 @@ use borrow.Author.Needs.{needs}
 use Rattle.receiver.proofs.call.read_live.Statement.{statement}
 use Rattle.receiver.proofs.call.read_live.Tie as tie
 
-read-requires : tie.Need-read-requires
-read-requires c κs = search needs
-
-finish-requires : tie.Need-finish-requires
-finish-requires c κs = search needs
-
 returns : tie.Need-returns
 returns c = rw (eq-eqb _ _ (c .before .before .if1 .taken), c .finish .ensures, c .before .read .ensures)
 
 returns-2 : tie.Need-returns-2
 returns-2 c = rw (ne-eqb _ _ (c .before .before .if1 .left), eq-eqb _ _ (c .if2 .taken))
 
-max-operation-len-requires : tie.Need-max-operation-len-requires
-max-operation-len-requires c κs = search needs
-
 returns-3 : tie.Need-returns-3
 returns-3 c = rw (ne-eqb _ _ (c .before .before .before .before .if1 .left), ne-eqb _ _ (c .before .before .if2 .left), no-data (c .before .before .before .before .before .before .args .receiver .scheduler) _ (c .before .max-operation-len .ensures) (c .if3 .taken))
-
-read-chunk-bytes-requires : tie.Need-read-chunk-bytes-requires
-read-chunk-bytes-requires c κs = search needs
 
 returns-4 : tie.Need-returns-4
 returns-4 c = rw (ne-eqb _ _ (c .before .before .before .before .before .if1 .left), ne-eqb _ _ (c .before .before .before .if2 .left), some-data (c .before .before .before .before .before .before .before .args .receiver .scheduler) _ (c .before .before .max-operation-len .ensures) (c .before .if3 .left), c .read-chunk-bytes .ensures)
 
 pub read-live-spec : {M : Type 1} → statement M
-read-live-spec =
-    tie.close
-    (tie.spec
-    read-requires
-    finish-requires
-    returns
-    returns-2
-    max-operation-len-requires
-    returns-3
-    read-chunk-bytes-requires
-    returns-4)
+read-live-spec = tie.close (tie.spec (search needs) (search needs) returns returns-2 (search needs) returns-3 (search needs) returns-4)

@@ -4,31 +4,11 @@ use borrow.Author.Needs.{needs}
 use Rattle.receiver.proofs.call.sent.Statement.{statement}
 use Rattle.receiver.proofs.call.sent.Tie as tie
 
-drain-requires : tie.Need-drain-requires
-drain-requires c κs = search needs
-
 returns : tie.Need-returns
 returns c = rw (eq-eqb _ _ (c .before .if1 .taken), c .drain .ensures)
-
-sub-with-pending : tie.Need-sub-with-pending
-sub-with-pending c = search needs
-
-with-pending-requires : tie.Need-with-pending-requires
-with-pending-requires c κs = search needs
-
-flush-chunk-acknowledgements-requires : tie.Need-flush-chunk-acknowledgements-requires
-flush-chunk-acknowledgements-requires c κs = search needs
 
 returns-2 : tie.Need-returns-2
 returns-2 c = rw (ne-eqb _ _ (c .before .before .before .if1 .left), c .flush-chunk-acknowledgements .ensures, c .before .with-pending .ensures)
 
 pub sent-spec : {M : Type 1} → statement M
-sent-spec =
-    tie.close
-    (tie.spec
-    drain-requires
-    returns
-    sub-with-pending
-    with-pending-requires
-    flush-chunk-acknowledgements-requires
-    returns-2)
+sent-spec = tie.close (tie.spec (search needs) returns (search needs) (search needs) (search needs) returns-2)

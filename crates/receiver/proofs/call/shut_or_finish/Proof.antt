@@ -6,12 +6,6 @@ use borrow.Author.Needs.{needs}
 use Rattle.receiver.proofs.call.shut_or_finish.Statement.{statement}
 use Rattle.receiver.proofs.call.shut_or_finish.Tie as tie
 
-outcome-requires : tie.Need-outcome-requires
-outcome-requires c κs = search needs
-
-finish-requires : tie.Need-finish-requires
-finish-requires c κs = search needs
-
 returns : tie.Need-returns
 returns c = c .finish .ensures ∙ ap (finishedCall _ _) (c .before .outcome .ensures) ∙ by-issued _ _ _ _ (c .before .before .if1 .taken)
 
@@ -19,4 +13,4 @@ returns-2 : tie.Need-returns-2
 returns-2 c = by-issued _ _ _ _ (c .if1 .left)
 
 pub shut-or-finish-spec : {M : Type 1} → statement M
-shut-or-finish-spec = tie.close (tie.spec outcome-requires finish-requires returns returns-2)
+shut-or-finish-spec = tie.close (tie.spec (search needs) (search needs) returns returns-2)

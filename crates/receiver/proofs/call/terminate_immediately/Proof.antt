@@ -3,20 +3,8 @@ use borrow.Author.Needs.{needs}
 use Rattle.receiver.proofs.call.terminate_immediately.Statement.{statement}
 use Rattle.receiver.proofs.call.terminate_immediately.Tie as tie
 
-failed-requires : tie.Need-failed-requires
-failed-requires c κs = search needs
-
-advance-operational-state-towards-termination-requires :
-    tie.Need-advance-operational-state-towards-termination-requires
-advance-operational-state-towards-termination-requires c κs = search needs
-
 returns : tie.Need-returns
 returns c = rw (c .advance-operational-state-towards-termination .ensures, c .before .failed .ensures)
 
 pub terminate-immediately-spec : {M : Type 1} → statement M
-terminate-immediately-spec =
-    tie.close
-    (tie.spec
-    failed-requires
-    advance-operational-state-towards-termination-requires
-    returns)
+terminate-immediately-spec = tie.close (tie.spec (search needs) (search needs) returns)

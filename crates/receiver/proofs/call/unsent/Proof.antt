@@ -4,21 +4,11 @@ use borrow.Author.Needs.{needs}
 use Rattle.receiver.proofs.call.unsent.Statement.{statement}
 use Rattle.receiver.proofs.call.unsent.Tie as tie
 
-outcome-requires : tie.Need-outcome-requires
-outcome-requires c κs = search needs
-
-finish-requires : tie.Need-finish-requires
-finish-requires c κs = search needs
-
 returns : tie.Need-returns
 returns c = rw (eq-eqb _ _ (c .before .before .if1 .taken), c .finish .ensures, c .before .outcome .ensures)
-
-drain-requires : tie.Need-drain-requires
-drain-requires c κs = search needs
 
 returns-2 : tie.Need-returns-2
 returns-2 c = rw (ne-eqb _ _ (c .before .if1 .left), c .drain .ensures)
 
 pub unsent-spec : {M : Type 1} → statement M
-unsent-spec =
-    tie.close (tie.spec outcome-requires finish-requires returns drain-requires returns-2)
+unsent-spec = tie.close (tie.spec (search needs) (search needs) returns (search needs) returns-2)

@@ -5,15 +5,6 @@ use borrow.Author.Needs.{needs}
 use Rattle.receiver.proofs.sound.max_operation_len.Statement.{statement}
 use Rattle.receiver.proofs.sound.max_operation_len.Tie as tie
 
-max-operation-len-requires : tie.Need-max-operation-len-requires
-max-operation-len-requires c κs = search needs
-
-enum-known-n : tie.Need-enum-known-n
-enum-known-n c = search needs
-
-enum-told : tie.Need-enum-told
-enum-told c = search needs
-
 returns : tie.Need-returns
 returns c = greatest-is _ (c .before .before .before .before .pre) _ _ (sym (c .before .n .given .1) ∙ c .before .before .before .max-operation-len .ensures)
 
@@ -21,5 +12,4 @@ returns-2 : tie.Need-returns-2
 returns-2 c = absurd (greatest-told _ (c .before .before .before .pre) _ _ (sym (c .enum-told .given .1) ∙ c .before .before .max-operation-len .ensures))
 
 pub max-operation-len-spec : {M : Type 1} → statement M
-max-operation-len-spec =
-    tie.close (tie.spec max-operation-len-requires enum-known-n enum-told returns returns-2)
+max-operation-len-spec = tie.close (tie.spec (search needs) (search needs) (search needs) returns returns-2)

@@ -5,11 +5,8 @@ use borrow.Author.Needs.{needs}
 use Rattle.receiver.proofs.sound.read_off.Statement.{statement}
 use Rattle.receiver.proofs.sound.read_off.Tie as tie
 
-moved-requires : tie.Need-moved-requires
-moved-requires c κs = search needs
-
 returns : tie.Need-returns
 returns c = ap (λ (x : Move). x .off) (c .before .moved .ensures)
 
 pub read-off-spec : {M : Type 1} → statement M
-read-off-spec = tie.close (tie.spec moved-requires returns)
+read-off-spec = tie.close (tie.spec (search needs) returns)

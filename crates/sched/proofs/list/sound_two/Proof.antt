@@ -6,17 +6,8 @@ use borrow.Author.Needs.{needs}
 use Rattle.sched.proofs.list.sound_two.Statement.{statement}
 use Rattle.sched.proofs.list.sound_two.Tie as tie
 
-sub-room : tie.Need-sub-room
-sub-room c = search needs
-
-sub-t7 : tie.Need-sub-t7
-sub-t7 c = search needs
-
 returns : tie.Need-returns
 returns c = two-long _ _ _ refl (omega arith) (c .before .if1 .taken)
-
-same-type-requires : tie.Need-same-type-requires
-same-type-requires c κs = search needs
 
 returns-2 : tie.Need-returns-2
 returns-2 c = two-fits-same _ _ _ refl (omega arith) (c .before .before .if1 .left) (sym (c .before .same-type .ensures) ∙ c .if2 .taken)
@@ -25,5 +16,4 @@ returns-3 : tie.Need-returns-3
 returns-3 c = two-fits-mixed _ _ _ refl (omega arith) (c .before .before .if1 .left) (sym (c .before .same-type .ensures) ∙ c .if2 .left)
 
 pub sound-two-spec : {M : Type 1} → statement M
-sound-two-spec =
-    tie.close (tie.spec sub-room sub-t7 returns same-type-requires returns-2 returns-3)
+sound-two-spec = tie.close (tie.spec (search needs) (search needs) returns (search needs) returns-2 returns-3)

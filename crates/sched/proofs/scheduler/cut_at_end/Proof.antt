@@ -8,36 +8,12 @@ use Rattle.sched.proofs.scheduler.cut_at_end.Tie as tie
 returns : tie.Need-returns
 returns c = cut-none _ _ _ _ (c .if1 .taken)
 
-sub-room : tie.Need-sub-room
-sub-room c = search needs
-
-new-requires : tie.Need-new-requires
-new-requires c κs = search needs
-
 returns-2 : tie.Need-returns-2
 returns-2 c = rw (c .new .ensures) (cut-one _ _ _ (c .before .before .before .before .args .n) (positive _ (c .before .before .before .if1 .left)) (omega (arith, c .before .if2 .taken, c .before .before .before .before .pre .0)))
-
-new-requires-2 : tie.Need-new-requires-2
-new-requires-2 c κs = search needs
-
-sub-new : tie.Need-sub-new
-sub-new c = search needs
-
-new-requires-3 : tie.Need-new-requires-3
-new-requires-3 c κs = search needs
 
 returns-3 : tie.Need-returns-3
 returns-3 c = rw (c .before .new2 .ensures, c .new3 .ensures) (cut-two _ _ _ (c .before .before .before .before .before .args .n) (positive _ (c .before .before .before .before .if1 .left)) (omega (arith, c .before .before .if2 .left, c .before .before .before .before .before .pre .0)))
 
 pub cut-at-end-spec : {M : Type 1} → statement M
 cut-at-end-spec =
-    tie.close
-    (tie.spec
-    returns
-    sub-room
-    new-requires
-    returns-2
-    new-requires-2
-    sub-new
-    new-requires-3
-    returns-3)
+    tie.close (tie.spec returns (search needs) (search needs) returns-2 (search needs) (search needs) (search needs) returns-3)

@@ -6,18 +6,6 @@ use borrow.Author.Needs.{needs}
 use Rattle.sched.proofs.scheduler.double_modulus.Statement.{statement}
 use Rattle.sched.proofs.scheduler.double_modulus.Tie as tie
 
-double-requires : tie.Need-double-requires
-double-requires c κs = search needs
-
-enum-known-m : tie.Need-enum-known-m
-enum-known-m c = search needs
-
-enum-told : tie.Need-enum-told
-enum-told c = search needs
-
-new-full-range-requires : tie.Need-new-full-range-requires
-new-full-range-requires c κs = search needs
-
 returns : tie.Need-returns
 returns c =
     let e = double-is _ (c .before .before .before .before .pre) _ refl _ (sym (c .before .m .given .1) ∙ c .before .before .before .double .ensures) in
@@ -27,6 +15,4 @@ returns-2 : tie.Need-returns-2
 returns-2 c = absurd (double-never-none _ (c .before .before .before .before .pre) _ refl (sym (c .before .enum-told .given .1) ∙ c .before .before .before .double .ensures))
 
 pub double-modulus-spec : {M : Type 1} → statement M
-double-modulus-spec =
-    tie.close
-    (tie.spec double-requires enum-known-m enum-told new-full-range-requires returns returns-2)
+double-modulus-spec = tie.close (tie.spec (search needs) (search needs) (search needs) (search needs) returns returns-2)

@@ -3,12 +3,6 @@ use borrow.Author.Needs.{needs}
 use Rattle.sched.proofs.scheduler.len_of.Statement.{statement}
 use Rattle.sched.proofs.scheduler.len_of.Tie as tie
 
-enum-known-b : tie.Need-enum-known-b
-enum-known-b c = search needs
-
-enum-known-b-2 : tie.Need-enum-known-b-2
-enum-known-b-2 c = search needs
-
 returns : tie.Need-returns
 returns c = rw (c .before .b .given .1)
 
@@ -16,4 +10,4 @@ returns-2 : tie.Need-returns-2
 returns-2 c = rw (c .before .b2 .given .1)
 
 pub len-of-spec : {M : Type 1} → statement M
-len-of-spec = tie.close (tie.spec enum-known-b enum-known-b-2 returns returns-2)
+len-of-spec = tie.close (tie.spec (search needs) (search needs) returns returns-2)

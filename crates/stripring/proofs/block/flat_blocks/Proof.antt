@@ -3,36 +3,6 @@ use borrow.Author.Needs.{needs}
 use Rattle.stripring.proofs.block.flat_blocks.Statement.{statement}
 use Rattle.stripring.proofs.block.flat_blocks.Tie as tie
 
-enum-known-a : tie.Need-enum-known-a
-enum-known-a c = search needs
-
-no-refusal-requires : tie.Need-no-refusal-requires
-no-refusal-requires c κs = search needs
-
-flat-block-requires : tie.Need-flat-block-requires
-flat-block-requires c κs = search needs
-
-flat-block-requires-2 : tie.Need-flat-block-requires-2
-flat-block-requires-2 c κs = search needs
-
-flat-block-requires-3 : tie.Need-flat-block-requires-3
-flat-block-requires-3 c κs = search needs
-
-enum-known-a-2 : tie.Need-enum-known-a-2
-enum-known-a-2 c = search needs
-
-flat-refusal-requires : tie.Need-flat-refusal-requires
-flat-refusal-requires c κs = search needs
-
-no-block-requires : tie.Need-no-block-requires
-no-block-requires c κs = search needs
-
-no-block-requires-2 : tie.Need-no-block-requires-2
-no-block-requires-2 c κs = search needs
-
-no-block-requires-3 : tie.Need-no-block-requires-3
-no-block-requires-3 c κs = search needs
-
 returns : tie.Need-returns
 returns c = rw (c .before .before .before .before .before .before .before .before .a .given .1, c .flat-block3 .ensures, c .before .flat-block2 .ensures, c .before .before .flat-block .ensures, c .before .before .before .no-refusal .ensures)
 
@@ -41,17 +11,5 @@ returns-2 c = rw (c .before .before .before .before .before .a2 .given .1, c .no
 
 pub flat-blocks-spec : {M : Type 1} → statement M
 flat-blocks-spec =
-    tie.close
-    (tie.spec
-    enum-known-a
-    no-refusal-requires
-    flat-block-requires
-    flat-block-requires-2
-    flat-block-requires-3
-    enum-known-a-2
-    flat-refusal-requires
-    no-block-requires
-    no-block-requires-2
-    no-block-requires-3
-    returns
-    returns-2)
+    tie.close (tie.spec (search needs) (search needs) (search needs) (search needs) (search needs) (search needs) (search needs)
+    (search needs) (search needs) (search needs) returns returns-2)

@@ -5,19 +5,13 @@ use borrow.Author.Needs.{needs}
 use Rattle.stripring.proofs.call.ending.Statement.{statement}
 use Rattle.stripring.proofs.call.ending.Tie as tie
 
-outcome-requires : tie.Need-outcome-requires
-outcome-requires c κs = search needs
-
 returns : tie.Need-returns
 unfolding endingAt
 returns c = rw (eq-eqb _ _ (c .before .if1 .taken), c .outcome .ensures)
-
-outcome-requires-2 : tie.Need-outcome-requires-2
-outcome-requires-2 c κs = search needs
 
 returns-2 : tie.Need-returns-2
 unfolding endingAt
 returns-2 c = rw (ne-eqb _ _ (c .before .if1 .left), c .outcome2 .ensures)
 
 pub ending-spec : {M : Type 1} → statement M
-ending-spec = tie.close (tie.spec outcome-requires returns outcome-requires-2 returns-2)
+ending-spec = tie.close (tie.spec (search needs) returns (search needs) returns-2)

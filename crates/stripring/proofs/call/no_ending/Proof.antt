@@ -3,11 +3,8 @@ use borrow.Author.Needs.{needs}
 use Rattle.stripring.proofs.call.no_ending.Statement.{statement}
 use Rattle.stripring.proofs.call.no_ending.Tie as tie
 
-no-outcome-requires : tie.Need-no-outcome-requires
-no-outcome-requires c κs = search needs
-
 returns : tie.Need-returns
 returns c = rw (c .no-outcome .ensures)
 
 pub no-ending-spec : {M : Type 1} → statement M
-no-ending-spec = tie.close (tie.spec no-outcome-requires returns)
+no-ending-spec = tie.close (tie.spec (search needs) returns)

@@ -9,35 +9,17 @@ returns : tie.Need-returns
 unfolding phaseAt
 returns c = rw (eq-eqb _ _ (c .if1 .taken))
 
-ending-requires : tie.Need-ending-requires
-ending-requires c κs = search needs
-
 returns-2 : tie.Need-returns-2
 unfolding phaseAt
 returns-2 c = rw (ne-eqb _ _ (c .before .before .before .if1 .left), eq-eqb _ _ (c .before .if2 .taken), c .ending .ensures)
 
-ending-requires-2 : tie.Need-ending-requires-2
-ending-requires-2 c κs = search needs
-
 returns-3 : tie.Need-returns-3
 unfolding phaseAt
 returns-3 c = rw (ne-eqb _ _ (c .before .before .before .before .before .if1 .left), ne-eqb _ _ (c .before .before .before .if2 .left), eq-eqb _ _ (c .before .if3 .taken), c .ending2 .ensures)
-
-outcome-requires : tie.Need-outcome-requires
-outcome-requires c κs = search needs
 
 returns-4 : tie.Need-returns-4
 unfolding phaseAt
 returns-4 c = rw (ne-eqb _ _ (c .before .before .before .before .before .if1 .left), ne-eqb _ _ (c .before .before .before .if2 .left), ne-eqb _ _ (c .before .if3 .left), c .outcome .ensures)
 
 pub phase-spec : {M : Type 1} → statement M
-phase-spec =
-    tie.close
-    (tie.spec
-    returns
-    ending-requires
-    returns-2
-    ending-requires-2
-    returns-3
-    outcome-requires
-    returns-4)
+phase-spec = tie.close (tie.spec returns (search needs) returns-2 (search needs) returns-3 (search needs) returns-4)

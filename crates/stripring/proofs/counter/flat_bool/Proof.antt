@@ -3,21 +3,6 @@ use borrow.Author.Needs.{needs}
 use Rattle.stripring.proofs.counter.flat_bool.Statement.{statement}
 use Rattle.stripring.proofs.counter.flat_bool.Tie as tie
 
-enum-known-a : tie.Need-enum-known-a
-enum-known-a c = search needs
-
-bool-number-requires : tie.Need-bool-number-requires
-bool-number-requires c κs = search needs
-
-u64-of-requires : tie.Need-u64-of-requires
-u64-of-requires c κs = search needs
-
-enum-known-a-2 : tie.Need-enum-known-a-2
-enum-known-a-2 c = search needs
-
-u64-refused-requires : tie.Need-u64-refused-requires
-u64-refused-requires c κs = search needs
-
 returns : tie.Need-returns
 returns c = rw (c .before .before .before .a .given .1, c .u64-of .ensures, c .before .bool-number .ensures)
 
@@ -25,13 +10,4 @@ returns-2 : tie.Need-returns-2
 returns-2 c = rw (c .before .before .a2 .given .1, c .u64-refused .ensures)
 
 pub flat-bool-spec : {M : Type 1} → statement M
-flat-bool-spec =
-    tie.close
-    (tie.spec
-    enum-known-a
-    bool-number-requires
-    u64-of-requires
-    enum-known-a-2
-    u64-refused-requires
-    returns
-    returns-2)
+flat-bool-spec = tie.close (tie.spec (search needs) (search needs) (search needs) (search needs) (search needs) returns returns-2)

@@ -3,11 +3,8 @@ use borrow.Author.Needs.{needs}
 use Rattle.stripring.proofs.counter.u64_of.Statement.{statement}
 use Rattle.stripring.proofs.counter.u64_of.Tie as tie
 
-no-refusal-requires : tie.Need-no-refusal-requires
-no-refusal-requires c κs = search needs
-
 returns : tie.Need-returns
 returns c = rw (c .no-refusal .ensures)
 
 pub u64-of-spec : {M : Type 1} → statement M
-u64-of-spec = tie.close (tie.spec no-refusal-requires returns)
+u64-of-spec = tie.close (tie.spec (search needs) returns)

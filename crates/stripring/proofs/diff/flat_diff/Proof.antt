@@ -3,12 +3,6 @@ use borrow.Author.Needs.{needs}
 use Rattle.stripring.proofs.diff.flat_diff.Statement.{statement}
 use Rattle.stripring.proofs.diff.flat_diff.Tie as tie
 
-enum-known-d : tie.Need-enum-known-d
-enum-known-d c = search needs
-
-enum-known-d-2 : tie.Need-enum-known-d-2
-enum-known-d-2 c = search needs
-
 returns : tie.Need-returns
 returns c = rw (c .before .d .given .1)
 
@@ -16,4 +10,4 @@ returns-2 : tie.Need-returns-2
 returns-2 c = rw (c .before .d2 .given .1)
 
 pub flat-diff-spec : {M : Type 1} → statement M
-flat-diff-spec = tie.close (tie.spec enum-known-d enum-known-d-2 returns returns-2)
+flat-diff-spec = tie.close (tie.spec (search needs) (search needs) returns returns-2)

@@ -3,14 +3,8 @@ use borrow.Author.Needs.{needs}
 use Rattle.stripring.proofs.diff.stripring_diff_is_different.Statement.{statement}
 use Rattle.stripring.proofs.diff.stripring_diff_is_different.Tie as tie
 
-diff-requires : tie.Need-diff-requires
-diff-requires c κs = search needs
-
-is-different-requires : tie.Need-is-different-requires
-is-different-requires c κs = search needs
-
 returns : tie.Need-returns
 returns c = rw (c .is-different .ensures, c .before .diff .ensures)
 
 pub stripring-diff-is-different-spec : {M : Type 1} → statement M
-stripring-diff-is-different-spec = tie.close (tie.spec diff-requires is-different-requires returns)
+stripring-diff-is-different-spec = tie.close (tie.spec (search needs) (search needs) returns)

@@ -9,12 +9,9 @@ returns : tie.Need-returns
 unfolding failureAt
 returns c = rw (eq-eqb _ _ (c .if1 .taken))
 
-violation-requires : tie.Need-violation-requires
-violation-requires c κs = search needs
-
 returns-2 : tie.Need-returns-2
 unfolding failureAt
 returns-2 c = rw (ne-eqb _ _ (c .before .if1 .left), c .violation .ensures)
 
 pub failure-spec : {M : Type 1} → statement M
-failure-spec = tie.close (tie.spec returns violation-requires returns-2)
+failure-spec = tie.close (tie.spec returns (search needs) returns-2)

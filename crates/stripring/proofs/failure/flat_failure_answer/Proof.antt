@@ -3,24 +3,6 @@ use borrow.Author.Needs.{needs}
 use Rattle.stripring.proofs.failure.flat_failure_answer.Statement.{statement}
 use Rattle.stripring.proofs.failure.flat_failure_answer.Tie as tie
 
-enum-known-a : tie.Need-enum-known-a
-enum-known-a c = search needs
-
-no-refusal-requires : tie.Need-no-refusal-requires
-no-refusal-requires c κs = search needs
-
-flat-failure-requires : tie.Need-flat-failure-requires
-flat-failure-requires c κs = search needs
-
-enum-known-a-2 : tie.Need-enum-known-a-2
-enum-known-a-2 c = search needs
-
-flat-receiver-refusal-requires : tie.Need-flat-receiver-refusal-requires
-flat-receiver-refusal-requires c κs = search needs
-
-no-failure-requires : tie.Need-no-failure-requires
-no-failure-requires c κs = search needs
-
 returns : tie.Need-returns
 returns c = rw (c .before .before .before .a .given .1, c .flat-failure .ensures, c .before .no-refusal .ensures)
 
@@ -29,13 +11,4 @@ returns-2 c = rw (c .before .before .before .a2 .given .1, c .no-failure .ensure
 
 pub flat-failure-answer-spec : {M : Type 1} → statement M
 flat-failure-answer-spec =
-    tie.close
-    (tie.spec
-    enum-known-a
-    no-refusal-requires
-    flat-failure-requires
-    enum-known-a-2
-    flat-receiver-refusal-requires
-    no-failure-requires
-    returns
-    returns-2)
+    tie.close (tie.spec (search needs) (search needs) (search needs) (search needs) (search needs) (search needs) returns returns-2)

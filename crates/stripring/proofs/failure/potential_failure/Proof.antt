@@ -9,12 +9,9 @@ returns : tie.Need-returns
 unfolding potentialFailureAt
 returns c = rw (eq-eqb _ _ (c .if1 .taken))
 
-failure-requires : tie.Need-failure-requires
-failure-requires c κs = search needs
-
 returns-2 : tie.Need-returns-2
 unfolding potentialFailureAt
 returns-2 c = rw (ne-eqb _ _ (c .before .if1 .left), c .failure .ensures)
 
 pub potential-failure-spec : {M : Type 1} → statement M
-potential-failure-spec = tie.close (tie.spec returns failure-requires returns-2)
+potential-failure-spec = tie.close (tie.spec returns (search needs) returns-2)

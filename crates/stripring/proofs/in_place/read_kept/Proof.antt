@@ -4,18 +4,6 @@ use borrow.Author.Needs.{needs}
 use Rattle.stripring.proofs.in_place.read_kept.Statement.{statement}
 use Rattle.stripring.proofs.in_place.read_kept.Tie as tie
 
-reading-end-requires : tie.Need-reading-end-requires
-reading-end-requires c κs = search needs
-
-read-requires : tie.Need-read-requires
-read-requires c κs = search needs
-
-keep-reader-requires : tie.Need-keep-reader-requires
-keep-reader-requires c κs = search needs
-
-same-length : tie.Need-same-length
-same-length c = search needs
-
 returns : tie.Need-returns
 returns c =
     let at-read = c .before .before .before in
@@ -23,6 +11,4 @@ returns c =
     kept-reader (s .end) (s .ring .now) (s .dst .now) _ _ _ _ _ (at-read .before .before .reading-end .ensures) (at-read .read .ensures) (c .keep-reader .ensures)
 
 pub read-kept-spec : {M : Type 1} → statement M
-read-kept-spec =
-    tie.close
-    (tie.spec reading-end-requires read-requires keep-reader-requires same-length returns)
+read-kept-spec = tie.close (tie.spec (search needs) (search needs) (search needs) (search needs) returns)

@@ -6,30 +6,6 @@ use borrow.Author.Needs.{needs}
 use Rattle.stripring.proofs.in_place.take_read_kept.Statement.{statement}
 use Rattle.stripring.proofs.in_place.take_read_kept.Tie as tie
 
-writing-end-requires : tie.Need-writing-end-requires
-writing-end-requires c κs = search needs
-
-read-counter-requires : tie.Need-read-counter-requires
-read-counter-requires c κs = search needs
-
-take-requires : tie.Need-take-requires
-take-requires c κs = search needs
-
-enum-known-next : tie.Need-enum-known-next
-enum-known-next c = search needs
-
-flat-writing-end-requires : tie.Need-flat-writing-end-requires
-flat-writing-end-requires c κs = search needs
-
-no-refusal-requires : tie.Need-no-refusal-requires
-no-refusal-requires c κs = search needs
-
-enum-known-e : tie.Need-enum-known-e
-enum-known-e c = search needs
-
-flat-end-refusal-requires : tie.Need-flat-end-refusal-requires
-flat-end-refusal-requires c κs = search needs
-
 returns : tie.Need-returns
 returns c =
     let at-next = c .before .before .before in
@@ -48,15 +24,5 @@ returns-2 c =
 
 pub take-read-kept-spec : {M : Type 1} → statement M
 take-read-kept-spec =
-    tie.close
-    (tie.spec
-    writing-end-requires
-    read-counter-requires
-    take-requires
-    enum-known-next
-    flat-writing-end-requires
-    no-refusal-requires
-    enum-known-e
-    flat-end-refusal-requires
-    returns
-    returns-2)
+    tie.close (tie.spec (search needs) (search needs) (search needs) (search needs) (search needs) (search needs) (search needs)
+    (search needs) returns returns-2)

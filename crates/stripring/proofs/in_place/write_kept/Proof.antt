@@ -4,18 +4,6 @@ use borrow.Author.Needs.{needs}
 use Rattle.stripring.proofs.in_place.write_kept.Statement.{statement}
 use Rattle.stripring.proofs.in_place.write_kept.Tie as tie
 
-writing-end-requires : tie.Need-writing-end-requires
-writing-end-requires c κs = search needs
-
-write-requires : tie.Need-write-requires
-write-requires c κs = search needs
-
-keep-writer-requires : tie.Need-keep-writer-requires
-keep-writer-requires c κs = search needs
-
-same-length : tie.Need-same-length
-same-length c = search needs
-
 returns : tie.Need-returns
 returns c =
     let at-write = c .before .before .before in
@@ -23,6 +11,4 @@ returns c =
     kept-writer (s .end) (s .ring .now) (s .src .now) _ _ _ _ _ (at-write .before .before .writing-end .ensures) (at-write .write .ensures) (c .keep-writer .ensures)
 
 pub write-kept-spec : {M : Type 1} → statement M
-write-kept-spec =
-    tie.close
-    (tie.spec writing-end-requires write-requires keep-writer-requires same-length returns)
+write-kept-spec = tie.close (tie.spec (search needs) (search needs) (search needs) (search needs) returns)

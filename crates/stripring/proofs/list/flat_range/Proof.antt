@@ -3,11 +3,8 @@ use borrow.Author.Needs.{needs}
 use Rattle.stripring.proofs.list.flat_range.Statement.{statement}
 use Rattle.stripring.proofs.list.flat_range.Tie as tie
 
-flat-operation-requires : tie.Need-flat-operation-requires
-flat-operation-requires c κs = search needs
-
 returns : tie.Need-returns
 returns c = rw (c .flat-operation .ensures)
 
 pub flat-range-spec : {M : Type 1} → statement M
-flat-range-spec = tie.close (tie.spec flat-operation-requires returns)
+flat-range-spec = tie.close (tie.spec (search needs) returns)

@@ -3,42 +3,6 @@ use borrow.Author.Needs.{needs}
 use Rattle.stripring.proofs.list.flat_starts.Statement.{statement}
 use Rattle.stripring.proofs.list.flat_starts.Tie as tie
 
-enum-told : tie.Need-enum-told
-enum-told c = search needs
-
-no-refusal-requires : tie.Need-no-refusal-requires
-no-refusal-requires c κs = search needs
-
-no-operation-requires : tie.Need-no-operation-requires
-no-operation-requires c κs = search needs
-
-no-operation-requires-2 : tie.Need-no-operation-requires-2
-no-operation-requires-2 c κs = search needs
-
-enum-known-list : tie.Need-enum-known-list
-enum-known-list c = search needs
-
-no-refusal-requires-2 : tie.Need-no-refusal-requires-2
-no-refusal-requires-2 c κs = search needs
-
-flat-operation-requires : tie.Need-flat-operation-requires
-flat-operation-requires c κs = search needs
-
-no-operation-requires-3 : tie.Need-no-operation-requires-3
-no-operation-requires-3 c κs = search needs
-
-enum-known-list-2 : tie.Need-enum-known-list-2
-enum-known-list-2 c = search needs
-
-no-refusal-requires-3 : tie.Need-no-refusal-requires-3
-no-refusal-requires-3 c κs = search needs
-
-flat-operation-requires-2 : tie.Need-flat-operation-requires-2
-flat-operation-requires-2 c κs = search needs
-
-flat-operation-requires-3 : tie.Need-flat-operation-requires-3
-flat-operation-requires-3 c κs = search needs
-
 returns : tie.Need-returns
 returns c = rw (c .before .before .before .enum-told .given .1, c .no-operation2 .ensures, c .before .no-operation .ensures, c .before .before .no-refusal .ensures)
 
@@ -50,20 +14,5 @@ returns-3 c = rw (c .before .before .before .before .before .before .list2 .give
 
 pub flat-starts-spec : {M : Type 1} → statement M
 flat-starts-spec =
-    tie.close
-    (tie.spec
-    enum-told
-    no-refusal-requires
-    no-operation-requires
-    no-operation-requires-2
-    enum-known-list
-    no-refusal-requires-2
-    flat-operation-requires
-    no-operation-requires-3
-    enum-known-list-2
-    no-refusal-requires-3
-    flat-operation-requires-2
-    flat-operation-requires-3
-    returns
-    returns-2
-    returns-3)
+    tie.close (tie.spec (search needs) (search needs) (search needs) (search needs) (search needs) (search needs) (search needs)
+    (search needs) (search needs) (search needs) (search needs) (search needs) returns returns-2 returns-3)

@@ -9,30 +9,13 @@ returns : tie.Need-returns
 unfolding operationsAt
 returns c = rw (eq-eqb _ _ (c .if1 .taken))
 
-operation-requires : tie.Need-operation-requires
-operation-requires c κs = search needs
-
 returns-2 : tie.Need-returns-2
 unfolding operationsAt
 returns-2 c = rw (ne-eqb _ _ (c .before .before .before .if1 .left), eq-eqb _ _ (c .before .if2 .taken), c .operation .ensures)
-
-operation-requires-2 : tie.Need-operation-requires-2
-operation-requires-2 c κs = search needs
-
-operation-requires-3 : tie.Need-operation-requires-3
-operation-requires-3 c κs = search needs
 
 returns-3 : tie.Need-returns-3
 unfolding operationsAt
 returns-3 c = rw (ne-eqb _ _ (c .before .before .before .before .if1 .left), ne-eqb _ _ (c .before .before .if2 .left), c .operation3 .ensures, c .before .operation2 .ensures)
 
 pub operations-spec : {M : Type 1} → statement M
-operations-spec =
-    tie.close
-    (tie.spec
-    returns
-    operation-requires
-    returns-2
-    operation-requires-2
-    operation-requires-3
-    returns-3)
+operations-spec = tie.close (tie.spec returns (search needs) returns-2 (search needs) (search needs) returns-3)

@@ -3,19 +3,8 @@ use borrow.Author.Needs.{needs}
 use Rattle.stripring.proofs.list.stripring_operations_into_container.Statement.{statement}
 use Rattle.stripring.proofs.list.stripring_operations_into_container.Tie as tie
 
-operations-requires : tie.Need-operations-requires
-operations-requires c κs = search needs
-
-into-container-requires : tie.Need-into-container-requires
-into-container-requires c κs = search needs
-
-flat-operations-answer-requires : tie.Need-flat-operations-answer-requires
-flat-operations-answer-requires c κs = search needs
-
 returns : tie.Need-returns
 returns c = rw (c .flat-operations-answer .ensures, c .before .into-container .ensures, c .before .before .operations .ensures)
 
 pub stripring-operations-into-container-spec : {M : Type 1} → statement M
-stripring-operations-into-container-spec =
-    tie.close
-    (tie.spec operations-requires into-container-requires flat-operations-answer-requires returns)
+stripring-operations-into-container-spec = tie.close (tie.spec (search needs) (search needs) (search needs) returns)

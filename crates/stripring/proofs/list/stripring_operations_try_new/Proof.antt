@@ -3,19 +3,8 @@ use borrow.Author.Needs.{needs}
 use Rattle.stripring.proofs.list.stripring_operations_try_new.Statement.{statement}
 use Rattle.stripring.proofs.list.stripring_operations_try_new.Tie as tie
 
-operations-requires : tie.Need-operations-requires
-operations-requires c κs = search needs
-
-try-new-requires : tie.Need-try-new-requires
-try-new-requires c κs = search needs
-
-flat-operations-answer-requires : tie.Need-flat-operations-answer-requires
-flat-operations-answer-requires c κs = search needs
-
 returns : tie.Need-returns
 returns c = rw (c .flat-operations-answer .ensures, c .before .try-new .ensures, c .before .before .operations .ensures)
 
 pub stripring-operations-try-new-spec : {M : Type 1} → statement M
-stripring-operations-try-new-spec =
-    tie.close
-    (tie.spec operations-requires try-new-requires flat-operations-answer-requires returns)
+stripring-operations-try-new-spec = tie.close (tie.spec (search needs) (search needs) (search needs) returns)

@@ -3,23 +3,8 @@ use borrow.Author.Needs.{needs}
 use Rattle.stripring.proofs.list.stripring_operations_with_outside_buffer_range.Statement.{statement}
 use Rattle.stripring.proofs.list.stripring_operations_with_outside_buffer_range.Tie as tie
 
-operations-requires : tie.Need-operations-requires
-operations-requires c κs = search needs
-
-with-outside-buffer-range-requires : tie.Need-with-outside-buffer-range-requires
-with-outside-buffer-range-requires c κs = search needs
-
-flat-ranges-answer-requires : tie.Need-flat-ranges-answer-requires
-flat-ranges-answer-requires c κs = search needs
-
 returns : tie.Need-returns
 returns c = rw (c .flat-ranges-answer .ensures, c .before .with-outside-buffer-range .ensures, c .before .before .operations .ensures)
 
 pub stripring-operations-with-outside-buffer-range-spec : {M : Type 1} → statement M
-stripring-operations-with-outside-buffer-range-spec =
-    tie.close
-    (tie.spec
-    operations-requires
-    with-outside-buffer-range-requires
-    flat-ranges-answer-requires
-    returns)
+stripring-operations-with-outside-buffer-range-spec = tie.close (tie.spec (search needs) (search needs) (search needs) returns)

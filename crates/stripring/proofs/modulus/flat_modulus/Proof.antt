@@ -3,12 +3,6 @@ use borrow.Author.Needs.{needs}
 use Rattle.stripring.proofs.modulus.flat_modulus.Statement.{statement}
 use Rattle.stripring.proofs.modulus.flat_modulus.Tie as tie
 
-enum-known-m : tie.Need-enum-known-m
-enum-known-m c = search needs
-
-enum-told : tie.Need-enum-told
-enum-told c = search needs
-
 returns : tie.Need-returns
 returns c = rw (c .before .m .given .1)
 
@@ -16,4 +10,4 @@ returns-2 : tie.Need-returns-2
 returns-2 c = rw (c .enum-told .given .1)
 
 pub flat-modulus-spec : {M : Type 1} → statement M
-flat-modulus-spec = tie.close (tie.spec enum-known-m enum-told returns returns-2)
+flat-modulus-spec = tie.close (tie.spec (search needs) (search needs) returns returns-2)

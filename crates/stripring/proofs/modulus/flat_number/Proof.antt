@@ -3,12 +3,6 @@ use borrow.Author.Needs.{needs}
 use Rattle.stripring.proofs.modulus.flat_number.Statement.{statement}
 use Rattle.stripring.proofs.modulus.flat_number.Tie as tie
 
-enum-known-n : tie.Need-enum-known-n
-enum-known-n c = search needs
-
-enum-told : tie.Need-enum-told
-enum-told c = search needs
-
 returns : tie.Need-returns
 returns c = rw (c .before .n .given .1)
 
@@ -16,4 +10,4 @@ returns-2 : tie.Need-returns-2
 returns-2 c = rw (c .enum-told .given .1)
 
 pub flat-number-spec : {M : Type 1} → statement M
-flat-number-spec = tie.close (tie.spec enum-known-n enum-told returns returns-2)
+flat-number-spec = tie.close (tie.spec (search needs) (search needs) returns returns-2)

@@ -5,14 +5,8 @@ use borrow.Author.Needs.{needs}
 use Rattle.stripring.proofs.modulus.stripring_modulus_double.Statement.{statement}
 use Rattle.stripring.proofs.modulus.stripring_modulus_double.Tie as tie
 
-double-requires : tie.Need-double-requires
-double-requires c κs = search needs
-
-flat-modulus-requires : tie.Need-flat-modulus-requires
-flat-modulus-requires c κs = search needs
-
 returns : tie.Need-returns
 returns c = c .flat-modulus .ensures ∙ ap flatModulus (c .before .double .ensures)
 
 pub stripring-modulus-double-spec : {M : Type 1} → statement M
-stripring-modulus-double-spec = tie.close (tie.spec double-requires flat-modulus-requires returns)
+stripring-modulus-double-spec = tie.close (tie.spec (search needs) (search needs) returns)

@@ -5,14 +5,8 @@ use borrow.Author.Needs.{needs}
 use Rattle.stripring.proofs.modulus.stripring_modulus_modulus.Statement.{statement}
 use Rattle.stripring.proofs.modulus.stripring_modulus_modulus.Tie as tie
 
-modulus-requires : tie.Need-modulus-requires
-modulus-requires c κs = search needs
-
-flat-number-requires : tie.Need-flat-number-requires
-flat-number-requires c κs = search needs
-
 returns : tie.Need-returns
 returns c = c .flat-number .ensures ∙ ap flatNumber (c .before .modulus .ensures)
 
 pub stripring-modulus-modulus-spec : {M : Type 1} → statement M
-stripring-modulus-modulus-spec = tie.close (tie.spec modulus-requires flat-number-requires returns)
+stripring-modulus-modulus-spec = tie.close (tie.spec (search needs) (search needs) returns)

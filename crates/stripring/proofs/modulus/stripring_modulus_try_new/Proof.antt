@@ -5,15 +5,8 @@ use borrow.Author.Needs.{needs}
 use Rattle.stripring.proofs.modulus.stripring_modulus_try_new.Statement.{statement}
 use Rattle.stripring.proofs.modulus.stripring_modulus_try_new.Tie as tie
 
-try-new-requires : tie.Need-try-new-requires
-try-new-requires c κs = search needs
-
-flat-modulus-requires : tie.Need-flat-modulus-requires
-flat-modulus-requires c κs = search needs
-
 returns : tie.Need-returns
 returns c = c .flat-modulus .ensures ∙ ap flatModulus (c .before .try-new .ensures)
 
 pub stripring-modulus-try-new-spec : {M : Type 1} → statement M
-stripring-modulus-try-new-spec =
-    tie.close (tie.spec try-new-requires flat-modulus-requires returns)
+stripring-modulus-try-new-spec = tie.close (tie.spec (search needs) (search needs) returns)

@@ -5,15 +5,8 @@ use borrow.Author.Needs.{needs}
 use Rattle.stripring.proofs.modulus.stripring_modulus_try_new_number.Statement.{statement}
 use Rattle.stripring.proofs.modulus.stripring_modulus_try_new_number.Tie as tie
 
-try-new-number-requires : tie.Need-try-new-number-requires
-try-new-number-requires c κs = search needs
-
-flat-number-requires : tie.Need-flat-number-requires
-flat-number-requires c κs = search needs
-
 returns : tie.Need-returns
 returns c = c .flat-number .ensures ∙ ap flatNumber (c .before .try-new-number .ensures)
 
 pub stripring-modulus-try-new-number-spec : {M : Type 1} → statement M
-stripring-modulus-try-new-number-spec =
-    tie.close (tie.spec try-new-number-requires flat-number-requires returns)
+stripring-modulus-try-new-number-spec = tie.close (tie.spec (search needs) (search needs) returns)

@@ -3,11 +3,8 @@ use borrow.Author.Needs.{needs}
 use Rattle.stripring.proofs.operation.flat_operation.Statement.{statement}
 use Rattle.stripring.proofs.operation.flat_operation.Tie as tie
 
-number-requires : tie.Need-number-requires
-number-requires c κs = search needs
-
 returns : tie.Need-returns
 returns c = rw (c .number .ensures)
 
 pub flat-operation-spec : {M : Type 1} → statement M
-flat-operation-spec = tie.close (tie.spec number-requires returns)
+flat-operation-spec = tie.close (tie.spec (search needs) returns)

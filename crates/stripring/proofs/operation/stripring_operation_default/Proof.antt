@@ -3,15 +3,8 @@ use borrow.Author.Needs.{needs}
 use Rattle.stripring.proofs.operation.stripring_operation_default.Statement.{statement}
 use Rattle.stripring.proofs.operation.stripring_operation_default.Tie as tie
 
-default-requires : tie.Need-default-requires
-default-requires c κs = search needs
-
-flat-operation-requires : tie.Need-flat-operation-requires
-flat-operation-requires c κs = search needs
-
 returns : tie.Need-returns
 returns c = rw (c .flat-operation .ensures, c .before .default .ensures)
 
 pub stripring-operation-default-spec : {M : Type 1} → statement M
-stripring-operation-default-spec =
-    tie.close (tie.spec default-requires flat-operation-requires returns)
+stripring-operation-default-spec = tie.close (tie.spec (search needs) (search needs) returns)

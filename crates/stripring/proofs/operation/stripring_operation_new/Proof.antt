@@ -3,18 +3,8 @@ use borrow.Author.Needs.{needs}
 use Rattle.stripring.proofs.operation.stripring_operation_new.Statement.{statement}
 use Rattle.stripring.proofs.operation.stripring_operation_new.Tie as tie
 
-operation-type-requires : tie.Need-operation-type-requires
-operation-type-requires c κs = search needs
-
-new-requires : tie.Need-new-requires
-new-requires c κs = search needs
-
-flat-operation-requires : tie.Need-flat-operation-requires
-flat-operation-requires c κs = search needs
-
 returns : tie.Need-returns
 returns c = rw (c .flat-operation .ensures, c .before .new .ensures, c .before .before .operation-type .ensures)
 
 pub stripring-operation-new-spec : {M : Type 1} → statement M
-stripring-operation-new-spec =
-    tie.close (tie.spec operation-type-requires new-requires flat-operation-requires returns)
+stripring-operation-new-spec = tie.close (tie.spec (search needs) (search needs) (search needs) returns)

@@ -13,12 +13,9 @@ returns-2 : tie.Need-returns-2
 unfolding cameAt
 returns-2 c = rw (ne-eqb _ _ (c .before .before .if1 .left), eq-eqb _ _ (c .if2 .taken))
 
-failure-requires : tie.Need-failure-requires
-failure-requires c κs = search needs
-
 returns-3 : tie.Need-returns-3
 unfolding cameAt
 returns-3 c = rw (ne-eqb _ _ (c .before .before .before .if1 .left), ne-eqb _ _ (c .before .if2 .left), c .failure .ensures)
 
 pub came-spec : {M : Type 1} → statement M
-came-spec = tie.close (tie.spec returns returns-2 failure-requires returns-3)
+came-spec = tie.close (tie.spec returns returns-2 (search needs) returns-3)

@@ -3,11 +3,8 @@ use borrow.Author.Needs.{needs}
 use Rattle.stripring.proofs.outcome.outcome.Statement.{statement}
 use Rattle.stripring.proofs.outcome.outcome.Tie as tie
 
-came-requires : tie.Need-came-requires
-came-requires c κs = search needs
-
 returns : tie.Need-returns
 returns c = rw (c .came .ensures)
 
 pub outcome-spec : {M : Type 1} → statement M
-outcome-spec = tie.close (tie.spec came-requires returns)
+outcome-spec = tie.close (tie.spec (search needs) returns)

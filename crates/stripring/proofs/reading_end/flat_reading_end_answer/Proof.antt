@@ -3,24 +3,6 @@ use borrow.Author.Needs.{needs}
 use Rattle.stripring.proofs.reading_end.flat_reading_end_answer.Statement.{statement}
 use Rattle.stripring.proofs.reading_end.flat_reading_end_answer.Tie as tie
 
-enum-known-a : tie.Need-enum-known-a
-enum-known-a c = search needs
-
-no-refusal-requires : tie.Need-no-refusal-requires
-no-refusal-requires c κs = search needs
-
-flat-reading-end-requires : tie.Need-flat-reading-end-requires
-flat-reading-end-requires c κs = search needs
-
-enum-known-a-2 : tie.Need-enum-known-a-2
-enum-known-a-2 c = search needs
-
-flat-end-refusal-requires : tie.Need-flat-end-refusal-requires
-flat-end-refusal-requires c κs = search needs
-
-no-reading-end-requires : tie.Need-no-reading-end-requires
-no-reading-end-requires c κs = search needs
-
 returns : tie.Need-returns
 returns c = rw (c .before .before .before .a .given .1, c .flat-reading-end .ensures, c .before .no-refusal .ensures)
 
@@ -29,13 +11,4 @@ returns-2 c = rw (c .before .before .before .a2 .given .1, c .no-reading-end .en
 
 pub flat-reading-end-answer-spec : {M : Type 1} → statement M
 flat-reading-end-answer-spec =
-    tie.close
-    (tie.spec
-    enum-known-a
-    no-refusal-requires
-    flat-reading-end-requires
-    enum-known-a-2
-    flat-end-refusal-requires
-    no-reading-end-requires
-    returns
-    returns-2)
+    tie.close (tie.spec (search needs) (search needs) (search needs) (search needs) (search needs) (search needs) returns returns-2)

@@ -3,11 +3,8 @@ use borrow.Author.Needs.{needs}
 use Rattle.stripring.proofs.reading_end.no_reading_end.Statement.{statement}
 use Rattle.stripring.proofs.reading_end.no_reading_end.Tie as tie
 
-no-scheduler-requires : tie.Need-no-scheduler-requires
-no-scheduler-requires c κs = search needs
-
 returns : tie.Need-returns
 returns c = rw (c .no-scheduler .ensures)
 
 pub no-reading-end-spec : {M : Type 1} → statement M
-no-reading-end-spec = tie.close (tie.spec no-scheduler-requires returns)
+no-reading-end-spec = tie.close (tie.spec (search needs) returns)

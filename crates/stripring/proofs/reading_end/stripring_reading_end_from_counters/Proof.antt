@@ -3,15 +3,8 @@ use borrow.Author.Needs.{needs}
 use Rattle.stripring.proofs.reading_end.stripring_reading_end_from_counters.Statement.{statement}
 use Rattle.stripring.proofs.reading_end.stripring_reading_end_from_counters.Tie as tie
 
-from-counters-requires : tie.Need-from-counters-requires
-from-counters-requires c κs = search needs
-
-flat-reading-end-answer-requires : tie.Need-flat-reading-end-answer-requires
-flat-reading-end-answer-requires c κs = search needs
-
 returns : tie.Need-returns
 returns c = rw (c .flat-reading-end-answer .ensures, c .before .from-counters .ensures)
 
 pub stripring-reading-end-from-counters-spec : {M : Type 1} → statement M
-stripring-reading-end-from-counters-spec =
-    tie.close (tie.spec from-counters-requires flat-reading-end-answer-requires returns)
+stripring-reading-end-from-counters-spec = tie.close (tie.spec (search needs) (search needs) returns)

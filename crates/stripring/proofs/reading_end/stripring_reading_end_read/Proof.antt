@@ -5,21 +5,8 @@ use borrow.Author.Needs.{needs}
 use Rattle.stripring.proofs.reading_end.stripring_reading_end_read.Statement.{statement}
 use Rattle.stripring.proofs.reading_end.stripring_reading_end_read.Tie as tie
 
-reading-end-requires : tie.Need-reading-end-requires
-reading-end-requires c κs = search needs
-
-read-requires : tie.Need-read-requires
-read-requires c κs = search needs
-
-flat-got-requires : tie.Need-flat-got-requires
-flat-got-requires c κs = search needs
-
-same-length : tie.Need-same-length
-same-length c = search needs
-
 returns : tie.Need-returns
 returns c = rw (c .flat-got .ensures) (ap flatGotLeft (rw (c .before .before .before .before .before .reading-end .ensures) at (c .before .before .before .read .ensures)))
 
 pub stripring-reading-end-read-spec : {M : Type 1} → statement M
-stripring-reading-end-read-spec =
-    tie.close (tie.spec reading-end-requires read-requires flat-got-requires same-length returns)
+stripring-reading-end-read-spec = tie.close (tie.spec (search needs) (search needs) (search needs) (search needs) returns)

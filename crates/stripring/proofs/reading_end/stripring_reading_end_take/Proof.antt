@@ -3,27 +3,8 @@ use borrow.Author.Needs.{needs}
 use Rattle.stripring.proofs.reading_end.stripring_reading_end_take.Statement.{statement}
 use Rattle.stripring.proofs.reading_end.stripring_reading_end_take.Tie as tie
 
-reading-end-requires : tie.Need-reading-end-requires
-reading-end-requires c κs = search needs
-
-written-counter-requires : tie.Need-written-counter-requires
-written-counter-requires c κs = search needs
-
-take-requires : tie.Need-take-requires
-take-requires c κs = search needs
-
-flat-reading-end-answer-requires : tie.Need-flat-reading-end-answer-requires
-flat-reading-end-answer-requires c κs = search needs
-
 returns : tie.Need-returns
 returns c = rw (c .flat-reading-end-answer .ensures, c .before .take .ensures, c .before .before .written-counter .ensures, c .before .before .before .reading-end .ensures)
 
 pub stripring-reading-end-take-spec : {M : Type 1} → statement M
-stripring-reading-end-take-spec =
-    tie.close
-    (tie.spec
-    reading-end-requires
-    written-counter-requires
-    take-requires
-    flat-reading-end-answer-requires
-    returns)
+stripring-reading-end-take-spec = tie.close (tie.spec (search needs) (search needs) (search needs) (search needs) returns)

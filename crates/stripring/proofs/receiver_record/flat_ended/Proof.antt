@@ -3,30 +3,6 @@ use borrow.Author.Needs.{needs}
 use Rattle.stripring.proofs.receiver_record.flat_ended.Statement.{statement}
 use Rattle.stripring.proofs.receiver_record.flat_ended.Tie as tie
 
-enum-known-a : tie.Need-enum-known-a
-enum-known-a c = search needs
-
-no-refusal-requires : tie.Need-no-refusal-requires
-no-refusal-requires c κs = search needs
-
-flat-receiver-requires : tie.Need-flat-receiver-requires
-flat-receiver-requires c κs = search needs
-
-flat-outcome-requires : tie.Need-flat-outcome-requires
-flat-outcome-requires c κs = search needs
-
-enum-known-a-2 : tie.Need-enum-known-a-2
-enum-known-a-2 c = search needs
-
-flat-receiver-refusal-requires : tie.Need-flat-receiver-refusal-requires
-flat-receiver-refusal-requires c κs = search needs
-
-no-receiver-requires : tie.Need-no-receiver-requires
-no-receiver-requires c κs = search needs
-
-no-outcome-requires : tie.Need-no-outcome-requires
-no-outcome-requires c κs = search needs
-
 returns : tie.Need-returns
 returns c = rw (c .before .before .before .before .a .given .1, c .flat-outcome .ensures, c .before .flat-receiver .ensures, c .before .before .no-refusal .ensures)
 
@@ -35,15 +11,5 @@ returns-2 c = rw (c .before .before .before .before .a2 .given .1, c .no-outcome
 
 pub flat-ended-spec : {M : Type 1} → statement M
 flat-ended-spec =
-    tie.close
-    (tie.spec
-    enum-known-a
-    no-refusal-requires
-    flat-receiver-requires
-    flat-outcome-requires
-    enum-known-a-2
-    flat-receiver-refusal-requires
-    no-receiver-requires
-    no-outcome-requires
-    returns
-    returns-2)
+    tie.close (tie.spec (search needs) (search needs) (search needs) (search needs) (search needs) (search needs) (search needs)
+    (search needs) returns returns-2)

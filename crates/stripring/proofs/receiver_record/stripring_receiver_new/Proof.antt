@@ -3,18 +3,8 @@ use borrow.Author.Needs.{needs}
 use Rattle.stripring.proofs.receiver_record.stripring_receiver_new.Statement.{statement}
 use Rattle.stripring.proofs.receiver_record.stripring_receiver_new.Tie as tie
 
-scheduler-requires : tie.Need-scheduler-requires
-scheduler-requires c κs = search needs
-
-new-requires : tie.Need-new-requires
-new-requires c κs = search needs
-
-flat-receiver-answer-requires : tie.Need-flat-receiver-answer-requires
-flat-receiver-answer-requires c κs = search needs
-
 returns : tie.Need-returns
 returns c = rw (c .flat-receiver-answer .ensures, c .before .new .ensures, c .before .before .scheduler .ensures)
 
 pub stripring-receiver-new-spec : {M : Type 1} → statement M
-stripring-receiver-new-spec =
-    tie.close (tie.spec scheduler-requires new-requires flat-receiver-answer-requires returns)
+stripring-receiver-new-spec = tie.close (tie.spec (search needs) (search needs) (search needs) returns)

@@ -3,24 +3,6 @@ use borrow.Author.Needs.{needs}
 use Rattle.stripring.proofs.scheduler.flat_checked.Statement.{statement}
 use Rattle.stripring.proofs.scheduler.flat_checked.Tie as tie
 
-enum-known-a : tie.Need-enum-known-a
-enum-known-a c = search needs
-
-no-refusal-requires : tie.Need-no-refusal-requires
-no-refusal-requires c κs = search needs
-
-flat-scheduler-requires : tie.Need-flat-scheduler-requires
-flat-scheduler-requires c κs = search needs
-
-enum-known-a-2 : tie.Need-enum-known-a-2
-enum-known-a-2 c = search needs
-
-flat-refusal-requires : tie.Need-flat-refusal-requires
-flat-refusal-requires c κs = search needs
-
-no-scheduler-requires : tie.Need-no-scheduler-requires
-no-scheduler-requires c κs = search needs
-
 returns : tie.Need-returns
 returns c = rw (c .before .before .before .a .given .1, c .flat-scheduler .ensures, c .before .no-refusal .ensures)
 
@@ -29,13 +11,4 @@ returns-2 c = rw (c .before .before .before .a2 .given .1, c .no-scheduler .ensu
 
 pub flat-checked-spec : {M : Type 1} → statement M
 flat-checked-spec =
-    tie.close
-    (tie.spec
-    enum-known-a
-    no-refusal-requires
-    flat-scheduler-requires
-    enum-known-a-2
-    flat-refusal-requires
-    no-scheduler-requires
-    returns
-    returns-2)
+    tie.close (tie.spec (search needs) (search needs) (search needs) (search needs) (search needs) (search needs) returns returns-2)

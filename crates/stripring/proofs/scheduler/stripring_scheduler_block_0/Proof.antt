@@ -3,18 +3,8 @@ use borrow.Author.Needs.{needs}
 use Rattle.stripring.proofs.scheduler.stripring_scheduler_block_0.Statement.{statement}
 use Rattle.stripring.proofs.scheduler.stripring_scheduler_block_0.Tie as tie
 
-scheduler-requires : tie.Need-scheduler-requires
-scheduler-requires c κs = search needs
-
-block-0-requires : tie.Need-block-0-requires
-block-0-requires c κs = search needs
-
-flat-block-answer-requires : tie.Need-flat-block-answer-requires
-flat-block-answer-requires c κs = search needs
-
 returns : tie.Need-returns
 returns c = rw (c .flat-block-answer .ensures, c .before .block-0 .ensures, c .before .before .scheduler .ensures)
 
 pub stripring-scheduler-block-0-spec : {M : Type 1} → statement M
-stripring-scheduler-block-0-spec =
-    tie.close (tie.spec scheduler-requires block-0-requires flat-block-answer-requires returns)
+stripring-scheduler-block-0-spec = tie.close (tie.spec (search needs) (search needs) (search needs) returns)

@@ -3,18 +3,8 @@ use borrow.Author.Needs.{needs}
 use Rattle.stripring.proofs.scheduler.stripring_scheduler_block_2_off.Statement.{statement}
 use Rattle.stripring.proofs.scheduler.stripring_scheduler_block_2_off.Tie as tie
 
-scheduler-requires : tie.Need-scheduler-requires
-scheduler-requires c κs = search needs
-
-block-2-off-requires : tie.Need-block-2-off-requires
-block-2-off-requires c κs = search needs
-
-flat-offset-requires : tie.Need-flat-offset-requires
-flat-offset-requires c κs = search needs
-
 returns : tie.Need-returns
 returns c = rw (c .flat-offset .ensures, c .before .block-2-off .ensures, c .before .before .scheduler .ensures)
 
 pub stripring-scheduler-block-2-off-spec : {M : Type 1} → statement M
-stripring-scheduler-block-2-off-spec =
-    tie.close (tie.spec scheduler-requires block-2-off-requires flat-offset-requires returns)
+stripring-scheduler-block-2-off-spec = tie.close (tie.spec (search needs) (search needs) (search needs) returns)

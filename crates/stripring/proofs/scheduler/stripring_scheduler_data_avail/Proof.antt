@@ -3,18 +3,8 @@ use borrow.Author.Needs.{needs}
 use Rattle.stripring.proofs.scheduler.stripring_scheduler_data_avail.Statement.{statement}
 use Rattle.stripring.proofs.scheduler.stripring_scheduler_data_avail.Tie as tie
 
-scheduler-requires : tie.Need-scheduler-requires
-scheduler-requires c κs = search needs
-
-data-avail-requires : tie.Need-data-avail-requires
-data-avail-requires c κs = search needs
-
-flat-amount-requires : tie.Need-flat-amount-requires
-flat-amount-requires c κs = search needs
-
 returns : tie.Need-returns
 returns c = rw (c .flat-amount .ensures, c .before .data-avail .ensures, c .before .before .scheduler .ensures)
 
 pub stripring-scheduler-data-avail-spec : {M : Type 1} → statement M
-stripring-scheduler-data-avail-spec =
-    tie.close (tie.spec scheduler-requires data-avail-requires flat-amount-requires returns)
+stripring-scheduler-data-avail-spec = tie.close (tie.spec (search needs) (search needs) (search needs) returns)

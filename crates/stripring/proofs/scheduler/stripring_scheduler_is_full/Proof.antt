@@ -3,18 +3,8 @@ use borrow.Author.Needs.{needs}
 use Rattle.stripring.proofs.scheduler.stripring_scheduler_is_full.Statement.{statement}
 use Rattle.stripring.proofs.scheduler.stripring_scheduler_is_full.Tie as tie
 
-scheduler-requires : tie.Need-scheduler-requires
-scheduler-requires c κs = search needs
-
-is-full-requires : tie.Need-is-full-requires
-is-full-requires c κs = search needs
-
-flat-bool-requires : tie.Need-flat-bool-requires
-flat-bool-requires c κs = search needs
-
 returns : tie.Need-returns
 returns c = rw (c .flat-bool .ensures, c .before .is-full .ensures, c .before .before .scheduler .ensures)
 
 pub stripring-scheduler-is-full-spec : {M : Type 1} → statement M
-stripring-scheduler-is-full-spec =
-    tie.close (tie.spec scheduler-requires is-full-requires flat-bool-requires returns)
+stripring-scheduler-is-full-spec = tie.close (tie.spec (search needs) (search needs) (search needs) returns)

@@ -3,18 +3,8 @@ use borrow.Author.Needs.{needs}
 use Rattle.stripring.proofs.scheduler.stripring_scheduler_is_nonempty.Statement.{statement}
 use Rattle.stripring.proofs.scheduler.stripring_scheduler_is_nonempty.Tie as tie
 
-scheduler-requires : tie.Need-scheduler-requires
-scheduler-requires c κs = search needs
-
-is-nonempty-requires : tie.Need-is-nonempty-requires
-is-nonempty-requires c κs = search needs
-
-flat-bool-requires : tie.Need-flat-bool-requires
-flat-bool-requires c κs = search needs
-
 returns : tie.Need-returns
 returns c = rw (c .flat-bool .ensures, c .before .is-nonempty .ensures, c .before .before .scheduler .ensures)
 
 pub stripring-scheduler-is-nonempty-spec : {M : Type 1} → statement M
-stripring-scheduler-is-nonempty-spec =
-    tie.close (tie.spec scheduler-requires is-nonempty-requires flat-bool-requires returns)
+stripring-scheduler-is-nonempty-spec = tie.close (tie.spec (search needs) (search needs) (search needs) returns)

@@ -3,18 +3,8 @@ use borrow.Author.Needs.{needs}
 use Rattle.stripring.proofs.scheduler.stripring_scheduler_is_nonfull.Statement.{statement}
 use Rattle.stripring.proofs.scheduler.stripring_scheduler_is_nonfull.Tie as tie
 
-scheduler-requires : tie.Need-scheduler-requires
-scheduler-requires c κs = search needs
-
-is-nonfull-requires : tie.Need-is-nonfull-requires
-is-nonfull-requires c κs = search needs
-
-flat-bool-requires : tie.Need-flat-bool-requires
-flat-bool-requires c κs = search needs
-
 returns : tie.Need-returns
 returns c = rw (c .flat-bool .ensures, c .before .is-nonfull .ensures, c .before .before .scheduler .ensures)
 
 pub stripring-scheduler-is-nonfull-spec : {M : Type 1} → statement M
-stripring-scheduler-is-nonfull-spec =
-    tie.close (tie.spec scheduler-requires is-nonfull-requires flat-bool-requires returns)
+stripring-scheduler-is-nonfull-spec = tie.close (tie.spec (search needs) (search needs) (search needs) returns)

@@ -3,19 +3,8 @@ use borrow.Author.Needs.{needs}
 use Rattle.stripring.proofs.scheduler.stripring_scheduler_next_write_block.Statement.{statement}
 use Rattle.stripring.proofs.scheduler.stripring_scheduler_next_write_block.Tie as tie
 
-scheduler-requires : tie.Need-scheduler-requires
-scheduler-requires c κs = search needs
-
-next-write-block-requires : tie.Need-next-write-block-requires
-next-write-block-requires c κs = search needs
-
-flat-block-answer-requires : tie.Need-flat-block-answer-requires
-flat-block-answer-requires c κs = search needs
-
 returns : tie.Need-returns
 returns c = rw (c .flat-block-answer .ensures, c .before .next-write-block .ensures, c .before .before .scheduler .ensures)
 
 pub stripring-scheduler-next-write-block-spec : {M : Type 1} → statement M
-stripring-scheduler-next-write-block-spec =
-    tie.close
-    (tie.spec scheduler-requires next-write-block-requires flat-block-answer-requires returns)
+stripring-scheduler-next-write-block-spec = tie.close (tie.spec (search needs) (search needs) (search needs) returns)

@@ -3,18 +3,8 @@ use borrow.Author.Needs.{needs}
 use Rattle.stripring.proofs.scheduler.stripring_scheduler_schedule_next_write.Statement.{statement}
 use Rattle.stripring.proofs.scheduler.stripring_scheduler_schedule_next_write.Tie as tie
 
-scheduler-requires : tie.Need-scheduler-requires
-scheduler-requires c κs = search needs
-
-schedule-next-write-requires : tie.Need-schedule-next-write-requires
-schedule-next-write-requires c κs = search needs
-
-flat-next-requires : tie.Need-flat-next-requires
-flat-next-requires c κs = search needs
-
 returns : tie.Need-returns
 returns c = rw (c .flat-next .ensures, c .before .schedule-next-write .ensures, c .before .before .scheduler .ensures)
 
 pub stripring-scheduler-schedule-next-write-spec : {M : Type 1} → statement M
-stripring-scheduler-schedule-next-write-spec =
-    tie.close (tie.spec scheduler-requires schedule-next-write-requires flat-next-requires returns)
+stripring-scheduler-schedule-next-write-spec = tie.close (tie.spec (search needs) (search needs) (search needs) returns)

@@ -3,27 +3,8 @@ use borrow.Author.Needs.{needs}
 use Rattle.stripring.proofs.scheduler.stripring_scheduler_try_register_operation.Statement.{statement}
 use Rattle.stripring.proofs.scheduler.stripring_scheduler_try_register_operation.Tie as tie
 
-scheduler-requires : tie.Need-scheduler-requires
-scheduler-requires c κs = search needs
-
-operation-requires : tie.Need-operation-requires
-operation-requires c κs = search needs
-
-try-register-operation-requires : tie.Need-try-register-operation-requires
-try-register-operation-requires c κs = search needs
-
-flat-registered-requires : tie.Need-flat-registered-requires
-flat-registered-requires c κs = search needs
-
 returns : tie.Need-returns
 returns c = rw (c .flat-registered .ensures, c .before .try-register-operation .ensures, c .before .before .operation .ensures, c .before .before .before .scheduler .ensures)
 
 pub stripring-scheduler-try-register-operation-spec : {M : Type 1} → statement M
-stripring-scheduler-try-register-operation-spec =
-    tie.close
-    (tie.spec
-    scheduler-requires
-    operation-requires
-    try-register-operation-requires
-    flat-registered-requires
-    returns)
+stripring-scheduler-try-register-operation-spec = tie.close (tie.spec (search needs) (search needs) (search needs) (search needs) returns)

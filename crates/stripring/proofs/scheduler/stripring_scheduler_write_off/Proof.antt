@@ -3,18 +3,8 @@ use borrow.Author.Needs.{needs}
 use Rattle.stripring.proofs.scheduler.stripring_scheduler_write_off.Statement.{statement}
 use Rattle.stripring.proofs.scheduler.stripring_scheduler_write_off.Tie as tie
 
-scheduler-requires : tie.Need-scheduler-requires
-scheduler-requires c κs = search needs
-
-write-off-requires : tie.Need-write-off-requires
-write-off-requires c κs = search needs
-
-flat-offset-requires : tie.Need-flat-offset-requires
-flat-offset-requires c κs = search needs
-
 returns : tie.Need-returns
 returns c = rw (c .flat-offset .ensures, c .before .write-off .ensures, c .before .before .scheduler .ensures)
 
 pub stripring-scheduler-write-off-spec : {M : Type 1} → statement M
-stripring-scheduler-write-off-spec =
-    tie.close (tie.spec scheduler-requires write-off-requires flat-offset-requires returns)
+stripring-scheduler-write-off-spec = tie.close (tie.spec (search needs) (search needs) (search needs) returns)

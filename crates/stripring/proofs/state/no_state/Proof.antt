@@ -3,11 +3,8 @@ use borrow.Author.Needs.{needs}
 use Rattle.stripring.proofs.state.no_state.Statement.{statement}
 use Rattle.stripring.proofs.state.no_state.Tie as tie
 
-no-failure-requires : tie.Need-no-failure-requires
-no-failure-requires c κs = search needs
-
 returns : tie.Need-returns
 returns c = rw (c .no-failure .ensures)
 
 pub no-state-spec : {M : Type 1} → statement M
-no-state-spec = tie.close (tie.spec no-failure-requires returns)
+no-state-spec = tie.close (tie.spec (search needs) returns)

@@ -9,19 +9,13 @@ returns : tie.Need-returns
 unfolding stateAt
 returns c = rw (eq-eqb _ _ (c .if1 .taken))
 
-failure-requires : tie.Need-failure-requires
-failure-requires c κs = search needs
-
 returns-2 : tie.Need-returns-2
 unfolding stateAt
 returns-2 c = rw (ne-eqb _ _ (c .before .before .before .if1 .left), eq-eqb _ _ (c .before .if2 .taken), c .failure .ensures)
-
-failure-requires-2 : tie.Need-failure-requires-2
-failure-requires-2 c κs = search needs
 
 returns-3 : tie.Need-returns-3
 unfolding stateAt
 returns-3 c = rw (ne-eqb _ _ (c .before .before .before .if1 .left), ne-eqb _ _ (c .before .if2 .left), c .failure2 .ensures)
 
 pub state-spec : {M : Type 1} → statement M
-state-spec = tie.close (tie.spec returns failure-requires returns-2 failure-requires-2 returns-3)
+state-spec = tie.close (tie.spec returns (search needs) returns-2 (search needs) returns-3)

@@ -3,11 +3,8 @@ use borrow.Author.Needs.{needs}
 use Rattle.stripring.proofs.writing_end.flat_writing_end.Statement.{statement}
 use Rattle.stripring.proofs.writing_end.flat_writing_end.Tie as tie
 
-flat-scheduler-requires : tie.Need-flat-scheduler-requires
-flat-scheduler-requires c κs = search needs
-
 returns : tie.Need-returns
 returns c = rw (c .flat-scheduler .ensures)
 
 pub flat-writing-end-spec : {M : Type 1} → statement M
-flat-writing-end-spec = tie.close (tie.spec flat-scheduler-requires returns)
+flat-writing-end-spec = tie.close (tie.spec (search needs) returns)

@@ -3,18 +3,6 @@ use borrow.Author.Needs.{needs}
 use Rattle.stripring.proofs.writing_end.flat_written_counter.Statement.{statement}
 use Rattle.stripring.proofs.writing_end.flat_written_counter.Tie as tie
 
-enum-known-a : tie.Need-enum-known-a
-enum-known-a c = search needs
-
-no-refusal-requires : tie.Need-no-refusal-requires
-no-refusal-requires c κs = search needs
-
-enum-known-a-2 : tie.Need-enum-known-a-2
-enum-known-a-2 c = search needs
-
-flat-end-refusal-requires : tie.Need-flat-end-refusal-requires
-flat-end-refusal-requires c κs = search needs
-
 returns : tie.Need-returns
 returns c = rw (c .before .before .a .given .1, c .no-refusal .ensures)
 
@@ -22,12 +10,4 @@ returns-2 : tie.Need-returns-2
 returns-2 c = rw (c .before .before .a2 .given .1, c .flat-end-refusal .ensures)
 
 pub flat-written-counter-spec : {M : Type 1} → statement M
-flat-written-counter-spec =
-    tie.close
-    (tie.spec
-    enum-known-a
-    no-refusal-requires
-    enum-known-a-2
-    flat-end-refusal-requires
-    returns
-    returns-2)
+flat-written-counter-spec = tie.close (tie.spec (search needs) (search needs) (search needs) (search needs) returns returns-2)

@@ -3,11 +3,8 @@ use borrow.Author.Needs.{needs}
 use Rattle.stripring.proofs.writing_end.no_writing_end.Statement.{statement}
 use Rattle.stripring.proofs.writing_end.no_writing_end.Tie as tie
 
-no-scheduler-requires : tie.Need-no-scheduler-requires
-no-scheduler-requires c κs = search needs
-
 returns : tie.Need-returns
 returns c = rw (c .no-scheduler .ensures)
 
 pub no-writing-end-spec : {M : Type 1} → statement M
-no-writing-end-spec = tie.close (tie.spec no-scheduler-requires returns)
+no-writing-end-spec = tie.close (tie.spec (search needs) returns)

@@ -3,15 +3,8 @@ use borrow.Author.Needs.{needs}
 use Rattle.stripring.proofs.writing_end.stripring_writing_end_from_counters.Statement.{statement}
 use Rattle.stripring.proofs.writing_end.stripring_writing_end_from_counters.Tie as tie
 
-from-counters-requires : tie.Need-from-counters-requires
-from-counters-requires c κs = search needs
-
-flat-writing-end-answer-requires : tie.Need-flat-writing-end-answer-requires
-flat-writing-end-answer-requires c κs = search needs
-
 returns : tie.Need-returns
 returns c = rw (c .flat-writing-end-answer .ensures, c .before .from-counters .ensures)
 
 pub stripring-writing-end-from-counters-spec : {M : Type 1} → statement M
-stripring-writing-end-from-counters-spec =
-    tie.close (tie.spec from-counters-requires flat-writing-end-answer-requires returns)
+stripring-writing-end-from-counters-spec = tie.close (tie.spec (search needs) (search needs) returns)

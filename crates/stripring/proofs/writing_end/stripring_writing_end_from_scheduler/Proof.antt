@@ -3,19 +3,8 @@ use borrow.Author.Needs.{needs}
 use Rattle.stripring.proofs.writing_end.stripring_writing_end_from_scheduler.Statement.{statement}
 use Rattle.stripring.proofs.writing_end.stripring_writing_end_from_scheduler.Tie as tie
 
-scheduler-requires : tie.Need-scheduler-requires
-scheduler-requires c κs = search needs
-
-from-scheduler-requires : tie.Need-from-scheduler-requires
-from-scheduler-requires c κs = search needs
-
-flat-writing-end-answer-requires : tie.Need-flat-writing-end-answer-requires
-flat-writing-end-answer-requires c κs = search needs
-
 returns : tie.Need-returns
 returns c = rw (c .flat-writing-end-answer .ensures, c .before .from-scheduler .ensures, c .before .before .scheduler .ensures)
 
 pub stripring-writing-end-from-scheduler-spec : {M : Type 1} → statement M
-stripring-writing-end-from-scheduler-spec =
-    tie.close
-    (tie.spec scheduler-requires from-scheduler-requires flat-writing-end-answer-requires returns)
+stripring-writing-end-from-scheduler-spec = tie.close (tie.spec (search needs) (search needs) (search needs) returns)

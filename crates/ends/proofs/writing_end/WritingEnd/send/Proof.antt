@@ -4,15 +4,6 @@ use borrow.Author.Needs.{needs}
 use Rattle.ends.proofs.writing_end.WritingEnd.send.Statement.{statement}
 use Rattle.ends.proofs.writing_end.WritingEnd.send.Tie as tie
 
-items-written-requires : tie.Need-items-written-requires
-items-written-requires c κs = search needs
-
-enum-known-c : tie.Need-enum-known-c
-enum-known-c c = search needs
-
-enum-known-e : tie.Need-enum-known-e
-enum-known-e c = search needs
-
 returns : tie.Need-returns
 returns c = rw (← (sym (c .before .c .given .1) ∙ c .before .before .before .items-written .ensures))
 
@@ -20,4 +11,4 @@ returns-2 : tie.Need-returns-2
 returns-2 c = rw (← (sym (c .before .e .given .1) ∙ c .before .before .before .items-written .ensures))
 
 pub send-spec : {M : Type 1} → statement M
-send-spec = tie.close (tie.spec items-written-requires enum-known-c enum-known-e returns returns-2)
+send-spec = tie.close (tie.spec (search needs) (search needs) (search needs) returns returns-2)

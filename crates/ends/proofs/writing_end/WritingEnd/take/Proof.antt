@@ -4,21 +4,6 @@ use borrow.Author.Needs.{needs}
 use Rattle.ends.proofs.writing_end.WritingEnd.take.Statement.{statement}
 use Rattle.ends.proofs.writing_end.WritingEnd.take.Tie as tie
 
-space-avail-requires : tie.Need-space-avail-requires
-space-avail-requires c κs = search needs
-
-space-avail-requires-2 : tie.Need-space-avail-requires-2
-space-avail-requires-2 c κs = search needs
-
-not-shrunk-requires : tie.Need-not-shrunk-requires
-not-shrunk-requires c κs = search needs
-
-enum-told : tie.Need-enum-told
-enum-told c = search needs
-
-enum-known-e : tie.Need-enum-known-e
-enum-known-e c = search needs
-
 returns : tie.Need-returns
 returns c = rw (← c .before .before .before .space-avail2 .ensures, ← c .before .before .before .before .space-avail .ensures, ← (sym (c .enum-told .given .1) ∙ c .before .before .not-shrunk .ensures))
 
@@ -26,13 +11,4 @@ returns-2 : tie.Need-returns-2
 returns-2 c = rw (← c .before .before .before .before .space-avail2 .ensures, ← c .before .before .before .before .before .space-avail .ensures, ← (sym (c .before .e .given .1) ∙ c .before .before .before .not-shrunk .ensures))
 
 pub take-spec : {M : Type 1} → statement M
-take-spec =
-    tie.close
-    (tie.spec
-    space-avail-requires
-    space-avail-requires-2
-    not-shrunk-requires
-    enum-told
-    enum-known-e
-    returns
-    returns-2)
+take-spec = tie.close (tie.spec (search needs) (search needs) (search needs) (search needs) (search needs) returns returns-2)

@@ -8,29 +8,11 @@ use borrow.Author.Needs.{needs}
 use Rattle.receiver.proofs.call.Call.answered.Statement.{statement}
 use Rattle.receiver.proofs.call.Call.answered.Tie as tie
 
-looks-at-requires : tie.Need-looks-at-requires
-looks-at-requires c κs = search needs
-
-admit-requires : tie.Need-admit-requires
-admit-requires c κs = search needs
-
-enum-told : tie.Need-enum-told
-enum-told c = search needs
-
 resumed-requires : tie.Need-resumed-requires
 resumed-requires c κs = passed-sound (c .before .before .before .before .before .before .args .self .receiver) (c .before .before .before .looks-at .result) (sym (c .enum-told .given .1) ∙ c .before .before .admit .ensures)
 
-enum-known-call : tie.Need-enum-known-call
-enum-known-call c = search needs
-
 stepped-requires : tie.Need-stepped-requires
 stepped-requires c κs = resumed-steps (c .before .before .before .before .before .before .before .before .before .before .args .answer) _ (c .before .before .before .before .before .before .before .before .before .before .args .self) (passes (c .before .before .before .before .before .before .before .before .before .before .args .self) (now (c .before .before .before .before .before .before .before .before .before .before .args .ring)) (c .before .before .before .before .before .before .before .before .before .before .args .answer) (c .before .before .before .before .before .before .before .before .before .before .args .place) _ (c .before .before .before .before .before .before .before .looks-at .ensures) (sym (c .before .before .before .before .enum-told .given .1) ∙ c .before .before .before .before .before .before .admit .ensures)) (omega (arith, c .before .before .before .before .before .before .before .before .before .before .good)) _ (sym (c .before .call .given .1) ∙ c .before .before .before .resumed .ensures)
-
-enum-known-e : tie.Need-enum-known-e
-enum-known-e c = search needs
-
-enum-known-e-2 : tie.Need-enum-known-e-2
-enum-known-e-2 c = search needs
 
 returns : tie.Need-returns
 returns c = c .stepped .ensures ∙ answered-on (c .before .before .before .before .before .before .before .before .before .before .before .args .self) (now (c .before .before .before .before .before .before .before .before .before .before .before .args .ring)) (c .before .before .before .before .before .before .before .before .before .before .before .args .answer) (c .before .before .before .before .before .before .before .before .before .before .before .args .place) _ (c .before .before .before .before .before .before .before .before .looks-at .ensures) (sym (c .before .before .before .before .before .enum-told .given .1) ∙ c .before .before .before .before .before .before .before .admit .ensures) _ (sym (c .before .before .call .given .1) ∙ c .before .before .before .before .resumed .ensures)
@@ -43,16 +25,5 @@ returns-3 c = not-admitted (c .before .before .before .before .before .before .b
 
 pub answered-spec : {M : Type 1} → statement M
 answered-spec =
-    tie.close
-    (tie.spec
-    looks-at-requires
-    admit-requires
-    enum-told
-    resumed-requires
-    enum-known-call
-    stepped-requires
-    enum-known-e
-    enum-known-e-2
-    returns
-    returns-2
-    returns-3)
+    tie.close (tie.spec (search needs) (search needs) (search needs) resumed-requires (search needs) stepped-requires (search needs)
+    (search needs) returns returns-2 returns-3)

@@ -6,17 +6,8 @@ use borrow.Author.Needs.{needs}
 use Rattle.receiver.proofs.call.Call.begin_read.Statement.{statement}
 use Rattle.receiver.proofs.call.Call.begin_read.Tie as tie
 
-admit-requires : tie.Need-admit-requires
-admit-requires c κs = search needs
-
-enum-told : tie.Need-enum-told
-enum-told c = search needs
-
 read-requires : tie.Need-read-requires
 read-requires c κs = passed-sound (c .before .before .before .args .receiver) (Of (c .before .before .before .args .ring-len)) (sym (c .enum-told .given .1) ∙ c .before .before .admit .ensures)
-
-enum-known-e : tie.Need-enum-known-e
-enum-known-e c = search needs
 
 returns : tie.Need-returns
 returns c = rw (← (sym (c .before .enum-told .given .1) ∙ c .before .before .before .admit .ensures), c .read .ensures)
@@ -25,5 +16,4 @@ returns-2 : tie.Need-returns-2
 returns-2 c = rw (← (sym (c .before .e .given .1) ∙ c .before .before .before .admit .ensures))
 
 pub begin-read-spec : {M : Type 1} → statement M
-begin-read-spec =
-    tie.close (tie.spec admit-requires enum-told read-requires enum-known-e returns returns-2)
+begin-read-spec = tie.close (tie.spec (search needs) (search needs) read-requires (search needs) returns returns-2)

@@ -4,21 +4,6 @@ use borrow.Author.Needs.{needs}
 use Rattle.receiver.proofs.call.Call.begin_service.Statement.{statement}
 use Rattle.receiver.proofs.call.Call.begin_service.Tie as tie
 
-admit-requires : tie.Need-admit-requires
-admit-requires c κs = search needs
-
-enum-told : tie.Need-enum-told
-enum-told c = search needs
-
-done-requires : tie.Need-done-requires
-done-requires c κs = search needs
-
-service-requires : tie.Need-service-requires
-service-requires c κs = search needs
-
-enum-known-e : tie.Need-enum-known-e
-enum-known-e c = search needs
-
 returns : tie.Need-returns
 returns c = rw (← (sym (c .before .before .enum-told .given .1) ∙ c .before .before .before .before .admit .ensures), c .service .ensures, c .before .done .ensures)
 
@@ -26,5 +11,4 @@ returns-2 : tie.Need-returns-2
 returns-2 c = rw (← (sym (c .before .e .given .1) ∙ c .before .before .before .admit .ensures))
 
 pub begin-service-spec : {M : Type 1} → statement M
-begin-service-spec =
-    tie.close (tie.spec admit-requires enum-told done-requires service-requires enum-known-e returns returns-2)
+begin-service-spec = tie.close (tie.spec (search needs) (search needs) (search needs) (search needs) (search needs) returns returns-2)

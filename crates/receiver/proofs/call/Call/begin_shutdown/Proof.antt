@@ -4,22 +4,6 @@ use borrow.Author.Needs.{needs}
 use Rattle.receiver.proofs.call.Call.begin_shutdown.Statement.{statement}
 use Rattle.receiver.proofs.call.Call.begin_shutdown.Tie as tie
 
-admit-requires : tie.Need-admit-requires
-admit-requires c κs = search needs
-
-enum-told : tie.Need-enum-told
-enum-told c = search needs
-
-done-requires : tie.Need-done-requires
-done-requires c κs = search needs
-
-advance-operational-state-towards-termination-requires :
-    tie.Need-advance-operational-state-towards-termination-requires
-advance-operational-state-towards-termination-requires c κs = search needs
-
-enum-known-e : tie.Need-enum-known-e
-enum-known-e c = search needs
-
 returns : tie.Need-returns
 returns c = rw (← (sym (c .before .before .enum-told .given .1) ∙ c .before .before .before .before .admit .ensures), c .advance-operational-state-towards-termination .ensures, c .before .done .ensures)
 
@@ -27,13 +11,4 @@ returns-2 : tie.Need-returns-2
 returns-2 c = rw (← (sym (c .before .e .given .1) ∙ c .before .before .before .admit .ensures))
 
 pub begin-shutdown-spec : {M : Type 1} → statement M
-begin-shutdown-spec =
-    tie.close
-    (tie.spec
-    admit-requires
-    enum-told
-    done-requires
-    advance-operational-state-towards-termination-requires
-    enum-known-e
-    returns
-    returns-2)
+begin-shutdown-spec = tie.close (tie.spec (search needs) (search needs) (search needs) (search needs) (search needs) returns returns-2)

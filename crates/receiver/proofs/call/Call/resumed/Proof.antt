@@ -6,27 +6,6 @@ use borrow.Author.Needs.{needs}
 use Rattle.receiver.proofs.call.Call.resumed.Statement.{statement}
 use Rattle.receiver.proofs.call.Call.resumed.Tie as tie
 
-enum-known-phase : tie.Need-enum-known-phase
-enum-known-phase c = search needs
-
-read-requires : tie.Need-read-requires
-read-requires c κs = search needs
-
-enum-known-phase-2 : tie.Need-enum-known-phase-2
-enum-known-phase-2 c = search needs
-
-service-requires : tie.Need-service-requires
-service-requires c κs = search needs
-
-enum-known-phase-3 : tie.Need-enum-known-phase-3
-enum-known-phase-3 c = search needs
-
-issue-notification-socket-shutdown-requires : tie.Need-issue-notification-socket-shutdown-requires
-issue-notification-socket-shutdown-requires c κs = search needs
-
-enum-told : tie.Need-enum-told
-enum-told c = search needs
-
 returns : tie.Need-returns
 returns c = resumed-by _ _ (c .before .before .phase .given .1) _ (c .read .ensures)
 
@@ -41,16 +20,5 @@ returns-4 c = resumed-by _ _ (c .enum-told .given .1) _ refl
 
 pub resumed-spec : {M : Type 1} → statement M
 resumed-spec =
-    tie.close
-    (tie.spec
-    enum-known-phase
-    read-requires
-    enum-known-phase-2
-    service-requires
-    enum-known-phase-3
-    issue-notification-socket-shutdown-requires
-    enum-told
-    returns
-    returns-2
-    returns-3
-    returns-4)
+    tie.close (tie.spec (search needs) (search needs) (search needs) (search needs) (search needs) (search needs) (search needs) returns
+    returns-2 returns-3 returns-4)

@@ -4,15 +4,6 @@ use borrow.Author.Needs.{needs}
 use Rattle.receiver.proofs.receiver.ReceiverState.new.Statement.{statement}
 use Rattle.receiver.proofs.receiver.ReceiverState.new.Tie as tie
 
-demand-soundness-requires : tie.Need-demand-soundness-requires
-demand-soundness-requires c κs = search needs
-
-enum-known-scheduler : tie.Need-enum-known-scheduler
-enum-known-scheduler c = search needs
-
-enum-known-e : tie.Need-enum-known-e
-enum-known-e c = search needs
-
 returns : tie.Need-returns
 returns c = rw (← (sym (c .before .scheduler .given .1) ∙ c .before .before .before .demand-soundness .ensures))
 
@@ -20,6 +11,4 @@ returns-2 : tie.Need-returns-2
 returns-2 c = rw (← (sym (c .before .e .given .1) ∙ c .before .before .before .demand-soundness .ensures))
 
 pub new-spec : {M : Type 1} → statement M
-new-spec =
-    tie.close
-    (tie.spec demand-soundness-requires enum-known-scheduler enum-known-e returns returns-2)
+new-spec = tie.close (tie.spec (search needs) (search needs) (search needs) returns returns-2)

@@ -4,20 +4,8 @@ use borrow.Author.Needs.{needs}
 use Rattle.sched.proofs.list.ScheduledOperations.outside.Statement.{statement}
 use Rattle.sched.proofs.list.ScheduledOperations.outside.Tie as tie
 
-enum-told : tie.Need-enum-told
-enum-told c = search needs
-
-enum-known-self : tie.Need-enum-known-self
-enum-known-self c = search needs
-
-enum-known-self-2 : tie.Need-enum-known-self-2
-enum-known-self-2 c = search needs
-
 add-t8 : tie.Need-add-t8
 add-t8 c = record { fits = rw (c .before .before .before .self2 .given .1) at (c .before .before .before .before .before .pre) }
-
-returns : tie.Need-returns
-returns c = search needs
 
 returns-2 : tie.Need-returns-2
 returns-2 c = rw (c .before .self .given .1, zero-add)
@@ -26,6 +14,4 @@ returns-3 : tie.Need-returns-3
 returns-3 c = rw (c .before .before .before .self2 .given .1, zero-add)
 
 pub outside-spec : {M : Type 1} → statement M
-outside-spec =
-    tie.close
-    (tie.spec enum-told enum-known-self enum-known-self-2 add-t8 returns returns-2 returns-3)
+outside-spec = tie.close (tie.spec (search needs) (search needs) (search needs) add-t8 (search needs) returns-2 returns-3)

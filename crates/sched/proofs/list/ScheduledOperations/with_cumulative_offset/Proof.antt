@@ -4,18 +4,6 @@ use borrow.Author.Needs.{needs}
 use Rattle.sched.proofs.list.ScheduledOperations.with_cumulative_offset.Statement.{statement}
 use Rattle.sched.proofs.list.ScheduledOperations.with_cumulative_offset.Tie as tie
 
-try-new-requires : tie.Need-try-new-requires
-try-new-requires c κs = search needs
-
-enum-known-list : tie.Need-enum-known-list
-enum-known-list c = search needs
-
-cumulative-requires : tie.Need-cumulative-requires
-cumulative-requires c κs = search needs
-
-enum-known-e : tie.Need-enum-known-e
-enum-known-e c = search needs
-
 returns : tie.Need-returns
 returns c = rw (← (sym (c .before .before .list .given .1) ∙ c .before .before .before .before .try-new .ensures), c .cumulative .ensures)
 
@@ -23,6 +11,4 @@ returns-2 : tie.Need-returns-2
 returns-2 c = rw (← (sym (c .before .e .given .1) ∙ c .before .before .before .try-new .ensures))
 
 pub with-cumulative-offset-spec : {M : Type 1} → statement M
-with-cumulative-offset-spec =
-    tie.close
-    (tie.spec try-new-requires enum-known-list cumulative-requires enum-known-e returns returns-2)
+with-cumulative-offset-spec = tie.close (tie.spec (search needs) (search needs) (search needs) (search needs) returns returns-2)

@@ -5,17 +5,8 @@ use borrow.Author.Needs.{needs}
 use Rattle.sched.proofs.list.ScheduledOperations.with_outside_buffer_range.Statement.{statement}
 use Rattle.sched.proofs.list.ScheduledOperations.with_outside_buffer_range.Tie as tie
 
-try-new-requires : tie.Need-try-new-requires
-try-new-requires c κs = search needs
-
-enum-known-list : tie.Need-enum-known-list
-enum-known-list c = search needs
-
 outside-requires : tie.Need-outside-requires
 outside-requires c κs = summed _ (c .before .before .before .before .args .self) (sym (c .before .list .given .1) ∙ c .before .before .before .try-new .ensures)
-
-enum-known-e : tie.Need-enum-known-e
-enum-known-e c = search needs
 
 returns : tie.Need-returns
 returns c = rw (← (sym (c .before .before .list .given .1) ∙ c .before .before .before .before .try-new .ensures), c .outside .ensures)
@@ -24,6 +15,4 @@ returns-2 : tie.Need-returns-2
 returns-2 c = rw (← (sym (c .before .e .given .1) ∙ c .before .before .before .try-new .ensures))
 
 pub with-outside-buffer-range-spec : {M : Type 1} → statement M
-with-outside-buffer-range-spec =
-    tie.close
-    (tie.spec try-new-requires enum-known-list outside-requires enum-known-e returns returns-2)
+with-outside-buffer-range-spec = tie.close (tie.spec (search needs) (search needs) outside-requires (search needs) returns returns-2)

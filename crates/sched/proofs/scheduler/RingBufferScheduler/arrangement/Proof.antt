@@ -6,20 +6,11 @@ use borrow.Author.Needs.{needs}
 use Rattle.sched.proofs.scheduler.RingBufferScheduler.arrangement.Statement.{statement}
 use Rattle.sched.proofs.scheduler.RingBufferScheduler.arrangement.Tie as tie
 
-off-requires : tie.Need-off-requires
-off-requires c κs = search needs
-
-off-requires-2 : tie.Need-off-requires-2
-off-requires-2 c κs = search needs
-
 returns : tie.Need-returns
 returns c = layout-below _ _ _ (c .before .before .off .ensures) (c .before .off2 .ensures) (c .if1 .taken)
 
 returns-2 : tie.Need-returns-2
 returns-2 c = layout-above _ _ _ (c .before .before .before .off .ensures) (c .before .before .off2 .ensures) (omega arith)
-
-data-requires : tie.Need-data-requires
-data-requires c κs = search needs
 
 returns-3 : tie.Need-returns-3
 returns-3 c = layout-empty _ _ _ (c .before .before .before .before .before .off .ensures) (c .before .before .before .before .off2 .ensures) (c .before .before .before .if1 .left) (c .before .before .if2 .left) (sym (c .before .«data» .ensures) ∙ c .if3 .taken)
@@ -28,6 +19,4 @@ returns-4 : tie.Need-returns-4
 returns-4 c = layout-full _ _ _ (c .before .before .before .before .before .off .ensures) (c .before .before .before .before .off2 .ensures) (c .before .before .before .if1 .left) (c .before .before .if2 .left) (λ z. c .if3 .left (c .before .«data» .ensures ∙ z))
 
 pub arrangement-spec : {M : Type 1} → statement M
-arrangement-spec =
-    tie.close
-    (tie.spec off-requires off-requires-2 returns returns-2 data-requires returns-3 returns-4)
+arrangement-spec = tie.close (tie.spec (search needs) (search needs) returns returns-2 (search needs) returns-3 returns-4)

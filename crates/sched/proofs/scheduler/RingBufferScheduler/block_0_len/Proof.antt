@@ -3,14 +3,8 @@ use borrow.Author.Needs.{needs}
 use Rattle.sched.proofs.scheduler.RingBufferScheduler.block_0_len.Statement.{statement}
 use Rattle.sched.proofs.scheduler.RingBufferScheduler.block_0_len.Tie as tie
 
-block-0-requires : tie.Need-block-0-requires
-block-0-requires c κs = search needs
-
-len-of-requires : tie.Need-len-of-requires
-len-of-requires c κs = search needs
-
 returns : tie.Need-returns
 returns c = rw (c .len-of .ensures, c .before .block-0 .ensures)
 
 pub block-0-len-spec : {M : Type 1} → statement M
-block-0-len-spec = tie.close (tie.spec block-0-requires len-of-requires returns)
+block-0-len-spec = tie.close (tie.spec (search needs) (search needs) returns)

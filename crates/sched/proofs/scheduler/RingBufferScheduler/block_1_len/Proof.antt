@@ -3,14 +3,8 @@ use borrow.Author.Needs.{needs}
 use Rattle.sched.proofs.scheduler.RingBufferScheduler.block_1_len.Statement.{statement}
 use Rattle.sched.proofs.scheduler.RingBufferScheduler.block_1_len.Tie as tie
 
-block-1-requires : tie.Need-block-1-requires
-block-1-requires c κs = search needs
-
-len-of-requires : tie.Need-len-of-requires
-len-of-requires c κs = search needs
-
 returns : tie.Need-returns
 returns c = rw (c .len-of .ensures, c .before .block-1 .ensures)
 
 pub block-1-len-spec : {M : Type 1} → statement M
-block-1-len-spec = tie.close (tie.spec block-1-requires len-of-requires returns)
+block-1-len-spec = tie.close (tie.spec (search needs) (search needs) returns)

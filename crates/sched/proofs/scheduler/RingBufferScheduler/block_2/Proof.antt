@@ -4,15 +4,6 @@ use borrow.Author.Needs.{needs}
 use Rattle.sched.proofs.scheduler.RingBufferScheduler.block_2.Statement.{statement}
 use Rattle.sched.proofs.scheduler.RingBufferScheduler.block_2.Tie as tie
 
-blocks-requires : tie.Need-blocks-requires
-blocks-requires c κs = search needs
-
-enum-known-b : tie.Need-enum-known-b
-enum-known-b c = search needs
-
-enum-known-e : tie.Need-enum-known-e
-enum-known-e c = search needs
-
 returns : tie.Need-returns
 returns c = rw (← (sym (c .before .before .b .given .1) ∙ c .before .before .before .before .blocks2 .ensures))
 
@@ -20,4 +11,4 @@ returns-2 : tie.Need-returns-2
 returns-2 c = rw (← (sym (c .before .e .given .1) ∙ c .before .before .before .blocks2 .ensures))
 
 pub block-2-spec : {M : Type 1} → statement M
-block-2-spec = tie.close (tie.spec blocks-requires enum-known-b enum-known-e returns returns-2)
+block-2-spec = tie.close (tie.spec (search needs) (search needs) (search needs) returns returns-2)

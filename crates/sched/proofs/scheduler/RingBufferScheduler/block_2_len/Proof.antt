@@ -3,14 +3,8 @@ use borrow.Author.Needs.{needs}
 use Rattle.sched.proofs.scheduler.RingBufferScheduler.block_2_len.Statement.{statement}
 use Rattle.sched.proofs.scheduler.RingBufferScheduler.block_2_len.Tie as tie
 
-block-2-requires : tie.Need-block-2-requires
-block-2-requires c κs = search needs
-
-len-of-requires : tie.Need-len-of-requires
-len-of-requires c κs = search needs
-
 returns : tie.Need-returns
 returns c = rw (c .len-of .ensures, c .before .block-2 .ensures)
 
 pub block-2-len-spec : {M : Type 1} → statement M
-block-2-len-spec = tie.close (tie.spec block-2-requires len-of-requires returns)
+block-2-len-spec = tie.close (tie.spec (search needs) (search needs) returns)

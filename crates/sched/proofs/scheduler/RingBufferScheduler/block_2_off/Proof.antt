@@ -3,14 +3,8 @@ use borrow.Author.Needs.{needs}
 use Rattle.sched.proofs.scheduler.RingBufferScheduler.block_2_off.Statement.{statement}
 use Rattle.sched.proofs.scheduler.RingBufferScheduler.block_2_off.Tie as tie
 
-block-2-requires : tie.Need-block-2-requires
-block-2-requires c κs = search needs
-
-off-of-requires : tie.Need-off-of-requires
-off-of-requires c κs = search needs
-
 returns : tie.Need-returns
 returns c = rw (c .off-of .ensures, c .before .block-2 .ensures)
 
 pub block-2-off-spec : {M : Type 1} → statement M
-block-2-off-spec = tie.close (tie.spec block-2-requires off-of-requires returns)
+block-2-off-spec = tie.close (tie.spec (search needs) (search needs) returns)

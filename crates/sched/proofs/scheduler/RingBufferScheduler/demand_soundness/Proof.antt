@@ -16,25 +16,13 @@ returns-2 : tie.Need-returns-2
 unfolding soundOf
 returns-2 c = simp (ne-eqb _ _ (c .before .if1 .left), lt-ltb (2 ^ 63) (c .before .before .before .before .args .self .«buf_len») (omega arith))
 
-double-modulus-requires : tie.Need-double-modulus-requires
-double-modulus-requires c κs = search needs
-
-contains-requires : tie.Need-contains-requires
-contains-requires c κs = search needs
-
 returns-3 : tie.Need-returns-3
 unfolding soundOf
 returns-3 c = simp (ne-eqb _ _ (c .before .before .before .before .if1 .left), le-ltb _ _ (c .before .before .before .if2 .left), outside _ _ _ _ (c .before .before .double-modulus .ensures) (c .before .contains .ensures) (c .if3 .taken))
 
-contains-requires-2 : tie.Need-contains-requires-2
-contains-requires-2 c κs = search needs
-
 returns-4 : tie.Need-returns-4
 unfolding soundOf
 returns-4 c = simp (ne-eqb _ _ (c .before .before .before .before .before .before .if1 .left), le-ltb _ _ (c .before .before .before .before .before .if2 .left), inside _ _ _ _ (c .before .before .before .before .double-modulus .ensures) (c .before .before .before .contains .ensures) (c .before .before .if3 .left), outside _ _ _ _ (c .before .before .before .before .double-modulus .ensures) (c .before .contains2 .ensures) (c .if4 .taken))
-
-sub-requires : tie.Need-sub-requires
-sub-requires c κs = search needs
 
 returns-5 : tie.Need-returns-5
 unfolding soundOf
@@ -46,15 +34,5 @@ returns-6 c = simp (ne-eqb _ _ (c .before .before .before .before .before .befor
 
 pub demand-soundness-spec : {M : Type 1} → statement M
 demand-soundness-spec =
-    tie.close
-    (tie.spec
-    returns
-    returns-2
-    double-modulus-requires
-    contains-requires
-    returns-3
-    contains-requires-2
-    returns-4
-    sub-requires
-    returns-5
+    tie.close (tie.spec returns returns-2 (search needs) (search needs) returns-3 (search needs) returns-4 (search needs) returns-5
     returns-6)

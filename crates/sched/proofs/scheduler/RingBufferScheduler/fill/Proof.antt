@@ -6,9 +6,6 @@ use borrow.Author.Needs.{needs}
 use Rattle.sched.proofs.scheduler.RingBufferScheduler.fill.Statement.{statement}
 use Rattle.sched.proofs.scheduler.RingBufferScheduler.fill.Tie as tie
 
-data-requires : tie.Need-data-requires
-data-requires c κs = search needs
-
 returns : tie.Need-returns
 unfolding fillStateIn
 returns c = rw (eq-eqb (dataIn (c .before .before .args .self)) 0 (omega arith))
@@ -22,4 +19,4 @@ unfolding fillStateIn
 returns-3 c = rw (← c .before .before .before .«data» .ensures, ne-eqb _ _ (c .before .before .if1 .left), ne-eqb _ _ (c .if2 .left))
 
 pub fill-spec : {M : Type 1} → statement M
-fill-spec = tie.close (tie.spec data-requires returns returns-2 returns-3)
+fill-spec = tie.close (tie.spec (search needs) returns returns-2 returns-3)

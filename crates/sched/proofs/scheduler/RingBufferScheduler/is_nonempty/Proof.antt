@@ -3,14 +3,8 @@ use borrow.Author.Needs.{needs}
 use Rattle.sched.proofs.scheduler.RingBufferScheduler.is_nonempty.Statement.{statement}
 use Rattle.sched.proofs.scheduler.RingBufferScheduler.is_nonempty.Tie as tie
 
-data-avail-requires : tie.Need-data-avail-requires
-data-avail-requires c κs = search needs
-
-is-positive-requires : tie.Need-is-positive-requires
-is-positive-requires c κs = search needs
-
 returns : tie.Need-returns
 returns c = rw (c .is-positive .ensures, c .before .data-avail .ensures)
 
 pub is-nonempty-spec : {M : Type 1} → statement M
-is-nonempty-spec = tie.close (tie.spec data-avail-requires is-positive-requires returns)
+is-nonempty-spec = tie.close (tie.spec (search needs) (search needs) returns)

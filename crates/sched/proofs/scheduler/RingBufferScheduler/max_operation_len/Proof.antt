@@ -5,17 +5,8 @@ use borrow.Author.Needs.{needs}
 use Rattle.sched.proofs.scheduler.RingBufferScheduler.max_operation_len.Statement.{statement}
 use Rattle.sched.proofs.scheduler.RingBufferScheduler.max_operation_len.Tie as tie
 
-demand-soundness-requires : tie.Need-demand-soundness-requires
-demand-soundness-requires c κs = search needs
-
-enum-known-s : tie.Need-enum-known-s
-enum-known-s c = search needs
-
 greatest-requires : tie.Need-greatest-requires
 greatest-requires c κs = sound _ _ (sym (c .before .s .given .1) ∙ c .before .before .before .demand-soundness .ensures)
-
-enum-known-e : tie.Need-enum-known-e
-enum-known-e c = search needs
 
 returns : tie.Need-returns
 returns c = rw (← (sym (c .before .before .s .given .1) ∙ c .before .before .before .before .demand-soundness .ensures), c .greatest .ensures)
@@ -24,12 +15,4 @@ returns-2 : tie.Need-returns-2
 returns-2 c = rw (← (sym (c .before .e .given .1) ∙ c .before .before .before .demand-soundness .ensures))
 
 pub max-operation-len-spec : {M : Type 1} → statement M
-max-operation-len-spec =
-    tie.close
-    (tie.spec
-    demand-soundness-requires
-    enum-known-s
-    greatest-requires
-    enum-known-e
-    returns
-    returns-2)
+max-operation-len-spec = tie.close (tie.spec (search needs) (search needs) greatest-requires (search needs) returns returns-2)

@@ -3,23 +3,10 @@ use borrow.Author.Needs.{needs}
 use Rattle.sched.proofs.scheduler.RingBufferScheduler.move_in.Statement.{statement}
 use Rattle.sched.proofs.scheduler.RingBufferScheduler.move_in.Tie as tie
 
-off-requires : tie.Need-off-requires
-off-requires c κs = search needs
-
-greatest-requires : tie.Need-greatest-requires
-greatest-requires c κs = search needs
-
-least-requires : tie.Need-least-requires
-least-requires c κs = search needs
-
-advanced-requires : tie.Need-advanced-requires
-advanced-requires c κs = search needs
-
 returns : tie.Need-returns
 returns c =
     let at-least = c .before in
     rw (c .advanced .ensures, at-least .least .ensures, at-least .before .greatest .ensures, at-least .before .before .off .ensures)
 
 pub move-in-spec : {M : Type 1} → statement M
-move-in-spec =
-    tie.close (tie.spec off-requires greatest-requires least-requires advanced-requires returns)
+move-in-spec = tie.close (tie.spec (search needs) (search needs) (search needs) (search needs) returns)

@@ -4,30 +4,6 @@ use borrow.Author.Needs.{needs}
 use Rattle.sched.proofs.scheduler.RingBufferScheduler.next_block.Statement.{statement}
 use Rattle.sched.proofs.scheduler.RingBufferScheduler.next_block.Tie as tie
 
-cut-requires : tie.Need-cut-requires
-cut-requires c κs = search needs
-
-arrangement-requires : tie.Need-arrangement-requires
-arrangement-requires c κs = search needs
-
-enum-told : tie.Need-enum-told
-enum-told c = search needs
-
-enum-told-2 : tie.Need-enum-told-2
-enum-told-2 c = search needs
-
-enum-told-3 : tie.Need-enum-told-3
-enum-told-3 c = search needs
-
-enum-told-4 : tie.Need-enum-told-4
-enum-told-4 c = search needs
-
-enum-told-5 : tie.Need-enum-told-5
-enum-told-5 c = search needs
-
-enum-told-6 : tie.Need-enum-told-6
-enum-told-6 c = search needs
-
 returns : tie.Need-returns
 returns c = rw (c .before .enum-told2 .given .1, c .before .before .before .before .before .before .cut .ensures, ← (sym (c .before .before .before .enum-told .given .1) ∙ c .before .before .before .before .before .arrangement .ensures))
 
@@ -42,17 +18,5 @@ returns-4 c = rw (c .before .enum-told6 .given .1, c .before .before .before .be
 
 pub next-block-spec : {M : Type 1} → statement M
 next-block-spec =
-    tie.close
-    (tie.spec
-    cut-requires
-    arrangement-requires
-    enum-told
-    enum-told-2
-    enum-told-3
-    enum-told-4
-    enum-told-5
-    enum-told-6
-    returns
-    returns-2
-    returns-3
-    returns-4)
+    tie.close (tie.spec (search needs) (search needs) (search needs) (search needs) (search needs) (search needs) (search needs)
+    (search needs) returns returns-2 returns-3 returns-4)

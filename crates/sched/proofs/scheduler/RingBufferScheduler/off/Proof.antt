@@ -4,9 +4,6 @@ use borrow.Author.Needs.{needs}
 use Rattle.sched.proofs.scheduler.RingBufferScheduler.off.Statement.{statement}
 use Rattle.sched.proofs.scheduler.RingBufferScheduler.off.Tie as tie
 
-counter-requires : tie.Need-counter-requires
-counter-requires c κs = search needs
-
 offset-requires : tie.Need-offset-requires
 offset-requires c κs = rw (c .counter .ensures) (counter-lt _ (c .before .pre) (c .before .args .op))
 
@@ -14,4 +11,4 @@ returns : tie.Need-returns
 returns c = rw (c .offset .ensures, c .before .counter .ensures)
 
 pub off-spec : {M : Type 1} → statement M
-off-spec = tie.close (tie.spec counter-requires offset-requires returns)
+off-spec = tie.close (tie.spec (search needs) offset-requires returns)

@@ -4,18 +4,6 @@ use borrow.Author.Needs.{needs}
 use Rattle.sched.proofs.scheduler.RingBufferScheduler.operation_counter.Statement.{statement}
 use Rattle.sched.proofs.scheduler.RingBufferScheduler.operation_counter.Tie as tie
 
-demand-soundness-requires : tie.Need-demand-soundness-requires
-demand-soundness-requires c κs = search needs
-
-enum-known-s : tie.Need-enum-known-s
-enum-known-s c = search needs
-
-counter-requires : tie.Need-counter-requires
-counter-requires c κs = search needs
-
-enum-known-e : tie.Need-enum-known-e
-enum-known-e c = search needs
-
 returns : tie.Need-returns
 returns c = rw (← (sym (c .before .before .s .given .1) ∙ c .before .before .before .before .demand-soundness .ensures), c .counter .ensures)
 
@@ -23,12 +11,4 @@ returns-2 : tie.Need-returns-2
 returns-2 c = rw (← (sym (c .before .e .given .1) ∙ c .before .before .before .demand-soundness .ensures))
 
 pub operation-counter-spec : {M : Type 1} → statement M
-operation-counter-spec =
-    tie.close
-    (tie.spec
-    demand-soundness-requires
-    enum-known-s
-    counter-requires
-    enum-known-e
-    returns
-    returns-2)
+operation-counter-spec = tie.close (tie.spec (search needs) (search needs) (search needs) (search needs) returns returns-2)

@@ -5,19 +5,13 @@ use borrow.Author.Needs.{needs}
 use Rattle.sched.proofs.scheduler.RingBufferScheduler.register.Statement.{statement}
 use Rattle.sched.proofs.scheduler.RingBufferScheduler.register.Tie as tie
 
-greatest-requires : tie.Need-greatest-requires
-greatest-requires c κs = search needs
-
 returns : tie.Need-returns
 unfolding registerIn
 returns c = rw (← c .before .greatest .ensures, lt-ltb _ _ (c .if1 .taken))
-
-advanced-requires : tie.Need-advanced-requires
-advanced-requires c κs = search needs
 
 returns-2 : tie.Need-returns-2
 unfolding registerIn
 returns-2 c = rw (← c .before .before .greatest .ensures, le-ltb _ _ (c .before .if1 .left), c .advanced .ensures)
 
 pub register-spec : {M : Type 1} → statement M
-register-spec = tie.close (tie.spec greatest-requires returns advanced-requires returns-2)
+register-spec = tie.close (tie.spec (search needs) returns (search needs) returns-2)

@@ -5,31 +5,10 @@ use borrow.Author.Needs.{needs}
 use Rattle.sched.proofs.scheduler.RingBufferScheduler.register_list.Statement.{statement}
 use Rattle.sched.proofs.scheduler.RingBufferScheduler.register_list.Tie as tie
 
-enum-told : tie.Need-enum-told
-enum-told c = search needs
-
-enum-known-list : tie.Need-enum-known-list
-enum-known-list c = search needs
-
-register-one-requires : tie.Need-register-one-requires
-register-one-requires c κs = search needs
-
-enum-known-list-2 : tie.Need-enum-known-list-2
-enum-known-list-2 c = search needs
-
-register-one-requires-2 : tie.Need-register-one-requires-2
-register-one-requires-2 c κs = search needs
-
-enum-known-s : tie.Need-enum-known-s
-enum-known-s c = search needs
-
 register-one-requires-3 : tie.Need-register-one-requires-3
 register-one-requires-3 c κs =
     let h = registered-sound _ (c .before .before .before .before .before .before .before .pre) _ _ _ (sym (c .before .s .given .1) ∙ c .before .before .before .register-one2 .ensures) in
     search needs
-
-enum-known-e : tie.Need-enum-known-e
-enum-known-e c = search needs
 
 returns : tie.Need-returns
 returns c = rw (c .enum-told .given .1)
@@ -45,17 +24,5 @@ returns-4 c = rw (c .before .before .before .before .before .list2 .given .1, �
 
 pub register-list-spec : {M : Type 1} → statement M
 register-list-spec =
-    tie.close
-    (tie.spec
-    enum-told
-    enum-known-list
-    register-one-requires
-    enum-known-list-2
-    register-one-requires-2
-    enum-known-s
-    register-one-requires-3
-    enum-known-e
-    returns
-    returns-2
-    returns-3
-    returns-4)
+    tie.close (tie.spec (search needs) (search needs) (search needs) (search needs) (search needs) (search needs) register-one-requires-3
+    (search needs) returns returns-2 returns-3 returns-4)

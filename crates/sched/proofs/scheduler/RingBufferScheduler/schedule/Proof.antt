@@ -5,15 +5,6 @@ use borrow.Author.Needs.{needs}
 use Rattle.sched.proofs.scheduler.RingBufferScheduler.schedule.Statement.{statement}
 use Rattle.sched.proofs.scheduler.RingBufferScheduler.schedule.Tie as tie
 
-greatest-requires : tie.Need-greatest-requires
-greatest-requires c κs = search needs
-
-least-requires : tie.Need-least-requires
-least-requires c κs = search needs
-
-off-requires : tie.Need-off-requires
-off-requires c κs = search needs
-
 cut-at-end-requires : tie.Need-cut-at-end-requires
 cut-at-end-requires c κs = (rw (c .off .ensures) (offset-lt _ (c .before .before .before .pre) (c .before .before .before .args .op)), rw (c .before .least .ensures, c .before .before .greatest .ensures) (omega (arith, greatest-most _ (c .before .before .before .pre) (c .before .before .before .args .op))))
 
@@ -21,5 +12,4 @@ returns : tie.Need-returns
 returns c = rw (c .cut-at-end .ensures, c .before .off .ensures, c .before .before .least .ensures, c .before .before .before .greatest .ensures)
 
 pub schedule-spec : {M : Type 1} → statement M
-schedule-spec =
-    tie.close (tie.spec greatest-requires least-requires off-requires cut-at-end-requires returns)
+schedule-spec = tie.close (tie.spec (search needs) (search needs) (search needs) cut-at-end-requires returns)

@@ -22,9 +22,6 @@ returns-4 : tie.Need-returns-4
 unfolding receivedOf
 returns-4 c = simp (ne-eqb _ _ (c .before .before .if1 .left), eq-eqb _ _ (c .if4 .taken))
 
-is-errno-requires : tie.Need-is-errno-requires
-is-errno-requires c κs = search needs
-
 returns-5 : tie.Need-returns-5
 unfolding receivedOf
 returns-5 c = simp (ne-eqb _ _ (c .before .before .before .before .before .before .if1 .left), ne-eqb _ _ (c .before .before .before .before .if4 .left), eq-eqb _ _ (c .before .before .if5 .taken), sym (c .before .is-errno .ensures) ∙ c .if6 .taken)
@@ -38,14 +35,4 @@ unfolding receivedOf
 returns-7 c = simp (ne-eqb _ _ (c .before .before .before .before .if1 .left), ne-eqb _ _ (c .before .before .if4 .left), ne-eqb _ _ (c .if5 .left))
 
 pub received-spec : {M : Type 1} → statement M
-received-spec =
-    tie.close
-    (tie.spec
-    returns
-    returns-2
-    returns-3
-    returns-4
-    is-errno-requires
-    returns-5
-    returns-6
-    returns-7)
+received-spec = tie.close (tie.spec returns returns-2 returns-3 returns-4 (search needs) returns-5 returns-6 returns-7)

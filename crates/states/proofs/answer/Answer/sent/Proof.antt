@@ -14,9 +14,6 @@ returns-2 : tie.Need-returns-2
 unfolding sentOf
 returns-2 c = simp (eq-eqb _ _ (c .before .before .if1 .taken), le-leb _ _ (c .if2 .left))
 
-is-errno-requires : tie.Need-is-errno-requires
-is-errno-requires c κs = search needs
-
 returns-3 : tie.Need-returns-3
 unfolding sentOf
 returns-3 c = simp (ne-eqb _ _ (c .before .before .before .before .if1 .left), eq-eqb _ _ (c .before .before .if3 .taken), sym (c .before .is-errno .ensures) ∙ c .if4 .taken)
@@ -30,4 +27,4 @@ unfolding sentOf
 returns-5 c = simp (ne-eqb _ _ (c .before .before .if1 .left), ne-eqb _ _ (c .if3 .left))
 
 pub sent-spec : {M : Type 1} → statement M
-sent-spec = tie.close (tie.spec returns returns-2 is-errno-requires returns-3 returns-4 returns-5)
+sent-spec = tie.close (tie.spec returns returns-2 (search needs) returns-3 returns-4 returns-5)

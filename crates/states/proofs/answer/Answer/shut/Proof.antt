@@ -10,9 +10,6 @@ returns : tie.Need-returns
 unfolding shutOf
 returns c = simp (eq-eqb _ _ (c .if1 .taken))
 
-is-errno-requires : tie.Need-is-errno-requires
-is-errno-requires c κs = search needs
-
 returns-2 : tie.Need-returns-2
 unfolding shutOf
 returns-2 c = simp (ne-eqb _ _ (c .before .before .before .before .if1 .left), eq-eqb _ _ (c .before .before .if2 .taken), sym (c .before .is-errno .ensures) ∙ c .if3 .taken)
@@ -26,4 +23,4 @@ unfolding shutOf
 returns-4 c = simp (ne-eqb _ _ (c .before .before .if1 .left), ne-eqb _ _ (c .if2 .left))
 
 pub shut-spec : {M : Type 1} → statement M
-shut-spec = tie.close (tie.spec returns is-errno-requires returns-2 returns-3 returns-4)
+shut-spec = tie.close (tie.spec returns (search needs) returns-2 returns-3 returns-4)

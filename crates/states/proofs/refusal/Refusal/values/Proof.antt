@@ -3,30 +3,6 @@ use borrow.Author.Needs.{needs}
 use Rattle.states.proofs.refusal.Refusal.values.Statement.{statement}
 use Rattle.states.proofs.refusal.Refusal.values.Tie as tie
 
-enum-known-self : tie.Need-enum-known-self
-enum-known-self c = search needs
-
-values-requires : tie.Need-values-requires
-values-requires c κs = search needs
-
-enum-told : tie.Need-enum-told
-enum-told c = search needs
-
-none-requires : tie.Need-none-requires
-none-requires c κs = search needs
-
-enum-known-self-2 : tie.Need-enum-known-self-2
-enum-known-self-2 c = search needs
-
-one-requires : tie.Need-one-requires
-one-requires c κs = search needs
-
-enum-told-2 : tie.Need-enum-told-2
-enum-told-2 c = search needs
-
-none-requires-2 : tie.Need-none-requires-2
-none-requires-2 c κs = search needs
-
 returns : tie.Need-returns
 returns c = rw (c .before .before .self .given .1, c .values .ensures)
 
@@ -41,17 +17,5 @@ returns-4 c = rw (c .before .enum-told2 .given .1, c .none2 .ensures)
 
 pub values-spec : {M : Type 1} → statement M
 values-spec =
-    tie.close
-    (tie.spec
-    enum-known-self
-    values-requires
-    enum-told
-    none-requires
-    enum-known-self-2
-    one-requires
-    enum-told-2
-    none-requires-2
-    returns
-    returns-2
-    returns-3
-    returns-4)
+    tie.close (tie.spec (search needs) (search needs) (search needs) (search needs) (search needs) (search needs) (search needs)
+    (search needs) returns returns-2 returns-3 returns-4)

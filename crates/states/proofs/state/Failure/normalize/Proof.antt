@@ -4,17 +4,11 @@ use borrow.Author.Needs.{needs}
 use Rattle.states.proofs.state.Failure.normalize.Statement.{statement}
 use Rattle.states.proofs.state.Failure.normalize.Tie as tie
 
-fits-requires : tie.Need-fits-requires
-fits-requires c κs = search needs
-
 returns : tie.Need-returns
 returns c = rw (sym (c .before .fits2 .ensures) ∙ c .if1 .taken)
-
-stored-misfit-requires : tie.Need-stored-misfit-requires
-stored-misfit-requires c κs = search needs
 
 returns-2 : tie.Need-returns-2
 returns-2 c = rw (sym (c .before .before .fits2 .ensures) ∙ c .before .if1 .left, c .stored-misfit .ensures)
 
 pub normalize-spec : {M : Type 1} → statement M
-normalize-spec = tie.close (tie.spec fits-requires returns stored-misfit-requires returns-2)
+normalize-spec = tie.close (tie.spec (search needs) returns (search needs) returns-2)

@@ -5,9 +5,6 @@ use borrow.Author.Needs.{needs}
 use Rattle.states.proofs.state.Failure.towards_error.Statement.{statement}
 use Rattle.states.proofs.state.Failure.towards_error.Tie as tie
 
-is-errno-requires : tie.Need-is-errno-requires
-is-errno-requires c κs = search needs
-
 returns : tie.Need-returns
 returns c = end-gives-way _ _ (sym (c .before .is-errno .ensures) ∙ c .if1 .taken)
 
@@ -15,4 +12,4 @@ returns-2 : tie.Need-returns-2
 returns-2 c = error-stays _ _ (sym (c .before .is-errno .ensures) ∙ c .if1 .left)
 
 pub towards-error-spec : {M : Type 1} → statement M
-towards-error-spec = tie.close (tie.spec is-errno-requires returns returns-2)
+towards-error-spec = tie.close (tie.spec (search needs) returns returns-2)

@@ -5,39 +5,15 @@ use borrow.Author.Needs.{needs}
 use Rattle.states.proofs.state.OperationalState.advance_state_towards_termination.Statement.{statement}
 use Rattle.states.proofs.state.OperationalState.advance_state_towards_termination.Tie as tie
 
-fits-requires : tie.Need-fits-requires
-fits-requires c κs = search needs
-
-stored-misfit-requires : tie.Need-stored-misfit-requires
-stored-misfit-requires c κs = search needs
-
 returns : tie.Need-returns
 returns c = rw (sym (c .before .before .fits2 .ensures) ∙ not-true _ (c .before .if1 .taken), c .stored-misfit .ensures)
 
-fits-requires-2 : tie.Need-fits-requires-2
-fits-requires-2 c κs = search needs
-
-stored-misfit-requires-2 : tie.Need-stored-misfit-requires-2
-stored-misfit-requires-2 c κs = search needs
-
 returns-2 : tie.Need-returns-2
 returns-2 c = rw (sym (c .before .before .before .before .fits2 .ensures) ∙ not-false _ (c .before .before .before .if1 .left), sym (c .before .before .fits3 .ensures) ∙ not-true _ (c .before .if2 .taken), c .stored-misfit2 .ensures)
-
-advance-requires : tie.Need-advance-requires
-advance-requires c κs = search needs
 
 returns-3 : tie.Need-returns-3
 returns-3 c = rw (sym (c .before .before .before .before .fits2 .ensures) ∙ not-false _ (c .before .before .before .if1 .left), sym (c .before .before .fits3 .ensures) ∙ not-false _ (c .before .if2 .left), c .advance .ensures)
 
 pub advance-state-towards-termination-spec : {M : Type 1} → statement M
 advance-state-towards-termination-spec =
-    tie.close
-    (tie.spec
-    fits-requires
-    stored-misfit-requires
-    returns
-    fits-requires-2
-    stored-misfit-requires-2
-    returns-2
-    advance-requires
-    returns-3)
+    tie.close (tie.spec (search needs) (search needs) returns (search needs) (search needs) returns-2 (search needs) returns-3)

@@ -5,20 +5,8 @@ use borrow.Author.Needs.{needs}
 use Rattle.states.proofs.state.OperationalState.normal.Statement.{statement}
 use Rattle.states.proofs.state.OperationalState.normal.Tie as tie
 
-cached-failure-requires : tie.Need-cached-failure-requires
-cached-failure-requires c κs = search needs
-
-enum-known-f : tie.Need-enum-known-f
-enum-known-f c = search needs
-
-is-errno-requires : tie.Need-is-errno-requires
-is-errno-requires c κs = search needs
-
 returns : tie.Need-returns
 returns c = blocked-is-normal _ _ (sym (c .before .before .before .before .before .cached-failure .ensures) ∙ c .before .before .before .f .given .1) (sym (c .before .is-errno .ensures) ∙ c .if1 .taken)
-
-enum-told : tie.Need-enum-told
-enum-told c = search needs
 
 returns-2 : tie.Need-returns-2
 returns-2 c = other-stays _ _ (sym (c .before .before .before .before .before .cached-failure .ensures) ∙ c .before .before .before .f .given .1) (sym (c .before .is-errno .ensures) ∙ c .if1 .left)
@@ -27,13 +15,4 @@ returns-3 : tie.Need-returns-3
 returns-3 c = none-stays _ (sym (c .before .before .cached-failure .ensures) ∙ c .enum-told .given .1)
 
 pub normal-spec : {M : Type 1} → statement M
-normal-spec =
-    tie.close
-    (tie.spec
-    cached-failure-requires
-    enum-known-f
-    is-errno-requires
-    returns
-    enum-told
-    returns-2
-    returns-3)
+normal-spec = tie.close (tie.spec (search needs) (search needs) (search needs) returns (search needs) returns-2 returns-3)

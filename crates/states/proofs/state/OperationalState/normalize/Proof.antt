@@ -4,21 +4,11 @@ use borrow.Author.Needs.{needs}
 use Rattle.states.proofs.state.OperationalState.normalize.Statement.{statement}
 use Rattle.states.proofs.state.OperationalState.normalize.Tie as tie
 
-fits-requires : tie.Need-fits-requires
-fits-requires c κs = search needs
-
-normal-requires : tie.Need-normal-requires
-normal-requires c κs = search needs
-
 returns : tie.Need-returns
 returns c = rw (sym (c .before .before .fits2 .ensures) ∙ c .before .if1 .taken, c .normal .ensures)
-
-stored-misfit-requires : tie.Need-stored-misfit-requires
-stored-misfit-requires c κs = search needs
 
 returns-2 : tie.Need-returns-2
 returns-2 c = rw (sym (c .before .before .fits2 .ensures) ∙ c .before .if1 .left, c .stored-misfit .ensures)
 
 pub normalize-spec : {M : Type 1} → statement M
-normalize-spec =
-    tie.close (tie.spec fits-requires normal-requires returns stored-misfit-requires returns-2)
+normalize-spec = tie.close (tie.spec (search needs) (search needs) returns (search needs) returns-2)

@@ -17,7 +17,7 @@ use Rattle.receiver.proofs.AnsweredLaws.{Chunked, byte-chunked}
 use Rattle.receiver.proofs.CallLaws.{sent-covered}
 use Rattle.receiver.proofs.Fits.{five-fits, blocked-fits, end-fits, FitsIn, byte-fits, sent-fits, received-fits}
 use Rattle.receiver.proofs.Made.{Tested, handed-tested, passes, live-waits, Made}
-use Rattle.receiver.proofs.ResumedLaws.{answered-on}
+use Rattle.receiver.proofs.ResumedLaws.{answered-on, steps-back}
 use Rattle.receiver.proofs.Spent.{interrupted-sends, sent-sends, failed-sends}
 use Rattle.receiver.specs.Admission.{admissionOf}
 use Rattle.states.specs.Answer.{interruptedOf, receivedOf, sentOf, shutOf}
@@ -244,14 +244,8 @@ module _ (c : Call) (h : Made c) (ring : List ℕ) (a : Answer) (place : ℕ) wh
   looks-at-none (phase.Shutdown x) e = refl
   looks-at-none (phase.Finished o) e = refl
 
-  steps-back : (ph : Phase) → retriesIn ph a ≡ true → steppedBy ph c ring a place ≡ Of c
-  steps-back (phase.Receive top asked) e = rw e
-  steps-back (phase.Send batch x) e = rw e
-  steps-back (phase.Shutdown x) e = let z : _≡_ {A = ℕ} 0 1 = cc in absurd (omega arith)
-  steps-back (phase.Finished o) e = refl
-
   pub waited-out : retriesOf c a ≡ true → answeredOf c ring a place ≡ Of c
-  waited-out e = sym (answered-on c ring a place memory.None (looks-at-none (c .phase) e) (passes (c .receiver) (h .tested)) (Of c) (sym (h .resumes))) ∙ steps-back (c .phase) e
+  waited-out e = sym (answered-on c ring a place memory.None (looks-at-none (c .phase) e) (passes (c .receiver) (h .tested)) (Of c) (sym (h .resumes))) ∙ steps-back c ring a place (c .phase) e
 
 -- ---- any answers
 -- taken or not, the call that the host goes on with is made by the machine, and keeps the sum

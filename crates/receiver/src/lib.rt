@@ -3,6 +3,8 @@
 mod admission;
 mod announcement;
 mod call;
+mod going;
+mod read;
 mod receiver;
 mod sound;
 

@@ -1,6 +1,6 @@
 // The receiver's record, and what its calls come to.
 ghost use mathlib.Core.Path.{_≡_};
-ghost use Rattle.receiver.specs.Receiver.{readOutcome, doneOutcome, failedOutcome, receiverOf};
+ghost use Rattle.receiver.specs.Receiver.{withScheduler, withState, withPending, withShutdown, readOutcome, doneOutcome, failedOutcome, receiverOf, batchIn};
 use sched::Checked;
 use sched::RingBufferScheduler;
 use states::Failure;
@@ -72,6 +72,69 @@ impl Outcome {
 }
 
 impl ReceiverState {
+    const GREATEST_BATCH: u64 = 128;
+
+    pub(crate) fn with_scheduler(self, scheduler: RingBufferScheduler) -> ReceiverState
+        ensures { λ r. ⌜ r ≡ withScheduler self scheduler ⌝ }
+    {
+        let state = self.state;
+        ReceiverState {
+            scheduler,
+            state,
+            pending_ack_count: self.pending_ack_count,
+            notification_socket_shutdown_issued: self.notification_socket_shutdown_issued,
+        }
+    }
+
+    pub(crate) fn with_state(self, state: OperationalState) -> ReceiverState
+        ensures { λ r. ⌜ r ≡ withState self state ⌝ }
+    {
+        let scheduler = self.scheduler;
+        ReceiverState {
+            scheduler,
+            state,
+            pending_ack_count: self.pending_ack_count,
+            notification_socket_shutdown_issued: self.notification_socket_shutdown_issued,
+        }
+    }
+
+    pub(crate) fn with_pending(self, pending_ack_count: u64) -> ReceiverState
+        ensures { λ r. ⌜ r ≡ withPending self «pending_ack_count» ⌝ }
+    {
+        let scheduler = self.scheduler;
+        let state = self.state;
+        ReceiverState {
+            scheduler,
+            state,
+            pending_ack_count,
+            notification_socket_shutdown_issued: self.notification_socket_shutdown_issued,
+        }
+    }
+
+    pub(crate) fn with_shutdown(self) -> ReceiverState
+        ensures { λ r. ⌜ r ≡ withShutdown self ⌝ }
+    {
+        let scheduler = self.scheduler;
+        let state = self.state;
+        ReceiverState {
+            scheduler,
+            state,
+            pending_ack_count: self.pending_ack_count,
+            notification_socket_shutdown_issued: true,
+        }
+    }
+
+    // A batch of acknowledgements: all that is pending, or 128 of it.
+    pub(crate) fn batch(self) -> u64
+        ensures { λ r. ⌜ r ≡ batchIn self ⌝ }
+    {
+        let pending = self.pending_ack_count;
+        if ReceiverState::GREATEST_BATCH <= pending {
+            return ReceiverState::GREATEST_BATCH;
+        }
+        pending
+    }
+
     // The ring's bytes and the socket stay with the host.
     pub fn new(scheduler: RingBufferScheduler) -> ReceiverAnswer
         ensures { λ r. ⌜ r ≡ receiverOf scheduler ⌝ }

@@ -2,6 +2,7 @@
 ghost use mathlib.Core.Path.{_≡_};
 ghost use Rattle.states.specs.Answer.{interruptedOf, receivedOf, sentOf, shutOf};
 ghost use Rattle.states.specs.State.{fitsErrno};
+use crate::state::Failure;
 
 // Kind 0: received a byte, `value`, with a count of descriptors. 1: closed. 2: failed with the errno `value`. 3: sent `value`
 // bytes. 4: done. Numbers that a kind does not use are not looked at.
@@ -45,7 +46,7 @@ impl Answer {
         ensures { λ r. ⌜ r ≡ interruptedOf self ⌝ }
     {
         if self.kind == 2 {
-            return self.value == 4;
+            return self.value == Failure::INTERRUPTED;
         }
         false
     }
@@ -66,7 +67,7 @@ impl Answer {
             };
         }
         if self.kind == 1 {
-            return Received::Failed(32);
+            return Received::Failed(Failure::SHUTDOWN);
         }
         if self.kind == 2 {
             if is_errno(self.value) {

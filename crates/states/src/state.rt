@@ -64,9 +64,15 @@ fn stored_misfit() -> Refusal
 }
 
 impl Failure {
+    pub const INTERRUPTED: u64 = 4;
+
+    pub const IO: u64 = 5;
+
     pub const WOULDBLOCK: u64 = 11;
 
     pub const SHUTDOWN: u64 = 32;
+
+    const GREATEST: u64 = 4095;
 
     // WOULDBLOCK and EAGAIN are one number on Linux, so a failure is normal as it is.
     pub fn normalize(self) -> FailureAnswer
@@ -99,7 +105,7 @@ impl Failure {
                 if e == 0 {
                     return false;
                 }
-                e <= 4095
+                e <= Failure::GREATEST
             }
             Failure::Protocol(_) => true,
         }

@@ -1,0 +1,14 @@
+-- Nothing sent drains; else the next batch.
+use borrow.Author.Tests.{eq-eqb, ne-eqb}
+use borrow.Author.Needs.{needs}
+use Rattle.receiver.proofs.going.Going.sent.Statement.{statement}
+use Rattle.receiver.proofs.going.Going.sent.Tie as tie
+
+returns : tie.Need-returns
+returns c = rw (eq-eqb _ _ (c .before .if1 .taken), c .drain .ensures)
+
+returns-2 : tie.Need-returns-2
+returns-2 c = rw (ne-eqb _ _ (c .before .before .before .before .before .if1 .left), c .flush-chunk-acknowledgements .ensures, c .before .with-receiver .ensures, c .before .before .with-pending .ensures)
+
+pub sent-spec : {M : Type 1} → statement M
+sent-spec = tie.close (tie.spec (search needs) returns (search needs) (search needs) (search needs) (search needs) returns-2)

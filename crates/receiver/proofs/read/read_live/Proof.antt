@@ -1,0 +1,22 @@
+-- By the tests, in their order.
+use borrow.Author.Tests.{eq-eqb, ne-eqb}
+use Rattle.receiver.proofs.CallLaws.{no-data, some-data}
+use borrow.Author.Needs.{needs}
+use Rattle.receiver.proofs.read.read_live.Statement.{statement}
+use Rattle.receiver.proofs.read.read_live.Tie as tie
+
+returns : tie.Need-returns
+returns c = rw (eq-eqb _ _ (c .before .before .before .if1 .taken), c .finish .ensures, c .before .dropping .ensures, c .before .before .read .ensures)
+
+returns-2 : tie.Need-returns-2
+returns-2 c = rw (ne-eqb _ _ (c .before .before .if1 .left), eq-eqb _ _ (c .if2 .taken))
+
+returns-3 : tie.Need-returns-3
+returns-3 c = rw (ne-eqb _ _ (c .before .before .before .before .if1 .left), ne-eqb _ _ (c .before .before .if2 .left), no-data (c .before .before .before .before .before .before .args .receiver .scheduler) _ (c .before .max-operation-len .ensures) (c .if3 .taken))
+
+returns-4 : tie.Need-returns-4
+returns-4 c = rw (ne-eqb _ _ (c .before .before .before .before .before .if1 .left), ne-eqb _ _ (c .before .before .before .if2 .left), some-data (c .before .before .before .before .before .before .before .args .receiver .scheduler) _ (c .before .before .max-operation-len .ensures) (c .before .if3 .left), c .read-chunk-bytes .ensures)
+
+pub read-live-spec : {M : Type 1} → statement M
+read-live-spec =
+    tie.close (tie.spec (search needs) (search needs) (search needs) returns returns-2 (search needs) returns-3 (search needs) returns-4)

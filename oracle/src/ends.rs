@@ -1,5 +1,5 @@
 //! The calls of the two ends that take numbers alone: the static library against sched.rs, and where
-//! a counter is taken against the rule of document 01 over wide integers.
+//! a counter is taken against the rule of docs/PAPER.md ("Sending and taking") over wide integers.
 
 use crate::sched::compare_calls;
 use crate::stripring::end_calls;

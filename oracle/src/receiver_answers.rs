@@ -6,7 +6,7 @@
 //! of pending acknowledgements, and 1 if a shutdown has succeeded.
 //!
 //! The tests of what is handed in (1 to 5, 9, 12 with place 0, 13) stand before a call here, in the
-//! order of document 01: receiver.rs cannot be handed such a thing, or would panic.
+//! order of docs/PAPER.md: receiver.rs cannot be handed such a thing, or would panic.
 
 use crate::receiver_standins::io::fd_stream::ReadWithFdsResult;
 use crate::receiver_standins::rustix::io::Errno;

@@ -1,5 +1,5 @@
-//! The receiver's rows of document 01 ("Numbers on both sides") and the inputs of the agreed readings
-//! that tell two readings of the receiver apart, on the Rust.
+//! The receiver's rows of docs/PAPER.md ("The table") and the inputs of its "Readings" that tell two
+//! readings of the receiver apart, on the Rust.
 
 use crate::receiver_inputs::header_into;
 use crate::tally::Tally;

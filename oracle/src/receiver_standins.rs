@@ -12,7 +12,7 @@ pub enum ShmStreamError {
     Protocol(ShmProtocolViolation),
 }
 
-/// `UnknownHeader` is of document 01 alone; receiver.rs names the others.
+/// `UnknownHeader` is of docs/PAPER.md alone ("Violations"); receiver.rs names the others.
 #[derive(Debug, Clone, Copy, PartialEq, Eq)]
 pub enum ShmProtocolViolation {
     InvalidChunkAnnouncement = 1,
@@ -27,7 +27,7 @@ thread_local! {
 }
 
 impl ShmStreamError {
-    /// Document 01: an orderly end of the stream is errno 32.
+    /// docs/PAPER.md, "Failures": an orderly end of the stream is errno 32.
     pub const SHUTDOWN: Self = Self::Io(Errno::PIPE);
 
     /// A state is to be Normal for WOULDBLOCK and for EAGAIN, and behind this only WOULDBLOCK is
@@ -36,7 +36,8 @@ impl ShmStreamError {
         self
     }
 
-    /// Document 01, from a comment beside the call: the end gives way to an error, and nothing else.
+    /// docs/PAPER.md, "The reason rule", from a comment beside the call: the end gives way to an
+    /// error, and nothing else.
     pub fn advance_failure_towards_error(self, error: Self) -> Self {
         match self == Self::SHUTDOWN {
             true => error,
@@ -44,7 +45,8 @@ impl ShmStreamError {
         }
     }
 
-    /// Document 01: closed is failure 32. The socket's end is a receive of no byte.
+    /// docs/PAPER.md, "The socket's answers": closed is failure 32. The socket's end is a receive
+    /// of no byte.
     pub fn cache_shutdown_as_epipe(
         received: Result<io::fd_stream::ReadWithFdsResult, Errno>,
     ) -> Result<io::fd_stream::ReadWithFdsResult, Errno> {
@@ -89,13 +91,13 @@ pub mod shared {
     use super::{UNKNOWN_FORMAT, zerocopy};
     use crate::rosenpass::sched::RingBufferScheduler;
 
-    /// Document 01: 8 bytes, most significant first.
+    /// docs/PAPER.md, "The header": 8 bytes, most significant first.
     #[derive(Default)]
     pub struct ChunkHeader([u8; 8]);
 
     impl ChunkHeader {
-        /// Document 01: 2 bits format, 14 bits tag, 48 bits length. A format other than 0 is
-        /// unknown, see `ShmStreamError`'s `From`.
+        /// docs/PAPER.md, "The header": 2 bits format, 14 bits tag, 48 bits length. A format other
+        /// than 0 is unknown, see `ShmStreamError`'s `From`.
         pub fn payload_len(self) -> usize {
             let bits = u64::from_be_bytes(self.0);
             let unknown = bits >> 62 != 0;
@@ -148,7 +150,8 @@ pub mod shared {
 pub mod io {
     use super::rustix::io::Errno;
 
-    /// Document 01: errno 4 is retried on the spot until the answer is something else.
+    /// docs/PAPER.md, "Interruptions": errno 4 is retried on the spot until the answer is something
+    /// else.
     pub fn handle_interrupted<T>(mut ask: impl FnMut() -> Result<T, Errno>) -> Result<T, Errno> {
         loop {
             match ask() {

@@ -1,5 +1,5 @@
-//! What document 01 says of the program `ringplan`, over the unchanged scheduler, as a user of it
-//! would write that program.
+//! What docs/PAPER.md says of the program `ringplan` ("Lines", "Lines answered"), over the unchanged
+//! scheduler, as a user of it would write that program.
 
 use crate::rosenpass::sched::{OperationType, RingBufferScheduler, ScheduledOperations};
 use crate::sched_answers::Refusal;

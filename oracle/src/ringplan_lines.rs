@@ -1,4 +1,4 @@
-//! The lines that `ringplan` is tried on: those of document 01 and the agreed readings, and random
+//! The lines that `ringplan` is tried on: those of docs/PAPER.md ("The case", "Readings"), and random
 //! ones of the kinds below.
 
 use crate::numbers::Random;

@@ -1,5 +1,5 @@
-//! The rows of document 01 and of the agreed readings that tell two readings of `ringplan` apart,
-//! on the Rust program of the same rules.
+//! The rows of docs/PAPER.md ("The case", "Readings") that tell two readings of `ringplan` apart, on
+//! the Rust program of the same rules.
 
 use crate::tally::Tally;
 use oracle::ringplan;

@@ -60,7 +60,7 @@ pub type Input = [u64; MOST];
 /// What is answered, or a refusal.
 pub type Answer = Result<Numbers, Refusal>;
 
-/// The refusal's number in document 01 and its extra values.
+/// The refusal's number in docs/PAPER.md ("The numbers") and its values.
 pub struct Refusal(pub Numbers);
 
 /// Those that are not used are 0.

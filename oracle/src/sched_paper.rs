@@ -1,5 +1,5 @@
-//! The scheduler's rows of document 01 ("Numbers on both sides", and the case of `ringplan`) and
-//! the inputs of the agreed readings that tell two readings of the scheduler apart, on the Rust.
+//! The scheduler's rows of docs/PAPER.md ("The table", and "The case" of `ringplan`) and the inputs
+//! of its "Readings" that tell two readings of the scheduler apart, on the Rust.
 
 use crate::tally::Tally;
 use oracle::sched_answers::{CALLS, Numbers, line};

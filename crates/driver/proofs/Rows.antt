@@ -1,4 +1,5 @@
--- Cases that tell readings of the rules apart, computed from the definitions. Each rule that is easy to get wrong has its own.
+-- Cases that tell readings of the rules apart (docs/PAPER.md, "Readings"), computed from the definitions. Each rule that is easy to get
+-- wrong has its own.
 use Prim.Native.Nat.{ℕ, _-_, _^_}
 use mathlib.Core.Path.{_≡_, refl}
 use mathlib.Core.Bool.{Bool, true, false}

@@ -1,4 +1,4 @@
--- Plain counters keep the laws, so demand 3 holds of the ends of document 01.
+-- Plain counters keep the laws, so demand 3 holds of the ends that docs/PAPER.md has ("Sending and taking").
 use Prim.Native.Nat.{ℕ, _≤_, _<_}
 use mathlib.Core.Path.{_≡_, refl, sym, ap, _∙_}
 use mathlib.Core.Logic.{inr}

@@ -1,4 +1,4 @@
--- The kind with plain counters: the ends of document 01.
+-- The kind with plain counters: docs/PAPER.md, "Sending and taking".
 use Prim.Native.Nat.{ℕ, _≤_, _<_}
 use mathlib.Core.Path.{_≡_}
 use mathlib.Core.List.{List}

@@ -1,4 +1,4 @@
--- The rows of the paper's "Numbers on both sides" that are marked P, under one statement. Each is of the call: of whatever the
+-- The rows of docs/PAPER.md, "The table", that have a name, under one statement. Each is of the call: of whatever the
 -- contract attached to it allows on these arguments. Only the rows of 8 bits, which no call has, are of the definition.
 use Prim.Native.Nat.{ℕ, _-_, _+_, _^_}
 use mathlib.Core.Path.{_≡_}

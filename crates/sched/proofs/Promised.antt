@@ -1,4 +1,4 @@
--- What document 01 promises of the scheduler, of the calls: every outcome that an attached contract allows keeps it.
+-- What the paper (docs/PAPER.md, "The scheduler") promises, of the calls: every outcome that an attached contract allows keeps it.
 use Prim.Native.Nat.{ℕ, _+_, _-_, _≤_, min}
 use mathlib.Core.Path.{_≡_, refl, sym, ap, _∙_}
 use native.Mathlib.Omega.{arith}

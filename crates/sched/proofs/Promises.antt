@@ -1,4 +1,4 @@
--- What document 01 promises of the scheduler, over the definitions; `Promised` states it of the calls.
+-- What the paper (docs/PAPER.md, "The scheduler") promises, over the definitions; `Promised` states it of the calls.
 use Prim.Native.Nat.{ℕ, zero, suc, _+_, _-_, _^_, _<_, _≤_, min}
 use mathlib.Core.Path.{_≡_, refl, sym, ap, _∙_}
 use mathlib.Core.Bool.{true, false}

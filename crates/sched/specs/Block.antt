@@ -1,4 +1,4 @@
--- Blocks, with the types and numbers of source document 000.
+-- Blocks, with the Rust's types and numbers: docs/PAPER.md, "Blocks".
 use Prim.Native.Nat.{ℕ}
 use Rattle.sched.specs.declared.counter.Offset.{Offset}
 use Rattle.sched.specs.declared.block.Bit.{Bit}

@@ -1,4 +1,4 @@
--- The paper's table of the numbers that refuse, 1 to 8: when each is given, and with which values.
+-- The paper's table of the numbers that refuse, 1 to 8: when each is given, and with which values. docs/PAPER.md, "The numbers".
 use Prim.Native.Nat.{ℕ, _+_, _-_, _*_, _^_, _<_, _≤_}
 use mathlib.Core.Path.{_≡_}
 use mathlib.Core.List.{List, [], _∷_}

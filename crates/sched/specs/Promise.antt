@@ -1,4 +1,4 @@
--- What document 01 promises of scheduling, as it is told there.
+-- What the paper promises of scheduling and registering, as it is told there: docs/PAPER.md, "Scheduling", "Registering".
 use Prim.Native.Nat.{ℕ, zero, suc, _+_, _-_, _*_, _%_, _<_, _≤_, min}
 use mathlib.Core.Path.{_≡_}
 use mathlib.Core.List.{List, [], _∷_, _++_}

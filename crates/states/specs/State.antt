@@ -1,5 +1,5 @@
--- The rules of the states, as document 01 has them. A name that ends in `In` is of states whose errnos fit; one that ends in `Of`
--- tests them first: 12 with place 0, the state's own before the argument's.
+-- The rules of the states: docs/PAPER.md, "States" to "The reason rule". A name that ends in `In` is of states whose errnos fit; one
+-- that ends in `Of` tests them first ("Stored errnos"): 12 with place 0, the state's own before the argument's.
 use Prim.Native.Nat.{ℕ}
 use mathlib.Core.Bool.{Bool, cond, true, false}
 use lib.Dec.{eqb, leb}

@@ -1,8 +1,8 @@
--- Safe, and ends: the measure is what is left of the bytes. Assumes nothing.
-use Prim.Native.Nat.{_-_, _≤_}
+-- Safe, and ends: the index stays within the bytes. Assumes nothing.
+use Prim.Native.Nat.{_≤_, _-_}
 use borrow.Author.Needs.{needs}
-use Rattle.runs.proofs.stream.source.Statement.{statement}
-use Rattle.runs.proofs.stream.source.Tie as tie
+use Rattle.runs.proofs.memory.source.Statement.{statement}
+use Rattle.runs.proofs.memory.source.Tie as tie
 
 abbrev Inv-loop : tie.InvT-loop
 Inv-loop position bytes₀ i₀ bytes i = i ≤ 12
@@ -16,8 +16,8 @@ loop-holds c = search needs
 add-requires : tie.Need-add-requires Inv-loop μ-loop
 add-requires c κs = search needs
 
-byte-requires : tie.Need-byte-requires Inv-loop μ-loop
-byte-requires c κs = search needs
+cast-bytes : tie.Need-cast-bytes Inv-loop μ-loop
+cast-bytes c = search needs
 
 array-write-bytes : tie.Need-array-write-bytes Inv-loop μ-loop
 array-write-bytes c = search needs
@@ -42,7 +42,7 @@ source-spec =
     μ-loop
     loop-holds
     add-requires
-    byte-requires
+    cast-bytes
     array-write-bytes
     add-i
     loop-less

@@ -1,20 +1,17 @@
--- Safe, and ends: the measure is what is left of the cells. Assumes nothing.
-use Prim.Native.Nat.{_-_}
+-- Safe, and ends: the index stays within the bytes. Assumes nothing.
+use Prim.Native.Nat.{_≤_, _-_}
 use borrow.Author.Needs.{needs}
-use Rattle.runs.proofs.check.only_own.Statement.{statement}
-use Rattle.runs.proofs.check.only_own.Tie as tie
+use Rattle.runs.proofs.memory.turned.Statement.{statement}
+use Rattle.runs.proofs.memory.turned.Tie as tie
 
 abbrev Inv-loop : tie.InvT-loop
-Inv-loop before after len first n check₀ i₀ check i = Unit {0}
+Inv-loop ring len first bytes₀ i₀ bytes i = i ≤ 12
 
 abbrev μ-loop : tie.MeasureT-loop
-μ-loop before after len first n check₀ i₀ check i = len - i
+μ-loop ring len first bytes₀ i₀ bytes i = 12 - i
 
 loop-holds : tie.Need-loop-holds Inv-loop μ-loop
 loop-holds c = search needs
-
-sub-requires : tie.Need-sub-requires Inv-loop μ-loop
-sub-requires c κs = search needs
 
 add-requires : tie.Need-add-requires Inv-loop μ-loop
 add-requires c κs = search needs
@@ -25,11 +22,8 @@ rem-requires c κs = search needs
 at-requires : tie.Need-at-requires Inv-loop μ-loop
 at-requires c κs = search needs
 
-at-requires-2 : tie.Need-at-requires-2 Inv-loop μ-loop
-at-requires-2 c κs = search needs
-
-with-requires : tie.Need-with-requires Inv-loop μ-loop
-with-requires c κs = search needs
+array-write-bytes : tie.Need-array-write-bytes Inv-loop μ-loop
+array-write-bytes c = search needs
 
 add-i : tie.Need-add-i Inv-loop μ-loop
 add-i c = search needs
@@ -43,19 +37,17 @@ loop-again c = search needs
 returns : tie.Need-returns Inv-loop μ-loop
 returns c = search needs
 
-pub only-own-spec : {M : Type 1} → statement M
-only-own-spec =
+pub turned-spec : {M : Type 1} → statement M
+turned-spec =
     tie.close
     (tie.spec
     Inv-loop
     μ-loop
     loop-holds
-    sub-requires
     add-requires
     rem-requires
     at-requires
-    at-requires-2
-    with-requires
+    array-write-bytes
     add-i
     loop-less
     loop-again

@@ -50,16 +50,16 @@ use Rattle.copies.proofs.lent.Told as K
 use Rattle.copies.proofs.lent.Told.Laws as K′
 use Rattle.copies.proofs.Calls.{asks}
 use Rattle.runs.proofs.Lending.{St, svals, Co, Ou, oval, sval, out, is-out, part-in, part-out}
-use Rattle.runs.proofs.lent_scheduler.Lent as O
-use Rattle.runs.proofs.lent_scheduler.Lent.Laws as O′
+use Rattle.runs.proofs.copy.Lent as O
+use Rattle.runs.proofs.copy.Lent.Laws as O′
 use Rattle.copies.proofs.write_lent as g
 use Rattle.copies.proofs.write_lent.Symbol as g-def
 use Rattle.copies.proofs.write_lent.Symbol.{name as callee}
 use Rattle.copies.proofs.write_lent.Met as g-thm
-use Rattle.runs.proofs.lent_scheduler.write.Key.{name as itself}
-use Rattle.runs.proofs.lent_scheduler.write as f
-use Rattle.runs.proofs.lent_scheduler.write.Statement as stated
-use Rattle.runs.proofs.lent_scheduler.write.Code as code
+use Rattle.runs.proofs.copy.write.Key.{name as itself}
+use Rattle.runs.proofs.copy.write as f
+use Rattle.runs.proofs.copy.write.Statement as stated
+use Rattle.runs.proofs.copy.write.Code as code
 
 abbrev stayed : Stays (f.ended .signature .params) (f.ended .kept)
 stayed = (stay-none (λ _. St) yes, (gave-slice (0 ∷ []) tt (plain (λ _. u8)), (stay-none-slice (1 ∷ []) tt (plain (λ _. u8)) yes, tt)))

@@ -1,6 +1,9 @@
-// The answers of the receiver, appended to what was asked: 0 and the numbers, or the refusal's number and its values.
+// The answers of the receiver as numbers: 0 and its values, or the refusal's number and its values.
 use crate::line::Line;
-use crate::sched_answers;
+use crate::sched_answers::accepted;
+use crate::sched_answers::refused_with;
+use crate::sched_answers::with_scheduler;
+use receiver::Ended;
 use receiver::Failure;
 use receiver::FailureAnswer;
 use receiver::OperationalState;
@@ -12,73 +15,69 @@ use receiver::ReceiverState;
 use receiver::Refusal;
 use receiver::StateAnswer;
 
-pub fn refused(asked: Line, e: Refusal) -> Line {
-    sched_answers::with_values(asked.push(e.number()), e.values())
+fn refused(e: Refusal) -> Line {
+    refused_with(e.number(), e.values())
 }
 
-pub fn made(asked: Line, answer: ReceiverAnswer) -> Line {
+pub fn made(answer: ReceiverAnswer) -> Line {
     match answer {
-        ReceiverAnswer::Of(receiver) => with_receiver(asked.push(0), receiver),
-        ReceiverAnswer::Refused(e) => refused(asked, e),
+        ReceiverAnswer::Of(receiver) => with_receiver(accepted(), receiver),
+        ReceiverAnswer::Refused(e) => refused(e),
     }
 }
 
-pub fn failure(asked: Line, answer: FailureAnswer) -> Line {
+pub fn potential_failure(answer: PotentialFailureAnswer) -> Line {
     match answer {
-        FailureAnswer::Of(f) => with_failure(asked.push(0), f),
-        FailureAnswer::Refused(e) => refused(asked, e),
+        PotentialFailureAnswer::Of(potential) => match potential {
+            PotentialFailure::Some(f) => with_failure(accepted().push(1), f),
+            PotentialFailure::None => accepted().push3(0, 0, 0),
+        },
+        PotentialFailureAnswer::Refused(e) => refused(e),
     }
 }
 
-pub fn potential_failure(asked: Line, answer: PotentialFailureAnswer) -> Line {
+pub fn failure(answer: FailureAnswer) -> Line {
     match answer {
-        PotentialFailureAnswer::Of(f) => with_potential_failure(asked.push(0), f),
-        PotentialFailureAnswer::Refused(e) => refused(asked, e),
+        FailureAnswer::Of(f) => with_failure(accepted(), f),
+        FailureAnswer::Refused(e) => refused(e),
     }
 }
 
-pub fn state(asked: Line, answer: StateAnswer) -> Line {
+pub fn state(answer: StateAnswer) -> Line {
     match answer {
-        StateAnswer::Of(s) => with_state(asked.push(0), s),
-        StateAnswer::Refused(e) => refused(asked, e),
+        StateAnswer::Of(s) => with_state(accepted(), s),
+        StateAnswer::Refused(e) => refused(e),
     }
 }
 
-// What an accepted call leaves; of a read the destination follows.
-pub fn accepted(asked: Line, receiver: ReceiverState, outcome: Outcome, used: u64) -> Line {
-    with_outcome(with_receiver(asked.push(0), receiver), outcome).push(used)
+// An accepted call is told with every byte of its destination.
+pub fn ended(answer: Ended, dst: &[u8]) -> Line {
+    match answer {
+        Ended::Accepted {
+            receiver,
+            outcome,
+            used,
+        } => with_bytes(
+            with_outcome(with_receiver(accepted(), receiver), outcome).push(used),
+            dst,
+        ),
+        Ended::Refused(e) => refused(e),
+    }
 }
 
 fn with_receiver(line: Line, receiver: ReceiverState) -> Line {
     let scheduler = receiver.scheduler;
     let state = receiver.state;
-    with_flag(
-        with_state(sched_answers::with_scheduler(line, scheduler), state).push(
-            receiver.pending_ack_count,
-        ),
-        receiver.notification_socket_shutdown_issued,
-    )
-}
-
-fn with_flag(line: Line, flag: bool) -> Line {
-    if flag {
-        return line.push(1);
-    }
-    line.push(0)
+    with_state(with_scheduler(line, scheduler), state)
+        .push(receiver.pending_ack_count)
+        .push(receiver.notification_socket_shutdown_issued as u64)
 }
 
 fn with_state(line: Line, state: OperationalState) -> Line {
     match state {
-        OperationalState::Normal => line.push(0).push(0).push(0),
+        OperationalState::Normal => line.push3(0, 0, 0),
         OperationalState::Draining(f) => with_failure(line.push(1), f),
         OperationalState::Terminated(f) => with_failure(line.push(2), f),
-    }
-}
-
-fn with_potential_failure(line: Line, potential: PotentialFailure) -> Line {
-    match potential {
-        PotentialFailure::Some(f) => with_failure(line.push(1), f),
-        PotentialFailure::None => line.push(0).push(0).push(0),
     }
 }
 
@@ -91,13 +90,13 @@ fn with_failure(line: Line, failure: Failure) -> Line {
 
 fn with_outcome(line: Line, outcome: Outcome) -> Line {
     match outcome {
-        Outcome::Read { n, fds } => line.push(0).push(n).push(fds).push(0).push(0),
-        Outcome::Done => line.push(1).push(0).push(0).push(0).push(0),
-        Outcome::Failed(f) => with_failure(line.push(2).push(0).push(0), f),
+        Outcome::Read { n, fds } => line.push3(0, n, fds).push(0).push(0),
+        Outcome::Done => line.push3(1, 0, 0).push(0).push(0),
+        Outcome::Failed(f) => with_failure(line.push3(2, 0, 0), f),
     }
 }
 
-pub fn with_bytes(line: Line, bytes: &[u8]) -> Line {
+fn with_bytes(line: Line, bytes: &[u8]) -> Line {
     let mut longer = line;
     for i in 0..bytes.len() {
         longer = longer.push(wide(bytes[i]));

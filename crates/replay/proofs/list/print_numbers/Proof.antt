@@ -1,29 +1,32 @@
--- Safe, and ends: the index stays within the numbers. Assumes nothing.
+-- Safe, and ends: the index stays within the count. Assumes nothing.
 use Prim.Native.Nat.{_≤_, _-_}
 use borrow.Author.Needs.{needs}
 use Rattle.replay.proofs.list.print_numbers.Statement.{statement}
 use Rattle.replay.proofs.list.print_numbers.Tie as tie
 
 abbrev Inv-loop : tie.InvT-loop
-Inv-loop line i₀ i = i ≤ 128
+Inv-loop whose line i₀ t4 t5 i-end i = i ≤ i-end
 
 abbrev μ-loop : tie.MeasureT-loop
-μ-loop line i₀ i = 128 - i
+μ-loop whose line i₀ t4 t5 i-end i = i-end - i
+
+print-requires : tie.Need-print-requires Inv-loop μ-loop
+print-requires c κs = search needs
 
 loop-holds : tie.Need-loop-holds Inv-loop μ-loop
 loop-holds c = search needs
 
-returns : tie.Need-returns Inv-loop μ-loop
-returns c = search needs
+slice-aggregate-print : tie.Need-slice-aggregate-print Inv-loop μ-loop
+slice-aggregate-print c = search needs
 
-mul-print-spaced : tie.Need-mul-print-spaced Inv-loop μ-loop
-mul-print-spaced c = search needs
+print-requires-2 : tie.Need-print-requires-2 Inv-loop μ-loop
+print-requires-2 c κs = search needs
 
-element-copy-out-print-spaced : tie.Need-element-copy-out-print-spaced Inv-loop μ-loop
-element-copy-out-print-spaced c = search needs
+at-requires : tie.Need-at-requires Inv-loop μ-loop
+at-requires c κs = search needs
 
-print-spaced-requires : tie.Need-print-spaced-requires Inv-loop μ-loop
-print-spaced-requires c κs = search needs
+print-number-requires : tie.Need-print-number-requires Inv-loop μ-loop
+print-number-requires c κs = search needs
 
 add-i : tie.Need-add-i Inv-loop μ-loop
 add-i c = search needs
@@ -34,8 +37,14 @@ loop-less c = search needs
 loop-again : tie.Need-loop-again Inv-loop μ-loop
 loop-again c = search needs
 
-returns-2 : tie.Need-returns-2 Inv-loop μ-loop
-returns-2 c = search needs
+slice-aggregate-print-2 : tie.Need-slice-aggregate-print-2 Inv-loop μ-loop
+slice-aggregate-print-2 c = search needs
+
+print-requires-3 : tie.Need-print-requires-3 Inv-loop μ-loop
+print-requires-3 c κs = search needs
+
+returns : tie.Need-returns Inv-loop μ-loop
+returns c = search needs
 
 pub print-numbers-spec : {M : Type 1} → statement M
 print-numbers-spec =
@@ -43,12 +52,15 @@ print-numbers-spec =
     (tie.spec
     Inv-loop
     μ-loop
+    print-requires
     loop-holds
-    returns
-    mul-print-spaced
-    element-copy-out-print-spaced
-    print-spaced-requires
+    slice-aggregate-print
+    print-requires-2
+    at-requires
+    print-number-requires
     add-i
     loop-less
     loop-again
-    returns-2)
+    slice-aggregate-print-2
+    print-requires-3
+    returns)

@@ -1,4 +1,4 @@
--- Safe, and ends: the index stays within the answers. Assumes nothing.
+-- Safe, and ends: the index stays within the run. Assumes nothing.
 use Prim.Native.Nat.{_≤_, _-_}
 use borrow.Author.Needs.{needs}
 use Rattle.replay.proofs.receiver_calls.answers.Statement.{statement}

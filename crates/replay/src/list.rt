@@ -2,13 +2,14 @@
 ghost use mathlib.Core.Path.{_≡_};
 ghost use lib.ListN.{length};
 use crate::Calls;
-use crate::line::Line;
 use crate::reading::Reading;
 use crate::said;
 use crate::taken;
 use libc::STDOUT_FILENO;
 
+// What the lines so far came to; `lines` counts the text too.
 struct Tally {
+    lines: u64,
     answers: u64,
     differences: u64,
 }
@@ -31,6 +32,7 @@ fn room() -> [u8; 1048576]
 
 fn compared(calls: Calls, text: &[u8]) -> Tally {
     let mut tally = Tally {
+        lines: 0,
         answers: 0,
         differences: 0,
     };
@@ -48,52 +50,40 @@ fn compared(calls: Calls, text: &[u8]) -> Tally {
 }
 
 impl Tally {
-    // With one line more. Text is passed over.
-    fn with(self, calls: Calls, reading: Reading) -> Tally {
+    // With one line more. Text is passed over, and a line that differs is told at once.
+    fn with(mut self, calls: Calls, reading: Reading) -> Tally {
+        self.lines = next(self.lines);
         if reading.is_text {
             return self;
         }
+        self.answers = next(self.answers);
         let line = reading.line;
-        let said = said(calls, line);
-        if line.ends_in(taken(calls, line), said) {
-            return self.plus(0);
+        if line.ends_in(taken(calls, line), said(calls, line)) {
+            return self;
         }
-        print_numbers(b"the list:", line);
-        print_numbers(b"the code:", said);
-        self.plus(1)
-    }
-
-    // No list has 2^64 lines, so the sums do not wrap.
-    fn plus(self, differences: u64) -> Tally {
-        Tally {
-            answers: std::num::wrapping_add_u64(self.answers, 1),
-            differences: std::num::wrapping_add_u64(self.differences, differences),
-        }
+        self.differences = next(self.differences);
+        print_count(b"another answer to line ", self.lines, b"\n");
+        self
     }
 
     fn print(self, name: &[u8]) {
         print(name);
-        print(b": ");
-        print_number(self.answers);
-        print(b" answers, ");
-        print_number(self.differences);
-        print(b" differences\n");
+        print_count(b": ", self.answers, b" answers, ");
+        print_count(b"", self.differences, b" differences\n");
     }
+}
+
+// No list has 2^64 lines, so the sum does not wrap.
+fn next(count: u64) -> u64 {
+    std::num::wrapping_add_u64(count, 1)
 }
 
 fn print(text: &[u8]) {
     io::write_all(STDOUT_FILENO, text);
 }
 
-fn print_number(number: u64) {
-    io::print_decimal(STDOUT_FILENO, number);
-}
-
-fn print_numbers(whose: &[u8], line: Line) {
-    print(whose);
-    for i in 0..line.count {
-        print(b" ");
-        print_number(line.at(i));
-    }
-    print(b"\n");
+fn print_count(before: &[u8], count: u64, behind: &[u8]) {
+    print(before);
+    io::print_decimal(STDOUT_FILENO, count);
+    print(behind);
 }

@@ -9,6 +9,7 @@ mod receiver_calls;
 mod receiver_list;
 mod sched_answers;
 mod sched_calls;
+mod sched_inputs;
 mod sched_list;
 
 use line::Line;

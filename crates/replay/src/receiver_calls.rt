@@ -1,16 +1,23 @@
-// The calls of the receiver, and what they take of a line.
+// The calls of the receiver, each answer as numbers, and what they take of a line.
 ghost use Prim.Native.Nat.{_≤_};
 use crate::lent_run;
 use crate::lent_run::MOST;
 use crate::line::Line;
 use crate::line::after;
 use crate::receiver_answers::ended;
-use crate::sched_calls::scheduler;
+use crate::receiver_answers::refused;
+use crate::receiver_answers::with_failure;
+use crate::receiver_answers::with_receiver;
+use crate::receiver_answers::with_state;
+use crate::sched_answers::accepted;
+use crate::sched_inputs::scheduler;
 use receiver::Answer;
 use receiver::Failure;
 use receiver::FailureAnswer;
 use receiver::OperationalState;
 use receiver::PotentialFailure;
+use receiver::PotentialFailureAnswer;
+use receiver::ReceiverAnswer;
 use receiver::ReceiverState;
 use receiver::StateAnswer;
 use receiver::Violation;
@@ -21,21 +28,46 @@ const ROOM: usize = 64;
 // Every byte of a destination before the call.
 const BEFORE: u8 = 170;
 
-pub fn state(op: u64, line: Line) -> StateAnswer {
+pub fn made(line: Line) -> Line {
+    match ReceiverState::new(scheduler(line)) {
+        ReceiverAnswer::Of(receiver) => with_receiver(accepted(), receiver),
+        ReceiverAnswer::Refused(e) => refused(e),
+    }
+}
+
+pub fn potential_failure(line: Line) -> Line {
+    match state_at(line, 1).failure() {
+        PotentialFailureAnswer::Of(potential) => match potential {
+            PotentialFailure::Some(f) => with_failure(accepted().push(1), f),
+            PotentialFailure::None => accepted().push3(0, 0, 0),
+        },
+        PotentialFailureAnswer::Refused(e) => refused(e),
+    }
+}
+
+pub fn state(op: u64, line: Line) -> Line {
     let s = state_at(line, 1);
-    match op {
+    let answer = match op {
         2 => s.with_failure(failure_at(line, 4)),
         3 => s.with_potential_failure(potential_failure_at(line, 4)),
         4 => s.normalize(),
         _ => s.advance_state_towards_termination(state_at(line, 4)),
+    };
+    match answer {
+        StateAnswer::Of(s) => with_state(accepted(), s),
+        StateAnswer::Refused(e) => refused(e),
     }
 }
 
-pub fn failure(op: u64, line: Line) -> FailureAnswer {
+pub fn failure(op: u64, line: Line) -> Line {
     let f = failure_at(line, 1);
-    match op {
+    let answer = match op {
         6 => f.normalize(),
         _ => f.advance_failure_towards_error(failure_at(line, 3)),
+    };
+    match answer {
+        FailureAnswer::Of(f) => with_failure(accepted(), f),
+        FailureAnswer::Refused(e) => refused(e),
     }
 }
 
@@ -43,8 +75,8 @@ pub fn failure(op: u64, line: Line) -> FailureAnswer {
 
 // A service or a shutdown, which looks at no ring.
 pub fn without_ring(op: u64, line: Line) -> Line {
-    let n = least(line.at(9), MOST);
-    let run = answers(line, 10);
+    let n = run_len(op, line);
+    let run = run(op, line);
     let receiver = receiver(line);
     if op == 10 {
         return ended(
@@ -69,10 +101,9 @@ fn read_in(op: u64, line: Line, ring: &[u8], dst: &mut [u8]) -> Line {
 }
 
 fn read_over(op: u64, line: Line, ring: &[u8], dst: &mut [u8]) -> Line {
-    let at = after(ring_end(line), 1);
-    let max = line.at(at);
-    let n = least(line.at(after(at, 1)), MOST);
-    let run = answers(line, after(at, 2));
+    let max = line.at(after(ring_end(line), 1));
+    let n = run_len(op, line);
+    let run = run(op, line);
     let receiver = receiver(line);
     if op == 8 {
         return ended(
@@ -99,23 +130,33 @@ fn ring_end(line: Line) -> usize {
     after(10, line.at(9) as usize)
 }
 
-// The index behind the socket's answers.
-pub fn run_end(op: u64, line: Line) -> usize {
-    let at = match op {
+// The index of the count of the socket's answers, behind which they stand.
+fn run_at(op: u64, line: Line) -> usize {
+    match op {
         8 | 9 => after(ring_end(line), 2),
         _ => 9,
-    };
-    let n = line.at(at) as usize;
-    after(after(at, 1), after(n, after(n, n)))
+    }
+}
+
+fn run_len(op: u64, line: Line) -> usize
+    ensures { λ r. ⌜ r ≤ 16 ⌝ }
+{
+    least(line.at(run_at(op, line)), MOST)
+}
+
+// The index behind the answers.
+pub fn run_end(op: u64, line: Line) -> usize {
+    let n = run_len(op, line);
+    after(run_at(op, line), 1 + n + n + n)
 }
 
 // What stands behind the answers is taken too, whatever it is, and never lent.
-fn answers(line: Line, at: usize) -> [Answer; MOST] {
+fn run(op: u64, line: Line) -> [Answer; MOST] {
+    let mut at = after(run_at(op, line), 1);
     let mut run = [answer(line, at); MOST];
-    let mut place = at;
     for i in 0..MOST {
-        run[i] = answer(line, place);
-        place = after(place, 3);
+        run[i] = answer(line, at);
+        at = after(at, 3);
     }
     run
 }
@@ -146,7 +187,7 @@ fn receiver(line: Line) -> ReceiverState {
     }
 }
 
-pub fn state_at(line: Line, at: usize) -> OperationalState {
+fn state_at(line: Line, at: usize) -> OperationalState {
     let failure = failure_at(line, after(at, 1));
     match line.at(at) {
         0 => OperationalState::Normal,

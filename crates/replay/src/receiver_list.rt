@@ -1,9 +1,6 @@
 // The list of the calls of the receiver. A line: op, what it takes, its answer; its head says more.
 use crate::line::Line;
-use crate::receiver_answers;
 use crate::receiver_calls;
-use crate::sched_calls::scheduler;
-use receiver::ReceiverState;
 
 pub fn taken(op: u64, line: Line) -> usize {
     match op {
@@ -19,10 +16,10 @@ pub fn taken(op: u64, line: Line) -> usize {
 
 pub fn said(op: u64, line: Line) -> Line {
     match op {
-        0 => receiver_answers::made(ReceiverState::new(scheduler(line))),
-        1 => receiver_answers::potential_failure(receiver_calls::state_at(line, 1).failure()),
-        2..=5 => receiver_answers::state(receiver_calls::state(op, line)),
-        6 | 7 => receiver_answers::failure(receiver_calls::failure(op, line)),
+        0 => receiver_calls::made(line),
+        1 => receiver_calls::potential_failure(line),
+        2..=5 => receiver_calls::state(op, line),
+        6 | 7 => receiver_calls::failure(op, line),
         8 | 9 => receiver_calls::read(op, line),
         10 | 11 => receiver_calls::without_ring(op, line),
         _ => Line::new(),

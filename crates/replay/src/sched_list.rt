@@ -2,7 +2,7 @@
 use crate::line::Line;
 use crate::sched_answers;
 use crate::sched_calls;
-use sched::Diff;
+use crate::sched_inputs;
 use sched::RingBufferScheduler;
 use sched::ScheduledOperation;
 
@@ -27,59 +27,50 @@ pub fn said(op: u64, line: Line) -> Line {
         18..=33 => of_block(op, line),
         34..=44 => of_amount(op, line),
         45..=53 => of_operations(op, line),
-        54 => sched_answers::diff(Diff::new(line.at(1), line.at(2))),
-        _ => sched_answers::of(sched_calls::number(op, line)),
+        54 => sched_calls::new_diff(line),
+        _ => sched_calls::of_diff(op, line),
     }
 }
 
 fn of_record(op: u64, line: Line) -> Line {
-    let s = sched_calls::scheduler(line);
     match op {
         0 => sched_answers::of(RingBufferScheduler::MAX_BUF_LEN),
-        1..=3 => sched_answers::checked(sched_calls::checked(op, s)),
-        4 | 5 => sched_answers::counter(sched_calls::counter(op, s, 0)),
-        6 | 7 => sched_answers::offset(sched_calls::offset(op, s, 0)),
-        8 | 10 | 11 => sched_answers::amount(sched_calls::amount(op, s, 0)),
-        12 => sched_answers::fill_state(s.fill_state()),
-        17 => sched_answers::layout(s.layout()),
-        _ => sched_answers::truth(sched_calls::truth(op, s)),
+        1..=3 => sched_calls::checked(op, line),
+        4 | 5 => sched_calls::counter(op, line),
+        6 | 7 => sched_calls::offset(op, line),
+        8 | 10 | 11 => sched_calls::amount(op, line),
+        12 => sched_calls::fill_state(line),
+        17 => sched_calls::layout(line),
+        _ => sched_calls::truth(op, line),
     }
 }
 
 fn of_block(op: u64, line: Line) -> Line {
-    let s = sched_calls::scheduler(line);
-    let a = line.at(4);
     match op {
-        18..=20 | 31 => sched_answers::offset(sched_calls::offset(op, s, a)),
-        21..=23 | 32 => sched_answers::amount(sched_calls::amount(op, s, a)),
-        27 => sched_answers::blocks(s.blocks()),
-        30 => sched_answers::counter(sched_calls::counter(op, s, a)),
-        _ => sched_answers::block(sched_calls::block(op, s, a)),
+        18..=20 | 31 => sched_calls::offset(op, line),
+        21..=23 | 32 => sched_calls::amount(op, line),
+        27 => sched_calls::blocks(line),
+        30 => sched_calls::counter(op, line),
+        _ => sched_calls::block(op, line),
     }
 }
 
 fn of_amount(op: u64, line: Line) -> Line {
-    let s = sched_calls::scheduler(line);
-    let a = line.at(4);
-    let b = line.at(5);
     match op {
-        34 | 35 | 40 => sched_answers::next_operation(sched_calls::next_operation(op, s, a, b)),
-        36 | 37 | 41 => sched_answers::operations(sched_calls::planned(op, s, a, b)),
-        38 | 39 | 42 => sched_answers::registered(sched_calls::registered(op, s, a, b)),
-        43 => sched_answers::registered(s.try_register_operation(sched_calls::operation(line, 4))),
-        _ => sched_answers::registered(s.try_register_operations(sched_calls::list(line, 4))),
+        34 | 35 | 40 => sched_calls::next_operation(op, line),
+        36 | 37 | 41 => sched_calls::planned(op, line),
+        _ => sched_calls::registered(op, line),
     }
 }
 
 fn of_operations(op: u64, line: Line) -> Line {
-    let list = sched_calls::list(line, 1);
     match op {
-        48 => sched_answers::amount(list.cumulative_operation_length()),
-        49 => sched_answers::starts(list.with_cumulative_offset()),
-        50 => sched_answers::ranges(list.with_outside_buffer_range()),
+        48 => sched_calls::amount(op, line),
+        49 => sched_calls::starts(line),
+        50 => sched_calls::ranges(line),
         51 => sched_answers::operation(ScheduledOperation::default()),
-        52 => sched_answers::operation(sched_calls::operation(line, 1)),
-        53 => sched_answers::with_block(sched_answers::accepted(), sched_calls::block_of(line)),
-        _ => sched_answers::operations(sched_calls::contained(op, list)),
+        52 => sched_answers::operation(sched_inputs::operation(line, 1)),
+        53 => sched_answers::block(sched_inputs::block(line)),
+        _ => sched_calls::contained(op, line),
     }
 }

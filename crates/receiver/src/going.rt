@@ -128,7 +128,7 @@ impl Going {
     }
 
     // A failure drains with that reason.
-    fn drain(self, failure: Failure) -> Call
+    fn terminate_draining(self, failure: Failure) -> Call
         ensures { λ r. ⌜ r ≡ drainCall failure (self .receiver) (self .source) (self .ending) ⌝ }
     {
         self.told(failure)
@@ -141,7 +141,7 @@ impl Going {
         ensures { λ r. ⌜ r ≡ sentCall n (self .receiver) (self .source) (self .ending) ⌝ }
     {
         if n == 0 {
-            return self.drain(Failure::Io(Failure::IO));
+            return self.terminate_draining(Failure::Io(Failure::IO));
         }
         let receiver = self.receiver;
         self.with_receiver(receiver.with_pending(receiver.pending_ack_count - n))
@@ -155,7 +155,7 @@ impl Going {
         if errno == Failure::WOULDBLOCK {
             return self.finish();
         }
-        self.drain(Failure::Io(errno))
+        self.terminate_draining(Failure::Io(errno))
     }
 
     pub(crate) fn after_send(self, answer: Answer, place: u64) -> Step

@@ -78,7 +78,7 @@ fn terminate_immediately(
 }
 
 // Nothing more comes while draining: the stream ends with its cached reason.
-fn terminate_draining(receiver: ReceiverState, source: RingBufferScheduler) -> Call
+fn advance_draining_to_terminated(receiver: ReceiverState, source: RingBufferScheduler) -> Call
     ensures { λ r. ⌜ r ≡ blockedCall receiver source ⌝ }
 {
     let state = receiver.state;
@@ -114,7 +114,7 @@ fn after_announcement(
         ),
         Announced::Failed(f) => {
             if f.is_errno(Failure::WOULDBLOCK) {
-                return terminate_draining(receiver, source);
+                return advance_draining_to_terminated(receiver, source);
             }
             terminate_immediately(receiver, source, f)
         }

@@ -3,27 +3,39 @@ mod lent_run;
 mod line;
 mod list;
 mod modular_list;
+mod reading;
 mod receiver_answers;
 mod receiver_calls;
 mod receiver_list;
 mod sched_answers;
+mod sched_calls;
+mod sched_inputs;
 mod sched_list;
 
 use line::Line;
 
-// Whose calls the lines of a list are. A new list is a name here, an arm below and a line of main.
+// Whose calls the lines of a list are. A new list is a name here, an arm in each of the next two, and a line of main.
 pub enum Calls {
     Modular,
     Sched,
     Receiver,
 }
 
-// The line as the code answers it: the same inputs, and the code's own answers. Bad where the list has no such line.
-pub fn by_code(calls: Calls, line: Line) -> Line {
+// How many numbers of the line stand before its answer: the call and what it takes. 0 where the list has no such call.
+pub fn taken(calls: Calls, line: Line) -> usize {
     match calls {
-        Calls::Modular => modular_list::by_code(line),
-        Calls::Sched => sched_list::by_code(line),
-        Calls::Receiver => receiver_list::by_code(line),
+        Calls::Modular => modular_list::taken(line.at(0)),
+        Calls::Sched => sched_list::taken(line.at(0)),
+        Calls::Receiver => receiver_list::taken(line.at(0), line),
+    }
+}
+
+// What the code answers to the line's call; nothing where the list has no such call.
+pub fn said(calls: Calls, line: Line) -> Line {
+    match calls {
+        Calls::Modular => modular_list::said(line.at(0), line),
+        Calls::Sched => sched_list::said(line.at(0), line),
+        Calls::Receiver => receiver_list::said(line.at(0), line),
     }
 }
 

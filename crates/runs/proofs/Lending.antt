@@ -19,13 +19,13 @@ use denote.Struct.Laws as LL
 use denote.Enum.Laws as EL
 use Rattle.sched.specs.declared.scheduler.RingBufferScheduler.{RingBufferScheduler}
 use Rattle.copies.specs.declared.lent.Told.{Told}
-use Rattle.runs.specs.declared.lent_scheduler.Lent.{Lent}
+use Rattle.runs.specs.declared.copy.Lent.{Lent}
 use Rattle.sched.proofs.scheduler.RingBufferScheduler as S
 use Rattle.sched.proofs.scheduler.RingBufferScheduler.Laws as S′
 use Rattle.copies.proofs.lent.Told as K
 use Rattle.copies.proofs.lent.Told.Laws as K′
-use Rattle.runs.proofs.lent_scheduler.Lent as O
-use Rattle.runs.proofs.lent_scheduler.Lent.Laws as O′
+use Rattle.runs.proofs.copy.Lent as O
+use Rattle.runs.proofs.copy.Lent.Laws as O′
 
 abbrev pub St : RattleType
 St = S.the-row

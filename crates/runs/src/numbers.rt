@@ -9,10 +9,6 @@ pub fn sub(a: u64, b: u64) -> u64 {
     std::num::wrapping_sub_u64(a, b)
 }
 
-pub fn next(n: u64) -> u64 {
-    add(n, 1)
-}
-
 pub fn min(a: u64, b: u64) -> u64
     ensures { λ r. ⌜ r ≤ b ⌝ }
 {

@@ -1,162 +1,168 @@
-// What happened in all runs, and what came of the checks.
-use crate::check::Check;
-use crate::notes::Traffic;
+// What happened in all runs and what came of the checks: one row of counts, in the order in which they are printed.
+use crate::memory::differing;
 use crate::numbers::add;
-use crate::numbers::next;
+use crate::numbers::sub;
 use libc::STDOUT_FILENO;
 
-// How often one end copied, and how many bytes.
-pub struct Moves {
-    pub calls: u64,
-    pub bytes: u64,
-}
+pub const RUNS: usize = 0;
 
-impl Moves {
-    fn new() -> Moves {
-        Moves { calls: 0, bytes: 0 }
-    }
+const EVENTS: usize = 1;
 
-    pub fn with(self, n: u64) -> Moves {
-        Moves {
-            calls: next(self.calls),
-            bytes: add(self.bytes, n),
-        }
-    }
-}
+// Copies, each with its bytes.
+pub const WRITES: usize = 2;
+
+pub const WRITTEN: usize = 3;
+
+pub const READS: usize = 4;
+
+pub const READ: usize = 5;
+
+// How often the writing ends came round their rings.
+pub const TURNS: usize = 6;
+
+// The counters of each end: sent, taken, lost, late and repeated. A late one was taken after a newer one was sent.
+pub const BY_WRITER: usize = 7;
+
+pub const BY_READER: usize = 12;
+
+pub const TAKEN: usize = 1;
+
+const LOST: usize = 2;
+
+pub const LATE: usize = 3;
+
+pub const REPEATED: usize = 4;
+
+// Calls that must be refused.
+pub const RAN_BACK: usize = 17;
+
+pub const WRONG_MEMORY: usize = 18;
+
+// Promises: each was checked so often, and failed so often.
+pub const ACCEPTED: usize = 19;
+// What an end's record allows is what its positions say, so that the next check does not rest on the record alone.
+pub const VIEWS: usize = 21;
+
+pub const EXACT: usize = 23;
+
+pub const IN_ORDER: usize = 25;
+
+pub const UNTOUCHED: usize = 27;
+
+pub const IN_CELLS: usize = 29;
+
+pub const ONLY_OWN: usize = 31;
+
+pub const AGREED: usize = 33;
+
+pub const NUMBERS: usize = 35;
+
+pub const LEFT: usize = 37;
+
+pub const LENT: usize = 39;
+
+const COUNTS: usize = 41;
 
 pub struct Report {
-    pub runs: u64,
-    // How often the writing ends came round their rings.
-    pub turns: u64,
-    pub writes: Moves,
-    pub reads: Moves,
-    pub written_counters: Traffic,
-    pub read_counters: Traffic,
-    // Calls that must be refused.
-    pub ran_back: u64,
-    pub wrong_memory: u64,
-    // Calls that were refused and must not be.
-    pub refused: u64,
-    // What an end's record allows is what its positions say, so that the next check does not rest on the record alone.
-    pub views: Check,
-    pub exact: Check,
-    pub in_order: Check,
-    pub untouched: Check,
-    pub in_cells: Check,
-    pub only_own: Check,
-    pub agreed: Check,
-    pub numbers: Check,
-    pub left: Check,
-    pub lent: Check,
+    counts: [u64; COUNTS],
 }
 
 impl Report {
     pub fn new() -> Report {
         Report {
-            runs: 0,
-            turns: 0,
-            writes: Moves::new(),
-            reads: Moves::new(),
-            written_counters: Traffic::new(),
-            read_counters: Traffic::new(),
-            ran_back: 0,
-            wrong_memory: 0,
-            refused: 0,
-            views: Check::new(),
-            exact: Check::new(),
-            in_order: Check::new(),
-            untouched: Check::new(),
-            in_cells: Check::new(),
-            only_own: Check::new(),
-            agreed: Check::new(),
-            numbers: Check::new(),
-            left: Check::new(),
-            lent: Check::new(),
+            counts: [0; COUNTS],
         }
     }
 
-    // With a call that was refused and must not be.
-    pub fn with_refused(mut self) -> Report {
-        self.refused = next(self.refused);
+    fn of(self, i: usize) -> u64 {
+        if i >= COUNTS {
+            return 0;
+        }
+        self.counts[i]
+    }
+
+    pub fn plus(mut self, i: usize, n: u64) -> Report {
+        if i >= COUNTS {
+            return self;
+        }
+        self.counts[i] = add(self.counts[i], n);
         self
     }
 
-    // Each call that must not be refused is checked by its answer.
-    fn accepted(self) -> Check {
-        let copies = add(self.writes.calls, self.reads.calls);
-        let written = add(self.written_counters.sent, self.written_counters.taken);
-        let read = add(self.read_counters.sent, self.read_counters.taken);
-        Check {
-            checks: add(add(copies, self.refused), add(written, read)),
-            failures: self.refused,
-        }
+    pub fn check(self, promise: usize, holds: bool) -> Report {
+        self.checked(promise, 1, !holds as u64)
     }
 
-    fn events(self) -> u64 {
-        let wanted = add(self.ran_back, self.wrong_memory);
-        add(self.accepted().checks, wanted)
+    fn checked(self, promise: usize, checks: u64, failures: u64) -> Report {
+        self.plus(promise, checks)
+            .plus(behind(promise, 1), failures)
+    }
+
+    // The bytes from one index up to another are the same in both.
+    pub fn same(self, promise: usize, a: [u8; 12], b: [u8; 12], from: u64, to: u64) -> Report {
+        self.checked(promise, sub(to, from), differing(a, b, from, to))
+    }
+
+    // The events are the calls that are to be accepted and those that are not.
+    fn with_events(self) -> Report {
+        let wanted = add(self.of(RAN_BACK), self.of(WRONG_MEMORY));
+        self.plus(EVENTS, add(self.of(ACCEPTED), wanted))
+    }
+
+    // Lost are those that were never taken.
+    fn with_lost(self, counters: usize) -> Report {
+        let taken = sub(
+            self.of(behind(counters, TAKEN)),
+            self.of(behind(counters, REPEATED)),
+        );
+        self.plus(behind(counters, LOST), sub(self.of(counters), taken))
     }
 
     pub fn print(self) {
-        print_count(
-            self.runs,
-            b" runs, over rings of 1 to 9 bytes, from every counter\n",
-        );
-        print_count(self.events(), b" events\n");
-        print_moves(self.writes, b" writes of ");
-        print_moves(self.reads, b" reads of ");
-        print_count(self.turns, b" turns of a ring\n");
-        print_traffic(self.written_counters, b"written counters: ");
-        print_traffic(self.read_counters, b"read counters: ");
-        print_count(self.ran_back, b" counters that ran back\n");
-        print_count(self.wrong_memory, b" memories of a wrong length\n");
-        self.print_checks();
+        self.with_events()
+            .with_lost(BY_WRITER)
+            .with_lost(BY_READER)
+            .fill(
+                b"\
+% runs, over rings of 1 to 9 bytes, from every counter\n\
+% events\n\
+% writes of % bytes\n\
+% reads of % bytes\n\
+% turns of a ring\n\
+written counters: % sent, % taken, % lost, % late, % repeated\n\
+read counters: % sent, % taken, % lost, % late, % repeated\n\
+% counters that ran back\n\
+% memories of a wrong length\n\
+no call is refused: % checks, % failures\n\
+each record allows what its positions say: % checks, % failures\n\
+as many bytes as asked and allowed: % checks, % failures\n\
+bytes read are the next ones written: % checks, % failures\n\
+the rest of a destination is untouched: % checks, % failures\n\
+each unread byte stands in its cell: % checks, % failures\n\
+a write changes no other cell: % checks, % failures\n\
+both records are equal: % checks, % failures\n\
+refused with its number, 9 or 10: % checks, % failures\n\
+a refusal touches no byte: % checks, % failures\n\
+a lent scheduler makes the same copy: % checks, % failures\n",
+            );
     }
 
-    fn print_checks(self) {
-        print_check(self.accepted(), b"no call is refused: ");
-        print_check(self.views, b"each record allows what its positions say: ");
-        print_check(self.exact, b"as many bytes as asked and allowed: ");
-        print_check(self.in_order, b"bytes read are the next ones written: ");
-        print_check(self.untouched, b"the rest of a destination is untouched: ");
-        print_check(self.in_cells, b"each unread byte stands in its cell: ");
-        print_check(self.only_own, b"a write changes no other cell: ");
-        print_check(self.agreed, b"both records are equal: ");
-        print_check(self.numbers, b"refused with its number, 9 or 10: ");
-        print_check(self.left, b"a refusal touches no byte: ");
-        print_check(self.lent, b"a lent scheduler makes the same copy: ");
+    // Prints the text with a count for each %.
+    fn fill(self, text: &[u8]) {
+        let mut next = 0;
+        for i in 0..text.len() {
+            let byte = text[i];
+            if byte == b'%' {
+                io::print_decimal(STDOUT_FILENO, self.of(next));
+                next = behind(next, 1);
+            } else {
+                io::write_all(STDOUT_FILENO, &[byte]);
+            }
+        }
     }
 }
 
-fn print(text: &[u8]) {
-    io::write_all(STDOUT_FILENO, text);
-}
-
-fn print_number(number: u64) {
-    io::print_decimal(STDOUT_FILENO, number);
-}
-
-fn print_count(number: u64, what: &[u8]) {
-    print_number(number);
-    print(what);
-}
-
-fn print_moves(moves: Moves, what: &[u8]) {
-    print_count(moves.calls, what);
-    print_count(moves.bytes, b" bytes\n");
-}
-
-fn print_traffic(traffic: Traffic, whose: &[u8]) {
-    print(whose);
-    print_count(traffic.sent, b" sent, ");
-    print_count(traffic.taken, b" taken, ");
-    print_count(traffic.lost(), b" lost, ");
-    print_count(traffic.late, b" late, ");
-    print_count(traffic.repeated, b" repeated\n");
-}
-
-fn print_check(check: Check, promise: &[u8]) {
-    print(promise);
-    print_count(check.checks, b" checks, ");
-    print_count(check.failures, b" failures\n");
+// No index is above 41, so the sum does not wrap.
+pub fn behind(i: usize, by: usize) -> usize {
+    std::num::wrapping_add_usize(i, by)
 }

@@ -1,112 +1,81 @@
 // Calls that must be refused, and must leave every byte as it was.
-use crate::check;
-use crate::lent;
-use crate::lent_scheduler;
+use crate::calls;
+use crate::copy;
+use crate::copy::Copied;
+use crate::memory;
 use crate::numbers::add;
-use crate::numbers::next;
 use crate::numbers::rem;
 use crate::numbers::sub;
+use crate::report;
 use crate::report::Report;
-use crate::stream;
 use crate::world::World;
-use ends::Got;
-use ends::ReadCounter;
-use ends::ReadingEndAnswer;
-use ends::WritingEndAnswer;
-use ends::WrittenCounter;
-use ends::Wrote;
-use sched::Counter;
 
-// Each end is offered a counter that would take back some of its data, or of its space, where it has any.
-pub fn runs_back(world: World, random: u64) -> World {
-    let data = world.data();
-    let space = world.space();
-    let world = if data == 0 {
-        world
-    } else {
-        reader_runs_back(world, next(rem(random, data)))
-    };
-    if space == 0 {
-        world
-    } else {
-        writer_runs_back(world, next(rem(random, space)))
+pub fn refused(world: World, random: u64, len: u64) -> World {
+    if random >> 59 == 30 {
+        return writer_runs_back(reader_runs_back(world, random >> 16), random >> 16);
     }
-}
-
-fn reader_runs_back(mut world: World, by: u64) -> World {
-    let counter = before(world.len, world.reader.scheduler.items_written.0, by);
-    let answer = match world.reader.take(WrittenCounter(Counter(counter))) {
-        ReadingEndAnswer::Of(_) => 0,
-        ReadingEndAnswer::Refused(e) => e.number(),
-    };
-    world.report = ran_back(world.report, answer);
-    world
-}
-
-fn writer_runs_back(mut world: World, by: u64) -> World {
-    let counter = before(world.len, world.writer.scheduler.items_read.0, by);
-    let answer = match world.writer.take(ReadCounter(Counter(counter))) {
-        WritingEndAnswer::Of(_) => 0,
-        WritingEndAnswer::Refused(e) => e.number(),
-    };
-    world.report = ran_back(world.report, answer);
-    world
-}
-
-// The counter of so many bytes before.
-fn before(len: u64, counter: u64, by: u64) -> u64 {
-    let twice = add(len, len);
-    rem(add(counter, sub(twice, by)), twice)
-}
-
-fn ran_back(mut report: Report, answer: u64) -> Report {
-    report.ran_back = next(report.ran_back);
-    report.numbers = report.numbers.with(answer == 10);
-    report
-}
-
-// Memory of any other length up to 12 is lent to both ends in the ring's place.
-pub fn wrong_memory(world: World, len: u64) -> World {
     if len == world.len {
         return world;
     }
     writes_wrong(reads_wrong(world, len), len)
 }
 
+// Each end is offered a counter that would take back some of its data, or of its space, where it has any.
+fn reader_runs_back(mut world: World, random: u64) -> World {
+    let data = world.data();
+    if data == 0 {
+        return world;
+    }
+    let counter = before(world.len, world.reader.items_written.0, rem(random, data));
+    let told = calls::take_written(world.reader, counter);
+    world.report = ran_back(world.report, told.number);
+    world
+}
+
+fn writer_runs_back(mut world: World, random: u64) -> World {
+    let space = world.space();
+    if space == 0 {
+        return world;
+    }
+    let counter = before(world.len, world.writer.items_read.0, rem(random, space));
+    let told = calls::take_read(world.writer, counter);
+    world.report = ran_back(world.report, told.number);
+    world
+}
+
+// The counter of one byte more than so many before.
+fn before(len: u64, counter: u64, by: u64) -> u64 {
+    let twice = add(len, len);
+    rem(add(counter, sub(twice, add(by, 1))), twice)
+}
+
+fn ran_back(report: Report, number: u64) -> Report {
+    report
+        .plus(report::RAN_BACK, 1)
+        .check(report::NUMBERS, number == 10)
+}
+
+// Memory of any other length up to 12 is lent to both ends in the ring's place.
 fn writes_wrong(mut world: World, len: u64) -> World {
-    let src = stream::source(world.written);
-    let marks = [stream::MARK; 12];
-    let mut memory = marks;
-    let answer = match lent::write(world.writer, &mut memory, len, &src, 12) {
-        Wrote::Moved { end: _, n: _ } => 0,
-        Wrote::Refused(e) => e.number(),
-    };
-    let s = world.writer.scheduler;
-    let refused = lent_scheduler::REFUSED;
-    let same = lent_scheduler::writes_so(s, marks, len, &src, 12, &memory, s, refused);
-    world.report = memory_wrong(world.report, answer, &memory, len, same);
+    let src = memory::source(world.written);
+    let copied = copy::written(world.writer, [memory::MARK; 12], len, src, 12);
+    let ring = copied.ring;
+    world.report = memory_wrong(world.report, copied, ring, len);
     world
 }
 
 fn reads_wrong(mut world: World, len: u64) -> World {
-    let memory = stream::source(world.read);
-    let marks = [stream::MARK; 12];
-    let mut dst = marks;
-    let answer = match lent::read(world.reader, &memory, len, &mut dst, 12) {
-        Got::Moved { end: _, n: _ } => 0,
-        Got::Refused(e) => e.number(),
-    };
-    let s = world.reader.scheduler;
-    let refused = lent_scheduler::REFUSED;
-    let same = lent_scheduler::reads_so(s, &memory, len, marks, 12, &dst, s, refused);
-    world.report = memory_wrong(world.report, answer, &dst, 12, same);
+    let ring = memory::source(world.read);
+    let copied = copy::read_out(world.reader, ring, len, [memory::MARK; 12], 12);
+    let dst = copied.bytes;
+    world.report = memory_wrong(world.report, copied, dst, 12);
     world
 }
 
-fn memory_wrong(mut report: Report, answer: u64, bytes: &[u8; 12], len: u64, same: bool) -> Report {
-    report.wrong_memory = next(report.wrong_memory);
-    report.lent = report.lent.with(same);
-    report.numbers = report.numbers.with(answer == 9);
-    report.left = check::untouched(report.left, bytes, 0, len);
+fn memory_wrong(report: Report, copied: Copied, marks: [u8; 12], len: u64) -> Report {
     report
+        .plus(report::WRONG_MEMORY, 1)
+        .check(report::LENT, copied.is_same)
+        .check(report::NUMBERS, copied.told.number == 9)
+        .same(report::LEFT, marks, [memory::MARK; 12], 0, len)
 }

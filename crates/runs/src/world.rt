@@ -1,22 +1,23 @@
 // Two ends over one ring, what has happened to them, and what holds of them after every event.
-use crate::check;
+use crate::calls;
+use crate::memory;
 use crate::notes::Notes;
 use crate::numbers::add;
-use crate::numbers::next;
+use crate::numbers::rem;
 use crate::numbers::sub;
+use crate::report;
 use crate::report::Report;
-use crate::stream;
-use ends::ReadingEnd;
-use ends::WritingEnd;
+use sched::RingBufferScheduler;
 
 pub struct World {
-    pub writer: WritingEnd,
-    pub reader: ReadingEnd,
+    // The records of the two ends.
+    pub writer: RingBufferScheduler,
+    pub reader: RingBufferScheduler,
     // The ring's memory is its first `len` bytes.
     pub ring: [u8; 12],
     pub len: u64,
     // The counter that both ends started with.
-    pub start: u64,
+    start: u64,
     // How many bytes were written and read: the positions of the next ones.
     pub written: u64,
     pub read: u64,
@@ -28,17 +29,11 @@ pub struct World {
 
 impl World {
     // Both ends are new, and the ring holds old bytes.
-    pub fn new(
-        report: Report,
-        len: u64,
-        start: u64,
-        writer: WritingEnd,
-        reader: ReadingEnd,
-    ) -> World {
+    pub fn new(report: Report, len: u64, start: u64) -> World {
         World {
-            writer,
-            reader,
-            ring: [stream::OLD; 12],
+            writer: calls::new_writer(len, start),
+            reader: calls::new_reader(len, start),
+            ring: [memory::OLD; 12],
             len,
             start,
             written: 0,
@@ -59,63 +54,44 @@ impl World {
         sub(self.by_writer.heard, self.read)
     }
 
-    // With a call that was refused and must not be.
-    pub fn refused(mut self) -> World {
-        self.report = self.report.with_refused();
-        self
+    // The ring's cells from that of the byte at this position on.
+    pub fn cells(self, ring: [u8; 12], position: u64) -> [u8; 12] {
+        memory::turned(ring, self.len, rem(add(self.start, position), self.len))
     }
 
-    // What holds after every event.
-    pub fn checked(self) -> World {
-        self.unread_checked().agreement_checked()
-    }
-
-    fn unread_checked(mut self) -> World {
+    // What holds after every event: each unread byte stands in its cell.
+    pub fn checked(mut self) -> World {
         let ring = self.ring;
-        let mut report = self.report;
-        report.in_cells = check::in_cells(
-            report.in_cells,
-            &ring,
-            self.len,
-            self.start,
-            self.read,
-            self.written,
-        );
-        self.report = report;
-        self
+        let cells = self.cells(ring, self.read);
+        let unread = sub(self.written, self.read);
+        let bytes = memory::source(self.read);
+        self.report = self.report.same(report::IN_CELLS, cells, bytes, 0, unread);
+        self.agreement_checked()
     }
 
     // Once each end has taken the other's present counter, both records are equal.
     fn agreement_checked(mut self) -> World {
-        if self.by_writer.heard != self.written {
-            return self;
+        if self.by_writer.heard == self.written {
+            if self.by_reader.heard == self.read {
+                let same = calls::same_scheduler(self.writer, self.reader);
+                self.report = self.report.check(report::AGREED, same);
+            }
         }
-        if self.by_reader.heard != self.read {
-            return self;
-        }
-        let mut report = self.report;
-        report.agreed = report.agreed.with(self.same_records());
-        self.report = report;
         self
-    }
-
-    fn same_records(self) -> bool {
-        let w = self.writer.scheduler;
-        let r = self.reader.scheduler;
-        w.buf_len == r.buf_len
-            && w.items_written.0 == r.items_written.0
-            && w.items_read.0 == r.items_read.0
     }
 
     // The report with this run in it.
     pub fn ended(self) -> Report {
-        let mut report = self.report;
-        report.runs = next(report.runs);
-        if self.len != 0 {
-            report.turns = add(report.turns, self.written / self.len);
-        }
-        report.written_counters = report.written_counters.plus(self.by_writer.traffic);
-        report.read_counters = report.read_counters.plus(self.by_reader.traffic);
-        report
+        let turns = sub(self.written, rem(self.written, self.len));
+        self.report
+            .plus(report::RUNS, 1)
+            .plus(report::TURNS, quotient(turns, self.len))
     }
+}
+
+fn quotient(a: u64, b: u64) -> u64 {
+    if b == 0 {
+        return 0;
+    }
+    a / b
 }

@@ -16,8 +16,17 @@ add-requires c κs = search needs
 loop-holds : tie.Need-loop-holds Inv-loop μ-loop
 loop-holds c = search needs
 
-one-run-requires : tie.Need-one-run-requires Inv-loop μ-loop
-one-run-requires c κs = search needs
+new-requires : tie.Need-new-requires Inv-loop μ-loop
+new-requires c κs = search needs
+
+seed-requires : tie.Need-seed-requires Inv-loop μ-loop
+seed-requires c κs = search needs
+
+run-requires : tie.Need-run-requires Inv-loop μ-loop
+run-requires c κs = search needs
+
+ended-requires : tie.Need-ended-requires Inv-loop μ-loop
+ended-requires c κs = search needs
 
 add-start : tie.Need-add-start Inv-loop μ-loop
 add-start c = search needs
@@ -39,7 +48,10 @@ every-start-spec =
     μ-loop
     add-requires
     loop-holds
-    one-run-requires
+    new-requires
+    seed-requires
+    run-requires
+    ended-requires
     add-start
     loop-less
     loop-again

@@ -9,7 +9,7 @@ read-chunk-bytes-requires : tie.Need-read-chunk-bytes-requires
 read-chunk-bytes-requires c κs = rw (c .with-scheduler .ensures) (announces-chunk _ _ _ _ (c .before .before .announced .given .1) (c .before .before .before .before .pre))
 
 returns : tie.Need-returns
-returns c = rw (c .before .before .before .before .announced2 .given .1, sym (c .before .before .is-errno .ensures) ∙ c .before .if1 .taken, c .terminate-draining .ensures)
+returns c = rw (c .before .before .before .before .announced2 .given .1, sym (c .before .before .is-errno .ensures) ∙ c .before .if1 .taken, c .advance-draining-to-terminated .ensures)
 
 returns-2 : tie.Need-returns-2
 returns-2 c = rw (c .before .before .before .announced .given .1, c .read-chunk-bytes .ensures, c .before .with-scheduler .ensures)

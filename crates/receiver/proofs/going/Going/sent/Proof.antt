@@ -5,7 +5,7 @@ use Rattle.receiver.proofs.going.Going.sent.Statement.{statement}
 use Rattle.receiver.proofs.going.Going.sent.Tie as tie
 
 returns : tie.Need-returns
-returns c = rw (eq-eqb _ _ (c .before .if1 .taken), c .drain .ensures)
+returns c = rw (eq-eqb _ _ (c .before .if1 .taken), c .terminate-draining .ensures)
 
 returns-2 : tie.Need-returns-2
 returns-2 c = rw (ne-eqb _ _ (c .before .before .before .before .before .if1 .left), c .flush-chunk-acknowledgements .ensures, c .before .with-receiver .ensures, c .before .before .with-pending .ensures)

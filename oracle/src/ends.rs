@@ -9,7 +9,7 @@ use oracle::sched_answers::{
 };
 
 pub fn run() -> bool {
-    let what = "ends: stripring against sched.rs, and taking against document 01";
+    let what = "ends: stripring against sched.rs, and taking against docs/PAPER.md";
     compare_calls(what, &CALLS, end_calls())
 }
 

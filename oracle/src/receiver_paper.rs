@@ -26,7 +26,7 @@ pub fn run() -> bool {
         });
     }
     tally.report(
-        "receiver-paper: receiver.rs against the rows of document 01 and the agreed readings",
+        "receiver-paper: receiver.rs against the rows of docs/PAPER.md",
     )
 }
 

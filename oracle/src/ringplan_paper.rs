@@ -12,7 +12,7 @@ pub fn run() -> bool {
             input.as_bytes().escape_ascii().to_string()
         });
     }
-    tally.report("ringplan-paper: the Rust against the rows of document 01 and the agreed readings")
+    tally.report("ringplan-paper: the Rust against the rows of docs/PAPER.md")
 }
 
 fn answers(input: &str) -> String {

@@ -19,7 +19,7 @@ pub fn run() -> bool {
         let got = line(&(call.answer)(&input.all));
         tally.compare([got, want.to_vec()], || format!("{name} {numbers:?}"));
     }
-    tally.report("sched-paper: sched.rs against the rows of document 01 and the agreed readings")
+    tally.report("sched-paper: sched.rs against the rows of docs/PAPER.md")
 }
 
 /// A call, what it is asked, and its answer: 0 and the numbers, or the refusal.

@@ -42,17 +42,5 @@ returns c = search needs
 
 pub every-start-spec : {M : Type 1} → statement M
 every-start-spec =
-    tie.close
-    (tie.spec
-    Inv-loop
-    μ-loop
-    add-requires
-    loop-holds
-    new-requires
-    seed-requires
-    run-requires
-    ended-requires
-    add-start
-    loop-less
-    loop-again
-    returns)
+    tie.close (tie.spec Inv-loop μ-loop add-requires loop-holds new-requires seed-requires run-requires ended-requires add-start loop-less
+    loop-again returns)

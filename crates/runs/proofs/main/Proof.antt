@@ -36,15 +36,4 @@ returns c = search needs
 
 pub main-spec : {M : Type 1} → statement M
 main-spec =
-    tie.close
-    (tie.spec
-    Inv-loop
-    μ-loop
-    new-requires
-    loop-holds
-    every-start-requires
-    add-len
-    loop-less
-    loop-again
-    print-requires
-    returns)
+    tie.close (tie.spec Inv-loop μ-loop new-requires loop-holds every-start-requires add-len loop-less loop-again print-requires returns)

@@ -35,15 +35,5 @@ returns c = search needs
 
 pub run-spec : {M : Type 1} → statement M
 run-spec =
-    tie.close
-    (tie.spec
-    Inv-loop
-    μ-loop
-    loop-holds
-    random-requires
-    happened-requires
-    checked-requires
-    sub-left
-    loop-less
-    loop-again
+    tie.close (tie.spec Inv-loop μ-loop loop-holds random-requires happened-requires checked-requires sub-left loop-less loop-again
     returns)

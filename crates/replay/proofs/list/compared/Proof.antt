@@ -46,18 +46,5 @@ returns c = search needs
 
 pub compared-spec : {M : Type 1} → statement M
 compared-spec =
-    tie.close
-    (tie.spec
-    Inv-loop
-    μ-loop
-    new-requires
-    loop-holds
-    shared-slice-read-byte
-    ended-requires
-    with-requires
-    new-requires-2
-    fed-requires
-    add-i
-    loop-less
-    loop-again
-    returns)
+    tie.close (tie.spec Inv-loop μ-loop new-requires loop-holds shared-slice-read-byte ended-requires with-requires new-requires-2
+    fed-requires add-i loop-less loop-again returns)

@@ -37,15 +37,4 @@ returns c = search needs
 
 pub with-bytes-spec : {M : Type 1} → statement M
 with-bytes-spec =
-    tie.close
-    (tie.spec
-    Inv-loop
-    μ-loop
-    loop-holds
-    shared-slice-read-wide
-    wide-requires
-    push-requires
-    add-i
-    loop-less
-    loop-again
-    returns)
+    tie.close (tie.spec Inv-loop μ-loop loop-holds shared-slice-read-wide wide-requires push-requires add-i loop-less loop-again returns)

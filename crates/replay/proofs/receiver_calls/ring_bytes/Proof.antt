@@ -39,16 +39,5 @@ returns c = search needs
 
 pub ring-bytes-spec : {M : Type 1} → statement M
 ring-bytes-spec =
-    tie.close
-    (tie.spec
-    Inv-loop
-    μ-loop
-    loop-holds
-    after-requires
-    at-requires
-    cast-bytes
-    array-write-bytes
-    add-i
-    loop-less
-    loop-again
+    tie.close (tie.spec Inv-loop μ-loop loop-holds after-requires at-requires cast-bytes array-write-bytes add-i loop-less loop-again
     returns)

@@ -48,19 +48,5 @@ returns c = search needs
 
 pub run-spec : {M : Type 1} → statement M
 run-spec =
-    tie.close
-    (tie.spec
-    Inv-loop
-    μ-loop
-    run-at-requires
-    after-requires
-    answer-requires
-    loop-holds
-    answer-requires-2
-    mul-run
-    array-set-from-run
-    after-requires-2
-    add-i
-    loop-less
-    loop-again
-    returns)
+    tie.close (tie.spec Inv-loop μ-loop run-at-requires after-requires answer-requires loop-holds answer-requires-2 mul-run
+    array-set-from-run after-requires-2 add-i loop-less loop-again returns)

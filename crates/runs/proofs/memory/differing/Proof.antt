@@ -35,16 +35,4 @@ returns : tie.Need-returns Inv-loop μ-loop
 returns c = search needs
 
 pub differing-spec : {M : Type 1} → statement M
-differing-spec =
-    tie.close
-    (tie.spec
-    Inv-loop
-    μ-loop
-    loop-holds
-    at-requires
-    at-requires-2
-    add-requires
-    add-i
-    loop-less
-    loop-again
-    returns)
+differing-spec = tie.close (tie.spec Inv-loop μ-loop loop-holds at-requires at-requires-2 add-requires add-i loop-less loop-again returns)

@@ -35,16 +35,4 @@ returns : tie.Need-returns Inv-loop μ-loop
 returns c = search needs
 
 pub source-spec : {M : Type 1} → statement M
-source-spec =
-    tie.close
-    (tie.spec
-    Inv-loop
-    μ-loop
-    loop-holds
-    add-requires
-    cast-bytes
-    array-write-bytes
-    add-i
-    loop-less
-    loop-again
-    returns)
+source-spec = tie.close (tie.spec Inv-loop μ-loop loop-holds add-requires cast-bytes array-write-bytes add-i loop-less loop-again returns)

@@ -39,16 +39,5 @@ returns c = search needs
 
 pub turned-spec : {M : Type 1} → statement M
 turned-spec =
-    tie.close
-    (tie.spec
-    Inv-loop
-    μ-loop
-    loop-holds
-    add-requires
-    rem-requires
-    at-requires
-    array-write-bytes
-    add-i
-    loop-less
-    loop-again
+    tie.close (tie.spec Inv-loop μ-loop loop-holds add-requires rem-requires at-requires array-write-bytes add-i loop-less loop-again
     returns)

@@ -48,19 +48,5 @@ returns-3 c = search needs
 
 pub ends-in-spec : {M : Type 1} → statement M
 ends-in-spec =
-    tie.close
-    (tie.spec
-    Inv-loop
-    μ-loop
-    after-requires
-    returns
-    loop-holds
-    after-requires-2
-    at-requires
-    mul-if2
-    element-copy-out-if2
-    returns-2
-    add-i
-    loop-less
-    loop-again
-    returns-3)
+    tie.close (tie.spec Inv-loop μ-loop after-requires returns loop-holds after-requires-2 at-requires mul-if2 element-copy-out-if2
+    returns-2 add-i loop-less loop-again returns-3)

@@ -46,18 +46,5 @@ returns c = search needs
 
 pub fill-spec : {M : Type 1} → statement M
 fill-spec =
-    tie.close
-    (tie.spec
-    Inv-loop
-    μ-loop
-    loop-holds
-    shared-slice-read-byte
-    of-requires
-    print-decimal-requires
-    behind-requires
-    slice-aggregate-write-all
-    write-all-requires
-    add-i
-    loop-less
-    loop-again
-    returns)
+    tie.close (tie.spec Inv-loop μ-loop loop-holds shared-slice-read-byte of-requires print-decimal-requires behind-requires
+    slice-aggregate-write-all write-all-requires add-i loop-less loop-again returns)

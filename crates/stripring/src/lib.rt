@@ -14,6 +14,7 @@ mod outcome;
 mod reading_end;
 mod receiver_record;
 mod receiver_run;
+mod schedule;
 mod scheduler;
 mod state;
 mod writing_end;

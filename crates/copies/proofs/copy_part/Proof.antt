@@ -7,8 +7,10 @@ use Rattle.copies.proofs.copy_part.Tie as tie
 
 returns : tie.Need-returns
 returns c =
-    let s = c .before .before .before .before .before .before .before .args in
-    paste-copy (s .to .now) (s .from .now) _ (s .a) (s .b) (s .n) _ _ (omega arith) (omega arith) (omega arith) (omega arith) (c .before .before .copy .ensures .1)
+    let at-copy = c .before .before in
+    let start = at-copy .before .before .before .before .before in
+    let s = start .args in
+    paste-copy (s .to .now) (s .from .now) _ (s .a) (s .b) (s .n) _ _ (omega arith) (omega arith) (omega arith) (omega arith) (at-copy .copy .ensures .1)
 
 pub copy-part-spec : {M : Type 1} → statement M
 copy-part-spec =

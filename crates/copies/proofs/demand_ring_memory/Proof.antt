@@ -8,11 +8,17 @@ use Rattle.copies.proofs.demand_ring_memory.Tie as tie
 
 returns : tie.Need-returns
 unfolding readyFrom
-returns c = rw (← (sym (c .before .before .before .s .given .1) ∙ c .before .before .before .before .before .demand-soundness .ensures), eq-eqb _ _ (c .if1 .taken))
+returns c =
+    let at-s = c .before .before .before in
+    let at-demand-soundness = at-s .before .before in
+    rw (← (sym (at-s .s .given .1) ∙ at-demand-soundness .demand-soundness .ensures), eq-eqb _ _ (c .if1 .taken))
 
 returns-2 : tie.Need-returns-2
 unfolding readyFrom
-returns-2 c = rw (← (sym (c .before .before .before .s .given .1) ∙ c .before .before .before .before .before .demand-soundness .ensures), ne-eqb _ _ (c .if1 .left))
+returns-2 c =
+    let at-s = c .before .before .before in
+    let at-demand-soundness = at-s .before .before in
+    rw (← (sym (at-s .s .given .1) ∙ at-demand-soundness .demand-soundness .ensures), ne-eqb _ _ (c .if1 .left))
 
 returns-3 : tie.Need-returns-3
 unfolding readyFrom

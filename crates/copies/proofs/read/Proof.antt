@@ -13,14 +13,18 @@ returns c =
 
 get-round-requires : tie.Need-get-round-requires
 get-round-requires c κs =
-    let at-m = c .before .before .before .before in
+    let at-before = c .before .before .before in
+    let at-m = at-before .before in
     move-fits _ Read _ _ _ (sym (at-m .m .given .1) ∙ at-m .before .before .schedule-and-register .ensures) (c .before .if1 .left)
 
 returns-2 : tie.Need-returns-2
 returns-2 c =
-    let at-m = c .before .before .before .before .before .before .before .before in
+    let at-get-round = c .before .before .before in
+    let at-if1 = at-get-round .before .before in
+    let at-before = at-if1 .before .before in
+    let at-m = at-before .before in
     let s = at-m .before .before .before .before .before .args in
-    got _ (s .ring .now) (s .dst .now) (c .before .before .before .before .before .if1 .left) _ _ _ (c .moved .ensures) (sym (at-m .m .given .1) ∙ at-m .before .before .schedule-and-register .ensures) (c .before .before .before .get-round .ensures)
+    got _ (s .ring .now) (s .dst .now) (at-if1 .if1 .left) _ _ _ (c .moved .ensures) (sym (at-m .m .given .1) ∙ at-m .before .before .schedule-and-register .ensures) (at-get-round .get-round .ensures)
 
 returns-3 : tie.Need-returns-3
 returns-3 c =

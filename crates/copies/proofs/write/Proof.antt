@@ -13,14 +13,18 @@ returns c =
 
 put-round-requires : tie.Need-put-round-requires
 put-round-requires c κs =
-    let at-m = c .before .before .before .before in
+    let at-before = c .before .before .before in
+    let at-m = at-before .before in
     move-fits _ Write _ _ _ (sym (at-m .m .given .1) ∙ at-m .before .before .schedule-and-register .ensures) (c .before .if1 .left)
 
 returns-2 : tie.Need-returns-2
 returns-2 c =
-    let at-m = c .before .before .before .before .before .before .before .before in
+    let at-put-round = c .before .before .before in
+    let at-if1 = at-put-round .before .before in
+    let at-before = at-if1 .before .before in
+    let at-m = at-before .before in
     let s = at-m .before .before .before .before .before .args in
-    written _ (s .ring .now) (s .src .now) (c .before .before .before .before .before .if1 .left) _ _ _ (c .moved .ensures) (sym (at-m .m .given .1) ∙ at-m .before .before .schedule-and-register .ensures) (c .before .before .before .put-round .ensures)
+    written _ (s .ring .now) (s .src .now) (at-if1 .if1 .left) _ _ _ (c .moved .ensures) (sym (at-m .m .given .1) ∙ at-m .before .before .schedule-and-register .ensures) (at-put-round .put-round .ensures)
 
 returns-3 : tie.Need-returns-3
 returns-3 c =

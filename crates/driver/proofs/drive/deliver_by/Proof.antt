@@ -7,7 +7,10 @@ use Rattle.driver.proofs.drive.deliver_by.Statement.{statement}
 use Rattle.driver.proofs.drive.deliver_by.Tie as tie
 
 returns : tie.Need-returns
-returns c = delivered-by _ _ _ _ _ _ (c .before .before .before .before .enum-told .given .1) (ap (λ (x : Left). x .memory) (c .before .before .read .ensures))
+returns c =
+    let at-read = c .before .before in
+    let at-enum-told = at-read .before .before in
+    delivered-by _ _ _ _ _ _ (at-enum-told .enum-told .given .1) (ap (λ (x : Left). x .memory) (at-read .read .ensures))
 
 pub deliver-by-spec : {M : Type 1} → statement M
 deliver-by-spec =

@@ -5,7 +5,10 @@ use Rattle.driver.proofs.drive.deliver_ended.Statement.{statement}
 use Rattle.driver.proofs.drive.deliver_ended.Tie as tie
 
 returns : tie.Need-returns
-returns c = delivered _ _ _ _ _ _ _ _ (c .before .before .before .before .before .ended .given .1) (c .before .before .deliver-by .ensures)
+returns c =
+    let at-deliver-by = c .before .before in
+    let at-ended = at-deliver-by .before .before .before in
+    delivered _ _ _ _ _ _ _ _ (at-ended .ended .given .1) (at-deliver-by .deliver-by .ensures)
 
 returns-2 : tie.Need-returns-2
 returns-2 c = not-delivered _ _ _ _ _ (c .before .ended2 .given .1)

@@ -6,8 +6,10 @@ use Rattle.ends.proofs.lent.read_kept.Tie as tie
 
 returns : tie.Need-returns
 returns c =
-    let s = c .before .before .before .before .before .before .before .args in
-    kept-reader _ (s .ring .now) (s .dst .now) _ _ _ _ (c .before .before .before .read .ensures) (c .keep-reader .ensures)
+    let at-read = c .before .before .before in
+    let start = at-read .before .before .before .before in
+    let s = start .args in
+    kept-reader _ (s .ring .now) (s .dst .now) _ _ _ _ (at-read .read .ensures) (c .keep-reader .ensures)
 
 pub read-kept-spec : {M : Type 1} → statement M
 read-kept-spec = tie.close (tie.spec (search needs) (search needs) (search needs) returns)

@@ -8,15 +8,23 @@ use Rattle.ends.proofs.refusal.not_shrunk.Tie as tie
 
 returns : tie.Need-returns
 unfolding takenFrom
-returns c = rw (c .before .before .before .before .before .before2 .given .1, c .before .before .after .given .1, lt-ltb (c .before .before .after .given .0 .0) (c .before .before .before .before .before .before2 .given .0 .0) (omega arith))
+returns c =
+    let at-after = c .before .before in
+    let at-before2 = at-after .before .before .before in
+    rw (at-before2 .before2 .given .1, at-after .after .given .1, lt-ltb (at-after .after .given .0 .0) (at-before2 .before2 .given .0 .0) (omega arith))
 
 returns-2 : tie.Need-returns-2
 unfolding takenFrom
-returns-2 c = rw (c .before .before .before .before .before .before2 .given .1, c .before .before .after .given .1, le-ltb (c .before .before .after .given .0 .0) (c .before .before .before .before .before .before2 .given .0 .0) (omega arith))
+returns-2 c =
+    let at-after = c .before .before in
+    let at-before2 = at-after .before .before .before in
+    rw (at-before2 .before2 .given .1, at-after .after .given .1, le-ltb (at-after .after .given .0 .0) (at-before2 .before2 .given .0 .0) (omega arith))
 
 returns-3 : tie.Need-returns-3
 unfolding takenFrom
-returns-3 c = rw (c .before .before .before .before .before2 .given .1, c .before .after2 .given .1)
+returns-3 c =
+    let at-before2 = c .before .before .before .before in
+    rw (at-before2 .before2 .given .1, c .before .after2 .given .1)
 
 returns-4 : tie.Need-returns-4
 unfolding takenFrom

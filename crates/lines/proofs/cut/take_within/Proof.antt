@@ -31,8 +31,10 @@ same-length c = search needs
 
 returns : tie.Need-returns Inv-loop μ-loop
 returns c =
-    let l = c .before .before .before .loop in
-    let a = c .before .before .before .before .before .before .args in
+    let at-loop = c .before .before .before in
+    let start = at-loop .before .before .before in
+    let l = at-loop .loop in
+    let a = start .args in
     sym (at-feed (a .most) (filled (l .n) (l .line)) (l .next) (a .piece .now) (omega arith) (omega arith)) ∙ l .inv .1
 
 hold-requires : tie.Need-hold-requires Inv-loop μ-loop
@@ -43,11 +45,15 @@ loop-less c = search needs
 
 loop-again : tie.Need-loop-again Inv-loop μ-loop
 loop-again c =
-    let l = c .before .before .before .before .before .before .before .loop in
-    let a = c .before .before .before .before .before .before .before .before .before .before .args in (
+    let at-hold = c .before .before in
+    let at-if1 = at-hold .before .before in
+    let at-loop = at-if1 .before .before .before in
+    let start = at-loop .before .before .before in
+    let l = at-loop .loop in
+    let a = start .args in (
       omega arith,
-      ap (λ (h : Filled). takeIn (a .most) h (l .next + 1) (drop (l .next + 1) (a .piece .now))) (c .before .before .hold .ensures)
-          ∙ sym (at-byte (a .most) (filled (l .n) (l .line)) (l .next) (a .piece .now) (omega arith) (λ z. omega (arith, c .before .before .before .before .if1 .left)))
+      ap (λ (h : Filled). takeIn (a .most) h (l .next + 1) (drop (l .next + 1) (a .piece .now))) (at-hold .hold .ensures)
+          ∙ sym (at-byte (a .most) (filled (l .n) (l .line)) (l .next) (a .piece .now) (omega arith) (λ z. omega (arith, at-if1 .if1 .left)))
           ∙ l .inv .1,
     )
 
@@ -56,8 +62,9 @@ same-length-2 c = search needs
 
 returns-2 : tie.Need-returns-2 Inv-loop μ-loop
 returns-2 c =
+    let start = c .before .before .before .before in
     let l = c .before .loop in
-    let a = c .before .before .before .before .args in
+    let a = start .args in
     sym (at-end (a .most) (filled (l .n) (l .line)) (l .next) (a .piece .now) (omega arith)) ∙ l .inv .1
 
 pub take-within-spec : {M : Type 1} → statement M

@@ -27,8 +27,10 @@ is-digit-requires c κs = search needs
 
 returns : tie.Need-returns Inv-loop μ-loop
 returns c =
-    let l = c .before .before .before .before .loop in
-    let line = c .before .before .before .before .before .before .args .line .now in
+    let at-loop = c .before .before .before .before in
+    let start = at-loop .before .before in
+    let l = at-loop .loop in
+    let line = start .args .line .now in
     number-there line (l .n) (l .next) (omega arith)
     ∙ ap (numberIn line) (sym (digits-stop line (l .next) (l .n) (omega arith) (sym (c .before .is-digit .ensures) ∙ not-true _ (c .if1 .taken))) ∙ l .inv .1)
 
@@ -40,19 +42,30 @@ fits-u64-requires c κs = omega (arith, digit-bounds _ (sym (c .before .before .
 
 returns-2 : tie.Need-returns-2 Inv-loop μ-loop
 returns-2 c =
-    let l = c .before .before .before .before .before .before .before .loop in
-    let line = c .before .before .before .before .before .before .before .before .before .args .line .now in
+    let at-digit-of = c .before .before in
+    let at-if1 = at-digit-of .before in
+    let at-is-digit = at-if1 .before in
+    let at-loop = at-is-digit .before .before .before in
+    let start = at-loop .before .before in
+    let l = at-loop .loop in
+    let line = start .args .line .now in
     ap (numberIn line)
     (sym
-    (digits-full line (l .next) (l .n) (omega arith) (sym (c .before .before .before .before .is-digit .ensures) ∙ not-false _ (c .before .before .before .if1 .left))
-    (c .before .before .digit-of .result) (c .before .before .digit-of .ensures) (sym (c .before .fits-u64 .ensures) ∙ not-true _ (c .if2 .taken)))
+    (digits-full line (l .next) (l .n) (omega arith) (sym (at-is-digit .is-digit .ensures) ∙ not-false _ (at-if1 .if1 .left))
+    (at-digit-of .digit-of .result) (at-digit-of .digit-of .ensures) (sym (c .before .fits-u64 .ensures) ∙ not-true _ (c .if2 .taken)))
     ∙ l .inv .1)
 
 mul-n : tie.Need-mul-n Inv-loop μ-loop
-mul-n c = record { fits = omega (arith, ltb-true (c .before .before .before .before .before .before .before .loop .n * 10 + c .before .before .digit-of .result) (2 ^ 64) (sym (c .before .fits-u64 .ensures) ∙ not-false _ (c .if2 .left))) }
+mul-n c =
+    let at-digit-of = c .before .before in
+    let at-loop = at-digit-of .before .before .before .before .before in
+    record { fits = omega (arith, ltb-true (at-loop .loop .n * 10 + at-digit-of .digit-of .result) (2 ^ 64) (sym (c .before .fits-u64 .ensures) ∙ not-false _ (c .if2 .left))) }
 
 add-n : tie.Need-add-n Inv-loop μ-loop
-add-n c = record { fits = omega (arith, ltb-true (c .before .before .before .before .before .before .before .loop .n * 10 + c .before .before .digit-of .result) (2 ^ 64) (sym (c .before .fits-u64 .ensures) ∙ not-false _ (c .if2 .left))) }
+add-n c =
+    let at-digit-of = c .before .before in
+    let at-loop = at-digit-of .before .before .before .before .before in
+    record { fits = omega (arith, ltb-true (at-loop .loop .n * 10 + at-digit-of .digit-of .result) (2 ^ 64) (sym (c .before .fits-u64 .ensures) ∙ not-false _ (c .if2 .left))) }
 
 add-next : tie.Need-add-next Inv-loop μ-loop
 add-next c = search needs
@@ -62,11 +75,16 @@ loop-less c = search needs
 
 loop-again : tie.Need-loop-again Inv-loop μ-loop
 loop-again c =
-    let l = c .before .before .before .before .before .before .before .loop in (
+    let at-digit-of = c .before .before in
+    let at-if1 = at-digit-of .before in
+    let at-is-digit = at-if1 .before in
+    let at-loop = at-is-digit .before .before .before in
+    let start = at-loop .before .before in
+    let l = at-loop .loop in (
       omega arith,
       sym
-          (digits-next (c .before .before .before .before .before .before .before .before .before .args .line .now) (l .next) (l .n) (omega arith) (sym (c .before .before .before .before .is-digit .ensures) ∙ not-false _ (c .before .before .before .if1 .left))
-          (c .before .before .digit-of .result) (c .before .before .digit-of .ensures) (sym (c .before .fits-u64 .ensures) ∙ not-false _ (c .if2 .left)))
+          (digits-next (start .args .line .now) (l .next) (l .n) (omega arith) (sym (at-is-digit .is-digit .ensures) ∙ not-false _ (at-if1 .if1 .left))
+          (at-digit-of .digit-of .result) (at-digit-of .digit-of .ensures) (sym (c .before .fits-u64 .ensures) ∙ not-false _ (c .if2 .left)))
           ∙ l .inv .1,
     )
 

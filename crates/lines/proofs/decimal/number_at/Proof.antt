@@ -13,7 +13,8 @@ returns c = ap (numberIn (c .before .before .args .line .now)) (sym (front-end (
 
 returns-2 : tie.Need-returns-2
 returns-2 c =
-    let a = c .before .before .before .before .args in
+    let start = c .before .before .before .before in
+    let a = start .args in
     number-there (a .line .now) 0 (a .at + 1) (omega arith) ∙ ap (numberIn (a .line .now)) (sym (front-zero (a .line .now) (a .at) (omega arith) (omega arith)))
 
 digit-of-requires : tie.Need-digit-of-requires
@@ -21,17 +22,23 @@ digit-of-requires c κs = digit-bounds _ (sym (c .before .is-digit .ensures) ∙
 
 returns-3 : tie.Need-returns-3
 returns-3 c =
-    let a = c .before .before .before .before .before .before .before .before .args in
+    let at-if3 = c .before .before in
+    let at-is-digit = at-if3 .before in
+    let at-if2 = at-is-digit .before in
+    let start = at-if2 .before .before .before .before in
+    let a = start .args in
     c .digits-on .ensures
     ∙ ap (numberIn (a .line .now))
     (sym
-    (front-digit (a .line .now) (a .at) (omega arith) (λ z. omega (arith, c .before .before .before .before .if2 .left)) (sym (c .before .before .before .is-digit .ensures) ∙ c .before .before .if3 .taken)
+    (front-digit (a .line .now) (a .at) (omega arith) (λ z. omega (arith, at-if2 .if2 .left)) (sym (at-is-digit .is-digit .ensures) ∙ at-if3 .if3 .taken)
     (c .before .digit-of .result) (c .before .digit-of .ensures)))
 
 returns-4 : tie.Need-returns-4
 returns-4 c =
-    let a = c .before .before .before .before .before .before .args in
-    ap (numberIn (a .line .now)) (sym (front-other (a .line .now) (a .at) (omega arith) (λ z. omega (arith, c .before .before .if2 .left)) (sym (c .before .is-digit .ensures) ∙ c .if3 .left)))
+    let at-if2 = c .before .before in
+    let start = at-if2 .before .before .before .before in
+    let a = start .args in
+    ap (numberIn (a .line .now)) (sym (front-other (a .line .now) (a .at) (omega arith) (λ z. omega (arith, at-if2 .if2 .left)) (sym (c .before .is-digit .ensures) ∙ c .if3 .left)))
 
 pub number-at-spec : {M : Type 1} → statement M
 number-at-spec =

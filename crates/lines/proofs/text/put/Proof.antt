@@ -10,18 +10,25 @@ use Rattle.lines.proofs.text.put.Tie as tie
 
 put-bytes-requires : tie.Need-put-bytes-requires
 put-bytes-requires c κs =
-    let a = c .before .before .before .before .before .before .args in
-    leb-true (a .at + length (a .bytes .now)) (length (a .out .now)) (sym (c .before .before .has-room .ensures) ∙ c .before .if1 .taken)
+    let at-has-room = c .before .before in
+    let start = at-has-room .before .before .before .before in
+    let a = start .args in
+    leb-true (a .at + length (a .bytes .now)) (length (a .out .now)) (sym (at-has-room .has-room .ensures) ∙ c .before .if1 .taken)
 
 returns : tie.Need-returns
 returns c =
-    let a = c .before .before .before .before .before .before .before .before .before .args in
-    append-room (length (a .bytes .now)) (a .bytes .now) (a .out .now) (c .before .before .put-bytes .last .0) (a .at) (c .before .before .put-bytes .result)
-    (sym (c .before .before .before .before .before .has-room .ensures) ∙ c .before .before .before .before .if1 .taken) (c .before .before .put-bytes .ensures)
+    let at-put-bytes = c .before .before in
+    let at-if1 = at-put-bytes .before .before in
+    let at-has-room = at-if1 .before in
+    let start = at-has-room .before .before .before .before in
+    let a = start .args in
+    append-room (length (a .bytes .now)) (a .bytes .now) (a .out .now) (at-put-bytes .put-bytes .last .0) (a .at) (at-put-bytes .put-bytes .result)
+    (sym (at-has-room .has-room .ensures) ∙ at-if1 .if1 .taken) (at-put-bytes .put-bytes .ensures)
 
 returns-2 : tie.Need-returns-2
 returns-2 c =
-    let a = c .before .before .before .before .before .args in
+    let start = c .before .before .before .before .before in
+    let a = start .args in
     append-full (length (a .bytes .now)) (a .bytes .now) (a .out .now) (a .at) (sym (c .before .has-room .ensures) ∙ c .if1 .left)
 
 pub put-spec : {M : Type 1} → statement M

@@ -13,8 +13,10 @@ returns c =
 
 sub-result-2 : tie.Need-sub-result-2
 sub-result-2 c =
-    let s = c .before .before .before .before .args in
-    omega (arith, whole-pos 64 _ (c .before .before .before .if1 .left), mod-lt (s .b) (whole-some 64 (s .self .0)))
+    let at-if1 = c .before .before .before in
+    let start = at-if1 .before in
+    let s = start .args in
+    omega (arith, whole-pos 64 _ (at-if1 .if1 .left), mod-lt (s .b) (whole-some 64 (s .self .0)))
 
 returns-2 : tie.Need-returns-2
 returns-2 c =

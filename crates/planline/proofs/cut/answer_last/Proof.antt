@@ -13,35 +13,54 @@ use Rattle.planline.proofs.cut.answer_last.Tie as tie
 
 returns : tie.Need-returns
 returns c =
-    let a = c .before .before .before .before .before .args in
+    let start = c .before .before .before .before .before in
+    let a = start .args in
     last-unready lineText mostHeld longest (a .held) (a .line .now) (filled (a .at) (a .out .now)) (sym (c .before .is-ready .ensures) ∙ not-true _ (c .if1 .taken))
 
 returns-2 : tie.Need-returns-2
 returns-2 c =
-    let a = c .before .before .before .before .before .before .args in
-    last-none lineText mostHeld longest (a .held) (a .line .now) (filled (a .at) (a .out .now)) (sym (c .before .before .is-ready .ensures) ∙ not-false _ (c .before .if1 .left)) (c .if2 .taken)
+    let at-is-ready = c .before .before in
+    let start = at-is-ready .before .before .before .before in
+    let a = start .args in
+    last-none lineText mostHeld longest (a .held) (a .line .now) (filled (a .at) (a .out .now)) (sym (at-is-ready .is-ready .ensures) ∙ not-false _ (c .before .if1 .left)) (c .if2 .taken)
 
 slice-aggregate-append : tie.Need-slice-aggregate-append
 slice-aggregate-append c =
-    let a = c .before .before .before .before .before .before .before .before .args in
-    sym (length-take-le (a .held) (a .line .now) (omega (arith, ready-room mostHeld longest (a .line .now) (filled (a .at) (a .out .now)) (sym (c .before .before .before .before .is-ready .ensures) ∙ not-false _ (c .before .before .before .if1 .left)))))
+    let at-if1 = c .before .before .before in
+    let at-is-ready = at-if1 .before in
+    let start = at-is-ready .before .before .before .before in
+    let a = start .args in
+    sym (length-take-le (a .held) (a .line .now) (omega (arith, ready-room mostHeld longest (a .line .now) (filled (a .at) (a .out .now)) (sym (at-is-ready .is-ready .ensures) ∙ not-false _ (at-if1 .if1 .left)))))
 
 returns-3 : tie.Need-returns-3
 returns-3 c =
-    let a = c .before .before .before .before .before .before .before .before .before .before .before .before .args in
-    c .before .before .append .ensures
-    ∙ last-there lineText mostHeld longest (a .held) (a .line .now) (filled (a .at) (a .out .now)) (sym (c .before .before .before .before .before .before .before .before .is-ready .ensures) ∙ not-false _ (c .before .before .before .before .before .before .before .if1 .left)) (c .before .before .before .before .before .before .if2 .left) (a .held) (omega arith)
+    let at-append = c .before .before in
+    let at-if2 = at-append .before .before .before .before in
+    let at-if1 = at-if2 .before in
+    let at-is-ready = at-if1 .before in
+    let start = at-is-ready .before .before .before .before in
+    let a = start .args in
+    at-append .append .ensures
+    ∙ last-there lineText mostHeld longest (a .held) (a .line .now) (filled (a .at) (a .out .now)) (sym (at-is-ready .is-ready .ensures) ∙ not-false _ (at-if1 .if1 .left)) (at-if2 .if2 .left) (a .held) (omega arith)
 
 slice-aggregate-append-2 : tie.Need-slice-aggregate-append-2
 slice-aggregate-append-2 c =
-    let a = c .before .before .before .before .before .before .before .before .args in
-    sym (length-take-le mostHeld (a .line .now) (omega (arith, ready-room mostHeld longest (a .line .now) (filled (a .at) (a .out .now)) (sym (c .before .before .before .before .is-ready .ensures) ∙ not-false _ (c .before .before .before .if1 .left)))))
+    let at-if1 = c .before .before .before in
+    let at-is-ready = at-if1 .before in
+    let start = at-is-ready .before .before .before .before in
+    let a = start .args in
+    sym (length-take-le mostHeld (a .line .now) (omega (arith, ready-room mostHeld longest (a .line .now) (filled (a .at) (a .out .now)) (sym (at-is-ready .is-ready .ensures) ∙ not-false _ (at-if1 .if1 .left)))))
 
 returns-4 : tie.Need-returns-4
 returns-4 c =
-    let a = c .before .before .before .before .before .before .before .before .before .before .before .before .args in
-    c .before .before .append2 .ensures
-    ∙ last-there lineText mostHeld longest (a .held) (a .line .now) (filled (a .at) (a .out .now)) (sym (c .before .before .before .before .before .before .before .before .is-ready .ensures) ∙ not-false _ (c .before .before .before .before .before .before .before .if1 .left)) (c .before .before .before .before .before .before .if2 .left) mostHeld (omega arith)
+    let at-append2 = c .before .before in
+    let at-if2 = at-append2 .before .before .before .before in
+    let at-if1 = at-if2 .before in
+    let at-is-ready = at-if1 .before in
+    let start = at-is-ready .before .before .before .before in
+    let a = start .args in
+    at-append2 .append2 .ensures
+    ∙ last-there lineText mostHeld longest (a .held) (a .line .now) (filled (a .at) (a .out .now)) (sym (at-is-ready .is-ready .ensures) ∙ not-false _ (at-if1 .if1 .left)) (at-if2 .if2 .left) mostHeld (omega arith)
 
 pub answer-last-spec : {M : Type 1} → statement M
 answer-last-spec =

@@ -15,32 +15,47 @@ use Rattle.planline.proofs.cut.answer_next.Tie as tie
 
 returns : tie.Need-returns
 returns c =
-    let a = c .before .before .before .before .before .before .before .args in
+    let start = c .before .before .before .before .before .before .before in
+    let a = start .args in
     step-unready lineText mostHeld longest (filled (a .held) (a .line .now)) (a .from) (a .piece .now) (filled (a .at) (a .out .now)) (sym (c .before .is-ready .ensures) ∙ not-true _ (c .if1 .taken))
 
 slice-reshare-prefix-append : tie.Need-slice-reshare-prefix-append
 slice-reshare-prefix-append c =
-    let a = c .before .before .before .before .before .before .before .before .before .before .before .before .args in
-    omega (arith, took-within mostHeld (a .held) (a .from) (a .line .now) (a .piece .now) (c .before .before .before .take-line .ensures))
+    let at-take-line = c .before .before .before in
+    let start = at-take-line .before .before .before .before .before .before .before .before .before in
+    let a = start .args in
+    omega (arith, took-within mostHeld (a .held) (a .from) (a .line .now) (a .piece .now) (at-take-line .take-line .ensures))
 
 slice-aggregate-append : tie.Need-slice-aggregate-append
 slice-aggregate-append c =
-    let a = c .before .before .before .before .before .before .before .before .before .before .before .before .before .args in
-    let t = c .before .before .before .before .take-line in
+    let at-take-line = c .before .before .before .before in
+    let start = at-take-line .before .before .before .before .before .before .before .before .before in
+    let a = start .args in
+    let t = at-take-line .take-line in
     sym (length-take-le (t .result .held) (t .last .0) (omega (arith, took-within mostHeld (a .held) (a .from) (a .line .now) (a .piece .now) (t .ensures))))
 
 returns-2 : tie.Need-returns-2
 returns-2 c =
-    let a = c .before .before .before .before .before .before .before .before .before .before .before .before .before .before .before .before .before .args in
-    let t = c .before .before .before .before .before .before .before .before .take-line in
-    ap (λ (o : Filled). step (filled 0 (t .last .0)) (t .result .next) o) (c .before .before .append .ensures)
-    ∙ step-whole lineText mostHeld longest (filled (a .held) (a .line .now)) (a .from) (a .piece .now) (filled (a .at) (a .out .now)) (sym (c .before .before .before .before .before .before .before .before .before .before .before .is-ready .ensures) ∙ not-false _ (c .before .before .before .before .before .before .before .before .before .before .if1 .left)) (t .ensures) (c .before .before .before .before .before .if2 .taken)
+    let at-append = c .before .before in
+    let at-if2 = at-append .before .before .before in
+    let at-take-line = at-if2 .before .before .before in
+    let at-if1 = at-take-line .before .before in
+    let at-is-ready = at-if1 .before in
+    let start = at-is-ready .before .before .before .before .before .before in
+    let a = start .args in
+    let t = at-take-line .take-line in
+    ap (λ (o : Filled). step (filled 0 (t .last .0)) (t .result .next) o) (at-append .append .ensures)
+    ∙ step-whole lineText mostHeld longest (filled (a .held) (a .line .now)) (a .from) (a .piece .now) (filled (a .at) (a .out .now)) (sym (at-is-ready .is-ready .ensures) ∙ not-false _ (at-if1 .if1 .left)) (t .ensures) (at-if2 .if2 .taken)
 
 returns-3 : tie.Need-returns-3
 returns-3 c =
-    let a = c .before .before .before .before .before .before .before .before .before .before .before .before .args in
-    let t = c .before .before .before .take-line in
-    step-part lineText mostHeld longest (filled (a .held) (a .line .now)) (a .from) (a .piece .now) (filled (a .at) (a .out .now)) (sym (c .before .before .before .before .before .before .is-ready .ensures) ∙ not-false _ (c .before .before .before .before .before .if1 .left)) (t .ensures) (c .if2 .left)
+    let at-take-line = c .before .before .before in
+    let at-if1 = at-take-line .before .before in
+    let at-is-ready = at-if1 .before in
+    let start = at-is-ready .before .before .before .before .before .before in
+    let a = start .args in
+    let t = at-take-line .take-line in
+    step-part lineText mostHeld longest (filled (a .held) (a .line .now)) (a .from) (a .piece .now) (filled (a .at) (a .out .now)) (sym (at-is-ready .is-ready .ensures) ∙ not-false _ (at-if1 .if1 .left)) (t .ensures) (c .if2 .left)
 
 pub answer-next-spec : {M : Type 1} → statement M
 answer-next-spec =

@@ -13,7 +13,9 @@ returns : tie.Need-returns
 returns c = ready-short mostHeld longest (c .before .before .before .args .line .now) (filled (c .before .before .before .args .at) (c .before .before .before .args .out .now)) (omega arith)
 
 returns-2 : tie.Need-returns-2
-returns-2 c = c .has-room .ensures ∙ ready-long mostHeld longest (c .before .before .before .before .args .line .now) (filled (c .before .before .before .before .args .at) (c .before .before .before .before .args .out .now)) (omega arith)
+returns-2 c =
+    let start = c .before .before .before .before in
+    c .has-room .ensures ∙ ready-long mostHeld longest (start .args .line .now) (filled (start .args .at) (start .args .out .now)) (omega arith)
 
 pub is-ready-spec : {M : Type 1} → statement M
 is-ready-spec = tie.close (tie.spec returns (search needs) returns-2)

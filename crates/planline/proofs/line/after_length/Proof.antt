@@ -7,10 +7,17 @@ use Rattle.planline.proofs.line.after_length.Statement.{statement}
 use Rattle.planline.proofs.line.after_length.Tie as tie
 
 returns : tie.Need-returns
-returns c = c .after-written .ensures ∙ ap (withWritten (c .before .before .before .before .before .before .args .buf-len)) (front-is (c .before .before .before .before .before .before .args .line .now) (c .before .before .n .given .1) (c .before .before .before .before .spaced .ensures))
+returns c =
+    let at-n = c .before .before in
+    let at-spaced = at-n .before .before in
+    let start = at-spaced .before .before in
+    c .after-written .ensures ∙ ap (withWritten (start .args .buf-len)) (front-is (start .args .line .now) (at-n .n .given .1) (at-spaced .spaced .ensures))
 
 returns-2 : tie.Need-returns-2
-returns-2 c = ap (withWritten (c .before .before .before .before .args .buf-len)) (front-is (c .before .before .before .before .args .line .now) (c .enum-told .given .1) (c .before .before .spaced .ensures))
+returns-2 c =
+    let at-spaced = c .before .before in
+    let start = at-spaced .before .before in
+    ap (withWritten (start .args .buf-len)) (front-is (start .args .line .now) (c .enum-told .given .1) (at-spaced .spaced .ensures))
 
 pub after-length-spec : {M : Type 1} → statement M
 after-length-spec = tie.close (tie.spec (search needs) (search needs) (search needs) (search needs) returns returns-2)

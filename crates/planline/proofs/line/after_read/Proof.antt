@@ -9,24 +9,37 @@ use Rattle.planline.proofs.line.after_read.Statement.{statement}
 use Rattle.planline.proofs.line.after_read.Tie as tie
 
 add-last : tie.Need-add-last
-add-last c = record { fits = omega (arith, kind-room (c .before .before .before .before .before .args .line .now) (c .before .before .before .before .before .args .at) (c .before .typ .given .0 .0) (sym (c .before .typ .given .1) ∙ c .before .before .before .kind-at .ensures)) }
+add-last c =
+    let at-kind-at = c .before .before .before in
+    let start = at-kind-at .before .before in
+    record { fits = omega (arith, kind-room (start .args .line .now) (start .args .at) (c .before .typ .given .0 .0) (sym (c .before .typ .given .1) ∙ at-kind-at .kind-at .ensures)) }
 
 returns : tie.Need-returns
 returns c =
-    let a = c .before .before .before .before .before .before .before .before .before .args in
-    amount-there (a .buf-len) (a .written) (a .read) (sym (c .before .before .before .before .before .typ .given .1) ∙ c .before .before .before .before .before .before .before .kind-at .ensures)
-    (front-is (a .line .now) (c .before .n .given .1) (c .before .before .before .last .ensures) ∙ last-behind (a .line .now) (a .at))
+    let at-last = c .before .before .before in
+    let at-typ = at-last .before .before in
+    let at-kind-at = at-typ .before .before in
+    let start = at-kind-at .before .before in
+    let a = start .args in
+    amount-there (a .buf-len) (a .written) (a .read) (sym (at-typ .typ .given .1) ∙ at-kind-at .kind-at .ensures)
+    (front-is (a .line .now) (c .before .n .given .1) (at-last .last .ensures) ∙ last-behind (a .line .now) (a .at))
 
 returns-2 : tie.Need-returns-2
 returns-2 c =
-    let a = c .before .before .before .before .before .before .before .before .args in
-    amount-none (a .buf-len) (a .written) (a .read) (sym (c .before .before .before .before .typ .given .1) ∙ c .before .before .before .before .before .before .kind-at .ensures)
-    (front-is (a .line .now) (c .enum-told .given .1) (c .before .before .last .ensures) ∙ last-behind (a .line .now) (a .at))
+    let at-last = c .before .before in
+    let at-typ = at-last .before .before in
+    let at-kind-at = at-typ .before .before in
+    let start = at-kind-at .before .before in
+    let a = start .args in
+    amount-none (a .buf-len) (a .written) (a .read) (sym (at-typ .typ .given .1) ∙ at-kind-at .kind-at .ensures)
+    (front-is (a .line .now) (c .enum-told .given .1) (at-last .last .ensures) ∙ last-behind (a .line .now) (a .at))
 
 returns-3 : tie.Need-returns-3
 returns-3 c =
-    let a = c .before .before .before .before .args in
-    kind-none (a .buf-len) (a .written) (a .read) (lastFront (drop 2 (drop (a .at) (a .line .now)))) (sym (c .enum-told2 .given .1) ∙ c .before .before .kind-at .ensures)
+    let at-kind-at = c .before .before in
+    let start = at-kind-at .before .before in
+    let a = start .args in
+    kind-none (a .buf-len) (a .written) (a .read) (lastFront (drop 2 (drop (a .at) (a .line .now)))) (sym (c .enum-told2 .given .1) ∙ at-kind-at .kind-at .ensures)
 
 pub after-read-spec : {M : Type 1} → statement M
 after-read-spec =

@@ -7,10 +7,17 @@ use Rattle.planline.proofs.line.after_written.Statement.{statement}
 use Rattle.planline.proofs.line.after_written.Tie as tie
 
 returns : tie.Need-returns
-returns c = c .after-read .ensures ∙ ap (withRead (c .before .before .before .before .before .before .args .buf-len) (c .before .before .before .before .before .before .args .written)) (front-is (c .before .before .before .before .before .before .args .line .now) (c .before .before .n .given .1) (c .before .before .before .before .spaced .ensures))
+returns c =
+    let at-n = c .before .before in
+    let at-spaced = at-n .before .before in
+    let start = at-spaced .before .before in
+    c .after-read .ensures ∙ ap (withRead (start .args .buf-len) (start .args .written)) (front-is (start .args .line .now) (at-n .n .given .1) (at-spaced .spaced .ensures))
 
 returns-2 : tie.Need-returns-2
-returns-2 c = ap (withRead (c .before .before .before .before .args .buf-len) (c .before .before .before .before .args .written)) (front-is (c .before .before .before .before .args .line .now) (c .enum-told .given .1) (c .before .before .spaced .ensures))
+returns-2 c =
+    let at-spaced = c .before .before in
+    let start = at-spaced .before .before in
+    ap (withRead (start .args .buf-len) (start .args .written)) (front-is (start .args .line .now) (c .enum-told .given .1) (at-spaced .spaced .ensures))
 
 pub after-written-spec : {M : Type 1} → statement M
 after-written-spec = tie.close (tie.spec (search needs) (search needs) (search needs) (search needs) returns returns-2)

@@ -13,10 +13,15 @@ returns-2 : tie.Need-returns-2
 returns-2 c = sym (kind-alone (c .before .before .before .args .line .now) (c .before .before .before .args .at) (omega arith) (omega arith))
 
 returns-3 : tie.Need-returns-3
-returns-3 c = c .kind-of .ensures ∙ sym (kind-there (c .before .before .before .before .before .before .before .args .line .now) (c .before .before .before .before .before .before .before .args .at) (omega arith) (c .before .before .if3 .taken))
+returns-3 c =
+    let at-if3 = c .before .before in
+    let start = at-if3 .before .before .before .before .before in
+    c .kind-of .ensures ∙ sym (kind-there (start .args .line .now) (start .args .at) (omega arith) (at-if3 .if3 .taken))
 
 returns-4 : tie.Need-returns-4
-returns-4 c = sym (kind-other (c .before .before .before .before .before .args .line .now) (c .before .before .before .before .before .args .at) (omega arith) (c .if3 .left))
+returns-4 c =
+    let start = c .before .before .before .before .before in
+    sym (kind-other (start .args .line .now) (start .args .at) (omega arith) (c .if3 .left))
 
 pub kind-at-spec : {M : Type 1} → statement M
 kind-at-spec = tie.close (tie.spec returns (search needs) returns-2 (search needs) (search needs) (search needs) returns-3 returns-4)

@@ -10,16 +10,25 @@ use Rattle.planline.proofs.line.last.Tie as tie
 
 returns : tie.Need-returns
 returns c =
-    sym (end-other (c .before .before .before .before .before .before .args .line .now) (c .before .before .n .given .0 .1 .0) (c .before .before .n .given .0 .0) (omega arith))
-    ∙ ap atEnd (front-is (c .before .before .before .before .before .before .args .line .now) (c .before .before .n .given .1) (front-at (c .before .before .before .before .before .before .args .line .now) (c .before .before .before .before .before .before .args .at) (c .before .before .before .before .number-at .ensures)))
+    let at-n = c .before .before in
+    let at-number-at = at-n .before .before in
+    let start = at-number-at .before .before in
+    sym (end-other (start .args .line .now) (at-n .n .given .0 .1 .0) (at-n .n .given .0 .0) (omega arith))
+    ∙ ap atEnd (front-is (start .args .line .now) (at-n .n .given .1) (front-at (start .args .line .now) (start .args .at) (at-number-at .number-at .ensures)))
 
 returns-2 : tie.Need-returns-2
 returns-2 c =
-    sym (end-there (c .before .before .before .before .before .before .args .line .now) (c .before .before .n .given .0 .1 .0) (c .before .before .n .given .0 .0) (omega arith))
-    ∙ ap atEnd (front-is (c .before .before .before .before .before .before .args .line .now) (c .before .before .n .given .1) (front-at (c .before .before .before .before .before .before .args .line .now) (c .before .before .before .before .before .before .args .at) (c .before .before .before .before .number-at .ensures)))
+    let at-n = c .before .before in
+    let at-number-at = at-n .before .before in
+    let start = at-number-at .before .before in
+    sym (end-there (start .args .line .now) (at-n .n .given .0 .1 .0) (at-n .n .given .0 .0) (omega arith))
+    ∙ ap atEnd (front-is (start .args .line .now) (at-n .n .given .1) (front-at (start .args .line .now) (start .args .at) (at-number-at .number-at .ensures)))
 
 returns-3 : tie.Need-returns-3
-returns-3 c = ap atEnd (front-is (c .before .before .before .before .args .line .now) (c .enum-told .given .1) (front-at (c .before .before .before .before .args .line .now) (c .before .before .before .before .args .at) (c .before .before .number-at .ensures)))
+returns-3 c =
+    let at-number-at = c .before .before in
+    let start = at-number-at .before .before in
+    ap atEnd (front-is (start .args .line .now) (c .enum-told .given .1) (front-at (start .args .line .now) (start .args .at) (at-number-at .number-at .ensures)))
 
 pub last-spec : {M : Type 1} → statement M
 last-spec = tie.close (tie.spec (search needs) (search needs) returns (search needs) returns-2 returns-3)

@@ -8,11 +8,18 @@ use Rattle.planline.proofs.line.parse.Tie as tie
 
 returns : tie.Need-returns
 unfolding parseOf
-returns c = c .after-length .ensures ∙ ap withLength (front-is (c .before .before .before .before .before .before .args .line .now) (c .before .before .n .given .1) (c .before .before .before .before .spaced .ensures))
+returns c =
+    let at-n = c .before .before in
+    let at-spaced = at-n .before .before in
+    let start = at-spaced .before .before in
+    c .after-length .ensures ∙ ap withLength (front-is (start .args .line .now) (at-n .n .given .1) (at-spaced .spaced .ensures))
 
 returns-2 : tie.Need-returns-2
 unfolding parseOf
-returns-2 c = ap withLength (front-is (c .before .before .before .before .args .line .now) (c .enum-told .given .1) (c .before .before .spaced .ensures))
+returns-2 c =
+    let at-spaced = c .before .before in
+    let start = at-spaced .before .before in
+    ap withLength (front-is (start .args .line .now) (c .enum-told .given .1) (at-spaced .spaced .ensures))
 
 pub parse-spec : {M : Type 1} → statement M
 parse-spec = tie.close (tie.spec (search needs) (search needs) (search needs) (search needs) returns returns-2)

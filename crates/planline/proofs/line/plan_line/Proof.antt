@@ -11,10 +11,17 @@ returns : tie.Need-returns
 returns c = plan-long (c .before .before .args .line .now) (omega arith)
 
 returns-2 : tie.Need-returns-2
-returns-2 c = c .plan-for .ensures ∙ ap planFrom (sym (c .before .before .asked .given .1) ∙ c .before .before .before .before .parse .ensures) ∙ plan-short (c .before .before .before .before .before .before .before .args .line .now) (omega arith)
+returns-2 c =
+    let at-asked = c .before .before in
+    let at-parse = at-asked .before .before in
+    let start = at-parse .before .before .before in
+    c .plan-for .ensures ∙ ap planFrom (sym (at-asked .asked .given .1) ∙ at-parse .parse .ensures) ∙ plan-short (start .args .line .now) (omega arith)
 
 returns-3 : tie.Need-returns-3
-returns-3 c = ap planFrom (sym (c .enum-told .given .1) ∙ c .before .before .parse .ensures) ∙ plan-short (c .before .before .before .before .before .args .line .now) (omega arith)
+returns-3 c =
+    let at-parse = c .before .before in
+    let start = at-parse .before .before .before in
+    ap planFrom (sym (c .enum-told .given .1) ∙ at-parse .parse .ensures) ∙ plan-short (start .args .line .now) (omega arith)
 
 pub plan-line-spec : {M : Type 1} → statement M
 plan-line-spec = tie.close (tie.spec returns (search needs) (search needs) (search needs) (search needs) returns-2 returns-3)

@@ -10,21 +10,33 @@ use Rattle.planline.proofs.line.spaced.Tie as tie
 
 returns : tie.Need-returns
 returns c =
-    let n = c .before .before .before .before .n .given in
-    sym (space-there (c .before .before .before .before .before .before .before .before .args .line .now) (n .0 .1 .0) (n .0 .0) (omega arith) (c .if2 .taken)) ∙ ap afterSpace (front-is (c .before .before .before .before .before .before .before .before .args .line .now) (n .1) (front-at (c .before .before .before .before .before .before .before .before .args .line .now) (c .before .before .before .before .before .before .before .before .args .at) (c .before .before .before .before .before .before .number-at .ensures)))
+    let at-n = c .before .before .before .before in
+    let at-number-at = at-n .before .before in
+    let start = at-number-at .before .before in
+    let n = at-n .n .given in
+    sym (space-there (start .args .line .now) (n .0 .1 .0) (n .0 .0) (omega arith) (c .if2 .taken)) ∙ ap afterSpace (front-is (start .args .line .now) (n .1) (front-at (start .args .line .now) (start .args .at) (at-number-at .number-at .ensures)))
 
 returns-2 : tie.Need-returns-2
 returns-2 c =
-    let n = c .before .before .before .before .n .given in
-    sym (space-other (c .before .before .before .before .before .before .before .before .args .line .now) (n .0 .1 .0) (n .0 .0) (omega arith) (c .if2 .left)) ∙ ap afterSpace (front-is (c .before .before .before .before .before .before .before .before .args .line .now) (n .1) (front-at (c .before .before .before .before .before .before .before .before .args .line .now) (c .before .before .before .before .before .before .before .before .args .at) (c .before .before .before .before .before .before .number-at .ensures)))
+    let at-n = c .before .before .before .before in
+    let at-number-at = at-n .before .before in
+    let start = at-number-at .before .before in
+    let n = at-n .n .given in
+    sym (space-other (start .args .line .now) (n .0 .1 .0) (n .0 .0) (omega arith) (c .if2 .left)) ∙ ap afterSpace (front-is (start .args .line .now) (n .1) (front-at (start .args .line .now) (start .args .at) (at-number-at .number-at .ensures)))
 
 returns-3 : tie.Need-returns-3
 returns-3 c =
-    let n = c .before .before .n .given in
-    sym (space-end (c .before .before .before .before .before .before .args .line .now) (n .0 .1 .0) (n .0 .0) (omega arith)) ∙ ap afterSpace (front-is (c .before .before .before .before .before .before .args .line .now) (n .1) (front-at (c .before .before .before .before .before .before .args .line .now) (c .before .before .before .before .before .before .args .at) (c .before .before .before .before .number-at .ensures)))
+    let at-n = c .before .before in
+    let at-number-at = at-n .before .before in
+    let start = at-number-at .before .before in
+    let n = at-n .n .given in
+    sym (space-end (start .args .line .now) (n .0 .1 .0) (n .0 .0) (omega arith)) ∙ ap afterSpace (front-is (start .args .line .now) (n .1) (front-at (start .args .line .now) (start .args .at) (at-number-at .number-at .ensures)))
 
 returns-4 : tie.Need-returns-4
-returns-4 c = ap afterSpace (front-is (c .before .before .before .before .args .line .now) (c .enum-told .given .1) (front-at (c .before .before .before .before .args .line .now) (c .before .before .before .before .args .at) (c .before .before .number-at .ensures)))
+returns-4 c =
+    let at-number-at = c .before .before in
+    let start = at-number-at .before .before in
+    ap afterSpace (front-is (start .args .line .now) (c .enum-told .given .1) (front-at (start .args .line .now) (start .args .at) (at-number-at .number-at .ensures)))
 
 pub spaced-spec : {M : Type 1} → statement M
 spaced-spec =

@@ -17,16 +17,22 @@ use Rattle.planline.proofs.text.append.Tie as tie
 
 returns : tie.Need-returns
 returns c =
-    let a = c .before .before .before .before .before .before .before .before .before .before .args in
-    let plan = c .before .before .before .plan-line in
-    let room : hasRoom longest (filled (a .at) (a .out .now)) ≡ true = sym (c .before .before .before .before .before .before .has-room .ensures) ∙ c .before .before .before .before .before .if1 .taken in
-    append-room longest (planText (plan .result)) (a .out .now) (c .before .before .put-plan .last .0) (a .at) (c .before .before .put-plan .result) room
-    (c .before .before .put-plan .ensures (omega (arith, leb-true (a .at + longest) (length (a .out .now)) room, plan-text-short (plan .result))))
+    let at-put-plan = c .before .before in
+    let at-plan-line = at-put-plan .before in
+    let at-if1 = at-plan-line .before .before in
+    let at-has-room = at-if1 .before in
+    let start = at-has-room .before .before .before .before in
+    let a = start .args in
+    let plan = at-plan-line .plan-line in
+    let room : hasRoom longest (filled (a .at) (a .out .now)) ≡ true = sym (at-has-room .has-room .ensures) ∙ at-if1 .if1 .taken in
+    append-room longest (planText (plan .result)) (a .out .now) (at-put-plan .put-plan .last .0) (a .at) (at-put-plan .put-plan .result) room
+    (at-put-plan .put-plan .ensures (omega (arith, leb-true (a .at + longest) (length (a .out .now)) room, plan-text-short (plan .result))))
     ∙ ap (λ (p : Plan). appendOf longest (planText p) (filled (a .at) (a .out .now))) (plan .ensures)
 
 returns-2 : tie.Need-returns-2
 returns-2 c =
-    let a = c .before .before .before .before .before .args in
+    let start = c .before .before .before .before .before in
+    let a = start .args in
     append-full longest (planText (planOf (a .line .now))) (a .out .now) (a .at) (sym (c .before .has-room .ensures) ∙ c .if1 .left)
 
 pub append-spec : {M : Type 1} → statement M

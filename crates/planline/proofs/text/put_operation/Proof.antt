@@ -10,9 +10,14 @@ use Rattle.planline.proofs.text.put_operation.Tie as tie
 returns : tie.Need-returns
 unfolding operationText
 returns c =
-    let op = c .before .before .before .before .before .before .before .before .before .before .before .before .before .before .before .before .before .before .before .args .op in
-    stores-then (stores-put (32 ∷ []) (c .before .before .before .before .before .before .before .before .before .before .before .before .before .before .before .put .ensures))
-    (stores-then (stores-put (decimal (op .off .0)) (c .before .before .before .before .before .before .before .before .before .before .before .put-decimal .ensures)) (stores-then (stores-put (32 ∷ []) (c .before .before .before .before .before .before .put2 .ensures)) (stores-put (decimal (op .len)) (c .before .before .put-decimal2 .ensures))))
+    let at-put-decimal2 = c .before .before in
+    let at-put2 = at-put-decimal2 .before .before .before .before in
+    let at-put-decimal = at-put2 .before .before .before .before .before in
+    let at-put = at-put-decimal .before .before .before .before in
+    let start = at-put .before .before .before .before in
+    let op = start .args .op in
+    stores-then (stores-put (32 ∷ []) (at-put .put .ensures))
+    (stores-then (stores-put (decimal (op .off .0)) (at-put-decimal .put-decimal .ensures)) (stores-then (stores-put (32 ∷ []) (at-put2 .put2 .ensures)) (stores-put (decimal (op .len)) (at-put-decimal2 .put-decimal2 .ensures))))
 
 pub put-operation-spec : {M : Type 1} → statement M
 put-operation-spec =

@@ -9,15 +9,28 @@ use Rattle.planline.proofs.text.put_plan.Tie as tie
 
 returns : tie.Need-returns
 unfolding planText
-returns c = rw (c .before .before .before .before .before .enum-told .given .1) (stores-put _ (c .before .before .put .ensures))
+returns c =
+    let at-put = c .before .before in
+    let at-enum-told = at-put .before .before .before in
+    rw (at-enum-told .enum-told .given .1) (stores-put _ (at-put .put .ensures))
 
 returns-2 : tie.Need-returns-2
 unfolding planText
-returns-2 c = rw (c .before .before .before .before .before .before .before .before .before .before .before .before .before .before .before .plan .given .1) (stores-then (stores-put (114 ∷ 101 ∷ 102 ∷ 117 ∷ 115 ∷ 101 ∷ 100 ∷ 32 ∷ []) (c .before .before .before .before .before .before .before .before .before .before .before .put2 .ensures)) (stores-then (stores-put (decimal (c .before .before .before .before .before .before .before .before .before .before .before .before .before .before .before .plan .given .0 .0)) (c .before .before .before .before .before .before .before .put-decimal .ensures)) (stores-put (10 ∷ []) (c .before .before .put3 .ensures))))
+returns-2 c =
+    let at-put3 = c .before .before in
+    let at-put-decimal = at-put3 .before .before .before .before .before in
+    let at-put2 = at-put-decimal .before .before .before .before in
+    let at-plan = at-put2 .before .before .before .before in
+    rw (at-plan .plan .given .1) (stores-then (stores-put (114 ∷ 101 ∷ 102 ∷ 117 ∷ 115 ∷ 101 ∷ 100 ∷ 32 ∷ []) (at-put2 .put2 .ensures)) (stores-then (stores-put (decimal (at-plan .plan .given .0 .0)) (at-put-decimal .put-decimal .ensures)) (stores-put (10 ∷ []) (at-put3 .put3 .ensures))))
 
 returns-3 : tie.Need-returns-3
 unfolding planText
-returns-3 c = rw (c .before .before .before .before .before .before .before .before .before .before .before .before .before .before .before .plan2 .given .1) (stores-then (stores-put (111 ∷ 107 ∷ 32 ∷ []) (c .before .before .before .before .before .before .before .before .before .before .before .put4 .ensures)) (stores-then (c .before .before .before .before .before .before .before .put-list .ensures) (stores-put (10 ∷ []) (c .before .before .put5 .ensures))))
+returns-3 c =
+    let at-put5 = c .before .before in
+    let at-put-list = at-put5 .before .before .before .before .before in
+    let at-put4 = at-put-list .before .before .before .before in
+    let at-plan2 = at-put4 .before .before .before .before in
+    rw (at-plan2 .plan2 .given .1) (stores-then (stores-put (111 ∷ 107 ∷ 32 ∷ []) (at-put4 .put4 .ensures)) (stores-then (at-put-list .put-list .ensures) (stores-put (10 ∷ []) (at-put5 .put5 .ensures))))
 
 pub put-plan-spec : {M : Type 1} → statement M
 put-plan-spec =

@@ -8,10 +8,16 @@ returns : tie.Need-returns
 returns c = rw (c .before .before .memory .given .1, c .demand-ring-memory .ensures)
 
 returns-2 : tie.Need-returns-2
-returns-2 c = rw (c .before .before .before .before .enum-told .given .1, ← (sym (c .before .s .given .1) ∙ c .before .before .before .demand-soundness .ensures))
+returns-2 c =
+    let at-demand-soundness = c .before .before .before in
+    let at-enum-told = at-demand-soundness .before in
+    rw (at-enum-told .enum-told .given .1, ← (sym (c .before .s .given .1) ∙ at-demand-soundness .demand-soundness .ensures))
 
 returns-3 : tie.Need-returns-3
-returns-3 c = rw (c .before .before .before .before .enum-told .given .1, ← (sym (c .before .e .given .1) ∙ c .before .before .before .demand-soundness .ensures))
+returns-3 c =
+    let at-demand-soundness = c .before .before .before in
+    let at-enum-told = at-demand-soundness .before in
+    rw (at-enum-told .enum-told .given .1, ← (sym (c .before .e .given .1) ∙ at-demand-soundness .demand-soundness .ensures))
 
 pub ready-with-spec : {M : Type 1} → statement M
 ready-with-spec =

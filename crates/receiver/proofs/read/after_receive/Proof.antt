@@ -6,10 +6,15 @@ use Rattle.receiver.proofs.read.after_receive.Statement.{statement}
 use Rattle.receiver.proofs.read.after_receive.Tie as tie
 
 recv-chunk-announcement-requires : tie.Need-recv-chunk-announcement-requires
-recv-chunk-announcement-requires c κs = (c .before .before .before .before .before .pre .0 .sound, byte-sized _ _ _ _ _ (c .before .received .given .1) (c .before .before .before .before .before .pre .1))
+recv-chunk-announcement-requires c κs =
+    let start = c .before .before .before .before .before in
+    (start .pre .0 .sound, byte-sized _ _ _ _ _ (c .before .received .given .1) (start .pre .1))
 
 after-announcement-requires : tie.Need-after-announcement-requires
-after-announcement-requires c κs = byte-announces (c .before .before .before .before .before .before .args .receiver) _ (c .before .before .before .before .before .before .pre .0 .sound) (c .before .before .before .before .before .before .pre .0 .counted) (c .before .before .received .given .0 .1 .0) (now (c .before .before .before .before .before .before .args .ring)) (c .before .before .received .given .0 .0) _ (c .recv-chunk-announcement .ensures)
+after-announcement-requires c κs =
+    let at-received = c .before .before in
+    let start = at-received .before .before .before .before in
+    byte-announces (start .args .receiver) _ (start .pre .0 .sound) (start .pre .0 .counted) (at-received .received .given .0 .1 .0) (now (start .args .ring)) (at-received .received .given .0 .0) _ (c .recv-chunk-announcement .ensures)
 
 returns : tie.Need-returns
 returns c = rw (c .before .before .before .received .given .1, c .after-announcement .ensures, c .before .recv-chunk-announcement .ensures)

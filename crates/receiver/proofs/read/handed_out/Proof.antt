@@ -12,7 +12,12 @@ max-operation-len-requires : tie.Need-max-operation-len-requires
 max-operation-len-requires c κs = c .before .pre .0
 
 returns : tie.Need-returns
-returns c = c .with-pending .ensures ∙ ap (λ (x : ReceiverState). withPending x ((c .before .before .before .before .before .args .q) .«pending_ack_count» + 1)) (c .before .before .before .before .with-scheduler .ensures) ∙ handed-last (c .before .before .before .before .before .args .q) (c .before .before .before .before .before .args .scheduler) (sym (c .before .before .before .max-operation-len .ensures) ∙ c .before .before .if1 .taken)
+returns c =
+    let at-if1 = c .before .before in
+    let at-max-operation-len = at-if1 .before in
+    let at-with-scheduler = at-max-operation-len .before in
+    let start = at-with-scheduler .before in
+    c .with-pending .ensures ∙ ap (λ (x : ReceiverState). withPending x ((start .args .q) .«pending_ack_count» + 1)) (at-with-scheduler .with-scheduler .ensures) ∙ handed-last (start .args .q) (start .args .scheduler) (sym (at-max-operation-len .max-operation-len .ensures) ∙ at-if1 .if1 .taken)
 
 returns-2 : tie.Need-returns-2
 returns-2 c = c .before .before .with-scheduler .ensures ∙ handed-on (c .before .before .before .args .q) (c .before .before .before .args .scheduler) (λ z. c .if1 .left (c .before .max-operation-len .ensures ∙ z))

@@ -13,7 +13,10 @@ returns-2 : tie.Need-returns-2
 returns-2 c = c .read-live2 .ensures ∙ read-by _ _ _ _ (c .before .enum-told2 .given .1)
 
 returns-3 : tie.Need-returns-3
-returns-3 c = ap Of (rw (c .finish .ensures, c .before .dropping .ensures, c .before .before .failed .ensures)) ∙ read-by _ _ _ _ (c .before .before .before .before .state .given .1)
+returns-3 c =
+    let at-failed = c .before .before in
+    let at-state = at-failed .before .before in
+    ap Of (rw (c .finish .ensures, c .before .dropping .ensures, at-failed .failed .ensures)) ∙ read-by _ _ _ _ (at-state .state .given .1)
 
 pub read-spec : {M : Type 1} → statement M
 read-spec =

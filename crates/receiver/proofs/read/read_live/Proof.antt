@@ -12,10 +12,19 @@ returns-2 : tie.Need-returns-2
 returns-2 c = rw (ne-eqb _ _ (c .before .before .if1 .left), eq-eqb _ _ (c .if2 .taken))
 
 returns-3 : tie.Need-returns-3
-returns-3 c = rw (ne-eqb _ _ (c .before .before .before .before .if1 .left), ne-eqb _ _ (c .before .before .if2 .left), no-data (c .before .before .before .before .before .before .args .receiver .scheduler) _ (c .before .max-operation-len .ensures) (c .if3 .taken))
+returns-3 c =
+    let at-if2 = c .before .before in
+    let at-if1 = at-if2 .before .before in
+    let start = at-if1 .before .before in
+    rw (ne-eqb _ _ (at-if1 .if1 .left), ne-eqb _ _ (at-if2 .if2 .left), no-data (start .args .receiver .scheduler) _ (c .before .max-operation-len .ensures) (c .if3 .taken))
 
 returns-4 : tie.Need-returns-4
-returns-4 c = rw (ne-eqb _ _ (c .before .before .before .before .before .if1 .left), ne-eqb _ _ (c .before .before .before .if2 .left), some-data (c .before .before .before .before .before .before .before .args .receiver .scheduler) _ (c .before .before .max-operation-len .ensures) (c .before .if3 .left), c .read-chunk-bytes .ensures)
+returns-4 c =
+    let at-max-operation-len = c .before .before in
+    let at-if2 = at-max-operation-len .before in
+    let at-if1 = at-if2 .before .before in
+    let start = at-if1 .before .before in
+    rw (ne-eqb _ _ (at-if1 .if1 .left), ne-eqb _ _ (at-if2 .if2 .left), some-data (start .args .receiver .scheduler) _ (at-max-operation-len .max-operation-len .ensures) (c .before .if3 .left), c .read-chunk-bytes .ensures)
 
 pub read-live-spec : {M : Type 1} → statement M
 read-live-spec =

@@ -6,7 +6,10 @@ use Rattle.receiver.proofs.sound.max_operation_len.Statement.{statement
 use Rattle.receiver.proofs.sound.max_operation_len.Tie as tie
 
 returns : tie.Need-returns
-returns c = greatest-is _ (c .before .before .before .before .pre) _ _ (sym (c .before .n .given .1) ∙ c .before .before .before .max-operation-len .ensures)
+returns c =
+    let at-max-operation-len = c .before .before .before in
+    let start = at-max-operation-len .before in
+    greatest-is _ (start .pre) _ _ (sym (c .before .n .given .1) ∙ at-max-operation-len .max-operation-len .ensures)
 
 returns-2 : tie.Need-returns-2
 returns-2 c = absurd (greatest-told _ (c .before .before .before .pre) _ _ (sym (c .enum-told .given .1) ∙ c .before .before .max-operation-len .ensures))

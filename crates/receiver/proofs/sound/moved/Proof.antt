@@ -6,7 +6,10 @@ use Rattle.receiver.proofs.sound.moved.Statement.{statement}
 use Rattle.receiver.proofs.sound.moved.Tie as tie
 
 returns : tie.Need-returns
-returns c = move-is _ (c .before .before .before .before .pre) _ _ _ (sym (c .before .m .given .1) ∙ c .before .before .before .schedule-and-register .ensures)
+returns c =
+    let at-schedule-and-register = c .before .before .before in
+    let start = at-schedule-and-register .before in
+    move-is _ (start .pre) _ _ _ (sym (c .before .m .given .1) ∙ at-schedule-and-register .schedule-and-register .ensures)
 
 returns-2 : tie.Need-returns-2
 returns-2 c = absurd (move-told _ (c .before .before .before .pre) _ _ _ (sym (c .enum-told .given .1) ∙ c .before .before .schedule-and-register .ensures))

@@ -6,7 +6,10 @@ use Rattle.stripring.proofs.copy.stripring_copies_read.Statement.{state
 use Rattle.stripring.proofs.copy.stripring_copies_read.Tie as tie
 
 returns : tie.Need-returns
-returns c = rw (c .flat-copied .ensures) (ap flatLeft (rw (c .before .before .before .before .before .scheduler .ensures) at (c .before .before .before .read .ensures)))
+returns c =
+    let at-read = c .before .before .before in
+    let at-scheduler = at-read .before .before in
+    rw (c .flat-copied .ensures) (ap flatLeft (rw (at-scheduler .scheduler .ensures) at (at-read .read .ensures)))
 
 pub stripring-copies-read-spec : {M : Type 1} → statement M
 stripring-copies-read-spec = tie.close (tie.spec (search needs) (search needs) (search needs) (search needs) returns)

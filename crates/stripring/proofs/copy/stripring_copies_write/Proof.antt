@@ -6,7 +6,10 @@ use Rattle.stripring.proofs.copy.stripring_copies_write.Statement.{stat
 use Rattle.stripring.proofs.copy.stripring_copies_write.Tie as tie
 
 returns : tie.Need-returns
-returns c = rw (c .flat-copied .ensures) (ap flatLeft (rw (c .before .before .before .before .before .scheduler .ensures) at (c .before .before .before .write .ensures)))
+returns c =
+    let at-write = c .before .before .before in
+    let at-scheduler = at-write .before .before in
+    rw (c .flat-copied .ensures) (ap flatLeft (rw (at-scheduler .scheduler .ensures) at (at-write .write .ensures)))
 
 pub stripring-copies-write-spec : {M : Type 1} → statement M
 stripring-copies-write-spec = tie.close (tie.spec (search needs) (search needs) (search needs) (search needs) returns)

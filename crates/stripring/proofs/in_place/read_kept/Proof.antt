@@ -6,7 +6,8 @@ use Rattle.stripring.proofs.in_place.read_kept.Tie as tie
 
 returns : tie.Need-returns
 returns c =
-    let at-read = c .before .before .before in
+    let at-before = c .before .before in
+    let at-read = at-before .before in
     let s = at-read .before .before .before .before .before .args in
     kept-reader (s .end) (s .ring .now) (s .dst .now) _ _ _ _ _ (at-read .before .before .reading-end .ensures) (at-read .read .ensures) (c .keep-reader .ensures)
 

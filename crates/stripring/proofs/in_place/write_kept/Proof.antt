@@ -6,7 +6,8 @@ use Rattle.stripring.proofs.in_place.write_kept.Tie as tie
 
 returns : tie.Need-returns
 returns c =
-    let at-write = c .before .before .before in
+    let at-before = c .before .before in
+    let at-write = at-before .before in
     let s = at-write .before .before .before .before .before .args in
     kept-writer (s .end) (s .ring .now) (s .src .now) _ _ _ _ _ (at-write .before .before .writing-end .ensures) (at-write .write .ensures) (c .keep-writer .ensures)
 

@@ -4,7 +4,10 @@ use Rattle.stripring.proofs.list.flat_starts_answer.Statement.{statemen
 use Rattle.stripring.proofs.list.flat_starts_answer.Tie as tie
 
 returns-2 : tie.Need-returns-2
-returns-2 c = rw (c .before .before .before .before .a2 .given .1, c .no-operation2 .ensures, c .before .no-operation .ensures, c .before .before .flat-refusal .ensures)
+returns-2 c =
+    let at-flat-refusal = c .before .before in
+    let at-a2 = at-flat-refusal .before .before in
+    rw (at-a2 .a2 .given .1, c .no-operation2 .ensures, c .before .no-operation .ensures, at-flat-refusal .flat-refusal .ensures)
 
 pub flat-starts-answer-spec : {M : Type 1} → statement M
 flat-starts-answer-spec =

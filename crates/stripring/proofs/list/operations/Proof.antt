@@ -15,7 +15,10 @@ returns-2 c = rw (ne-eqb _ _ (c .before .before .before .if1 .left), eq-eqb _ _ 
 
 returns-3 : tie.Need-returns-3
 unfolding operationsAt
-returns-3 c = rw (ne-eqb _ _ (c .before .before .before .before .if1 .left), ne-eqb _ _ (c .before .before .if2 .left), c .operation3 .ensures, c .before .operation2 .ensures)
+returns-3 c =
+    let at-if2 = c .before .before in
+    let at-if1 = at-if2 .before .before in
+    rw (ne-eqb _ _ (at-if1 .if1 .left), ne-eqb _ _ (at-if2 .if2 .left), c .operation3 .ensures, c .before .operation2 .ensures)
 
 pub operations-spec : {M : Type 1} → statement M
 operations-spec = tie.close (tie.spec returns (search needs) returns-2 (search needs) (search needs) returns-3)

@@ -6,7 +6,10 @@ use Rattle.stripring.proofs.reading_end.stripring_reading_end_read.Stat
 use Rattle.stripring.proofs.reading_end.stripring_reading_end_read.Tie as tie
 
 returns : tie.Need-returns
-returns c = rw (c .flat-got .ensures) (ap flatGotLeft (rw (c .before .before .before .before .before .reading-end .ensures) at (c .before .before .before .read .ensures)))
+returns c =
+    let at-read = c .before .before .before in
+    let at-reading-end = at-read .before .before in
+    rw (c .flat-got .ensures) (ap flatGotLeft (rw (at-reading-end .reading-end .ensures) at (at-read .read .ensures)))
 
 pub stripring-reading-end-read-spec : {M : Type 1} → statement M
 stripring-reading-end-read-spec = tie.close (tie.spec (search needs) (search needs) (search needs) (search needs) returns)

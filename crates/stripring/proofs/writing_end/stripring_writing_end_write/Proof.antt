@@ -6,7 +6,10 @@ use Rattle.stripring.proofs.writing_end.stripring_writing_end_write.Sta
 use Rattle.stripring.proofs.writing_end.stripring_writing_end_write.Tie as tie
 
 returns : tie.Need-returns
-returns c = rw (c .flat-wrote .ensures) (ap flatWroteLeft (rw (c .before .before .before .before .before .writing-end .ensures) at (c .before .before .before .write .ensures)))
+returns c =
+    let at-write = c .before .before .before in
+    let at-writing-end = at-write .before .before in
+    rw (c .flat-wrote .ensures) (ap flatWroteLeft (rw (at-writing-end .writing-end .ensures) at (at-write .write .ensures)))
 
 pub stripring-writing-end-write-spec : {M : Type 1} → statement M
 stripring-writing-end-write-spec = tie.close (tie.spec (search needs) (search needs) (search needs) (search needs) returns)

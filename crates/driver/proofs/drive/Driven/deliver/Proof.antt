@@ -6,7 +6,12 @@ use Rattle.driver.proofs.drive.Driven.deliver.Statement.{statement}
 use Rattle.driver.proofs.drive.Driven.deliver.Tie as tie
 
 returns : tie.Need-returns
-returns c = delivered-for _ _ (c .before .before .before .before .before .before .before .step .given .1) _ _ _ _ (delivered-in (c .before .before .before .before .before .before .before .step .given .0 .0) (c .before .before .before .before .before .before .before .before .before .before .before .args .self .used) _ _ _ (c .before .before .before .before .ended-in .ensures) _ (c .before .before .deliver-ended .ensures))
+returns c =
+    let at-deliver-ended = c .before .before in
+    let at-ended-in = at-deliver-ended .before .before in
+    let at-step = at-ended-in .before .before .before in
+    let start = at-step .before .before .before .before in
+    delivered-for _ _ (at-step .step .given .1) _ _ _ _ (delivered-in (at-step .step .given .0 .0) (start .args .self .used) _ _ _ (at-ended-in .ended-in .ensures) _ (at-deliver-ended .deliver-ended .ensures))
 
 returns-2 : tie.Need-returns-2
 returns-2 c = delivered-for _ _ (c .before .step2 .given .1) _ _ _ _ refl

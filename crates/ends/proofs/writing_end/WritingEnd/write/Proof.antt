@@ -4,10 +4,14 @@ use Rattle.ends.proofs.writing_end.WritingEnd.write.Statement.{statemen
 use Rattle.ends.proofs.writing_end.WritingEnd.write.Tie as tie
 
 returns : tie.Need-returns
-returns c = rw (← c .before .before .before .before .before .write .ensures, c .before .scheduler .given .1)
+returns c =
+    let at-write = c .before .before .before .before .before in
+    rw (← at-write .write .ensures, c .before .scheduler .given .1)
 
 returns-2 : tie.Need-returns-2
-returns-2 c = rw (← c .before .before .before .before .before .write .ensures, c .before .e .given .1)
+returns-2 c =
+    let at-write = c .before .before .before .before .before in
+    rw (← at-write .write .ensures, c .before .e .given .1)
 
 pub write-spec : {M : Type 1} → statement M
 write-spec = tie.close (tie.spec (search needs) (search needs) (search needs) (search needs) returns (search needs) returns-2)

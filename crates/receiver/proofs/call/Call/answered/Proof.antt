@@ -9,19 +9,46 @@ use Rattle.receiver.proofs.call.Call.answered.Statement.{statement}
 use Rattle.receiver.proofs.call.Call.answered.Tie as tie
 
 resumed-requires : tie.Need-resumed-requires
-resumed-requires c κs = passed-sound (c .before .before .before .before .before .before .args .self .receiver) (c .before .before .before .looks-at .result) (sym (c .enum-told .given .1) ∙ c .before .before .admit .ensures)
+resumed-requires c κs =
+    let at-admit = c .before .before in
+    let at-looks-at = at-admit .before in
+    let start = at-looks-at .before .before .before in
+    passed-sound (start .args .self .receiver) (at-looks-at .looks-at .result) (sym (c .enum-told .given .1) ∙ at-admit .admit .ensures)
 
 stepped-requires : tie.Need-stepped-requires
-stepped-requires c κs = resumed-steps (c .before .before .before .before .before .before .before .before .before .before .args .answer) _ (c .before .before .before .before .before .before .before .before .before .before .args .self) (passes (c .before .before .before .before .before .before .before .before .before .before .args .self) (now (c .before .before .before .before .before .before .before .before .before .before .args .ring)) (c .before .before .before .before .before .before .before .before .before .before .args .answer) (c .before .before .before .before .before .before .before .before .before .before .args .place) _ (c .before .before .before .before .before .before .before .looks-at .ensures) (sym (c .before .before .before .before .enum-told .given .1) ∙ c .before .before .before .before .before .before .admit .ensures)) (omega (arith, c .before .before .before .before .before .before .before .before .before .before .good)) _ (sym (c .before .call .given .1) ∙ c .before .before .before .resumed .ensures)
+stepped-requires c κs =
+    let at-resumed = c .before .before .before in
+    let at-enum-told = at-resumed .before in
+    let at-admit = at-enum-told .before .before in
+    let at-looks-at = at-admit .before in
+    let start = at-looks-at .before .before .before in
+    resumed-steps (start .args .answer) _ (start .args .self) (passes (start .args .self) (now (start .args .ring)) (start .args .answer) (start .args .place) _ (at-looks-at .looks-at .ensures) (sym (at-enum-told .enum-told .given .1) ∙ at-admit .admit .ensures)) (omega (arith, start .good)) _ (sym (c .before .call .given .1) ∙ at-resumed .resumed .ensures)
 
 returns : tie.Need-returns
-returns c = c .stepped .ensures ∙ answered-on (c .before .before .before .before .before .before .before .before .before .before .before .args .self) (now (c .before .before .before .before .before .before .before .before .before .before .before .args .ring)) (c .before .before .before .before .before .before .before .before .before .before .before .args .answer) (c .before .before .before .before .before .before .before .before .before .before .before .args .place) _ (c .before .before .before .before .before .before .before .before .looks-at .ensures) (sym (c .before .before .before .before .before .enum-told .given .1) ∙ c .before .before .before .before .before .before .before .admit .ensures) _ (sym (c .before .before .call .given .1) ∙ c .before .before .before .before .resumed .ensures)
+returns c =
+    let at-call = c .before .before in
+    let at-resumed = at-call .before .before in
+    let at-enum-told = at-resumed .before in
+    let at-admit = at-enum-told .before .before in
+    let at-looks-at = at-admit .before in
+    let start = at-looks-at .before .before .before in
+    c .stepped .ensures ∙ answered-on (start .args .self) (now (start .args .ring)) (start .args .answer) (start .args .place) _ (at-looks-at .looks-at .ensures) (sym (at-enum-told .enum-told .given .1) ∙ at-admit .admit .ensures) _ (sym (at-call .call .given .1) ∙ at-resumed .resumed .ensures)
 
 returns-2 : tie.Need-returns-2
-returns-2 c = answered-on (c .before .before .before .before .before .before .before .before .before .before .args .self) (now (c .before .before .before .before .before .before .before .before .before .before .args .ring)) (c .before .before .before .before .before .before .before .before .before .before .args .answer) (c .before .before .before .before .before .before .before .before .before .before .args .place) _ (c .before .before .before .before .before .before .before .looks-at .ensures) (sym (c .before .before .before .before .enum-told .given .1) ∙ c .before .before .before .before .before .before .admit .ensures) _ (sym (c .before .e .given .1) ∙ c .before .before .before .resumed .ensures)
+returns-2 c =
+    let at-resumed = c .before .before .before in
+    let at-enum-told = at-resumed .before in
+    let at-admit = at-enum-told .before .before in
+    let at-looks-at = at-admit .before in
+    let start = at-looks-at .before .before .before in
+    answered-on (start .args .self) (now (start .args .ring)) (start .args .answer) (start .args .place) _ (at-looks-at .looks-at .ensures) (sym (at-enum-told .enum-told .given .1) ∙ at-admit .admit .ensures) _ (sym (c .before .e .given .1) ∙ at-resumed .resumed .ensures)
 
 returns-3 : tie.Need-returns-3
-returns-3 c = not-admitted (c .before .before .before .before .before .before .before .args .self) (now (c .before .before .before .before .before .before .before .args .ring)) (c .before .before .before .before .before .before .before .args .answer) (c .before .before .before .before .before .before .before .args .place) _ (c .before .before .before .before .looks-at .ensures) _ (sym (c .before .e2 .given .1) ∙ c .before .before .before .admit .ensures)
+returns-3 c =
+    let at-admit = c .before .before .before in
+    let at-looks-at = at-admit .before in
+    let start = at-looks-at .before .before .before in
+    not-admitted (start .args .self) (now (start .args .ring)) (start .args .answer) (start .args .place) _ (at-looks-at .looks-at .ensures) _ (sym (c .before .e2 .given .1) ∙ at-admit .admit .ensures)
 
 pub answered-spec : {M : Type 1} → statement M
 answered-spec =

@@ -5,7 +5,10 @@ use Rattle.receiver.proofs.call.Call.begin_service.Statement.{statement
 use Rattle.receiver.proofs.call.Call.begin_service.Tie as tie
 
 returns : tie.Need-returns
-returns c = rw (← (sym (c .before .before .enum-told .given .1) ∙ c .before .before .before .before .admit .ensures), c .service .ensures, c .before .telling .ensures)
+returns c =
+    let at-enum-told = c .before .before in
+    let at-admit = at-enum-told .before .before in
+    rw (← (sym (at-enum-told .enum-told .given .1) ∙ at-admit .admit .ensures), c .service .ensures, c .before .telling .ensures)
 
 returns-2 : tie.Need-returns-2
 returns-2 c = rw (← (sym (c .before .e .given .1) ∙ c .before .before .before .admit .ensures))

@@ -6,13 +6,22 @@ use Rattle.receiver.proofs.call.Call.taken.Statement.{statement}
 use Rattle.receiver.proofs.call.Call.taken.Tie as tie
 
 after-receive-requires : tie.Need-after-receive-requires
-after-receive-requires c κs = steps-received (c .before .before .before .before .before .before .before .args .self) _ _ _ _ (c .before .before .phase .given .1) (c .before .before .before .before .before .before .before .pre .0) _ (c .received .ensures)
+after-receive-requires c κs =
+    let at-phase = c .before .before in
+    let start = at-phase .before .before .before .before .before in
+    steps-received (start .args .self) _ _ _ _ (at-phase .phase .given .1) (start .pre .0) _ (c .received .ensures)
 
 returns : tie.Need-returns
-returns c = stepped-by _ _ _ _ _ (c .before .before .before .phase .given .1) _ (rw (uninterrupted (c .before .before .before .before .before .before .before .before .args .self) (c .before .before .before .before .before .before .before .before .args .answer) _ (c .before .before .before .phase .given .1) (c .before .before .before .before .before .before .before .before .pre .1), c .after-receive .ensures, c .before .received .ensures))
+returns c =
+    let at-phase = c .before .before .before in
+    let start = at-phase .before .before .before .before .before in
+    stepped-by _ _ _ _ _ (at-phase .phase .given .1) _ (rw (uninterrupted (start .args .self) (start .args .answer) _ (at-phase .phase .given .1) (start .pre .1), c .after-receive .ensures, c .before .received .ensures))
 
 returns-2 : tie.Need-returns-2
-returns-2 c = stepped-by _ _ _ _ _ (c .before .before .before .phase2 .given .1) _ (rw (uninterrupted (c .before .before .before .before .before .before .before .before .args .self) (c .before .before .before .before .before .before .before .before .args .answer) _ (c .before .before .before .phase2 .given .1) (c .before .before .before .before .before .before .before .before .pre .1), c .after-send .ensures, c .before .going .ensures))
+returns-2 c =
+    let at-phase2 = c .before .before .before in
+    let start = at-phase2 .before .before .before .before .before in
+    stepped-by _ _ _ _ _ (at-phase2 .phase2 .given .1) _ (rw (uninterrupted (start .args .self) (start .args .answer) _ (at-phase2 .phase2 .given .1) (start .pre .1), c .after-send .ensures, c .before .going .ensures))
 
 returns-3 : tie.Need-returns-3
 returns-3 c = stepped-by _ _ _ _ _ (c .before .before .before .phase3 .given .1) _ (rw (c .after-shutdown .ensures, c .before .going2 .ensures))

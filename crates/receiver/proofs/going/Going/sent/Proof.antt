@@ -8,7 +8,10 @@ returns : tie.Need-returns
 returns c = rw (eq-eqb _ _ (c .before .if1 .taken), c .terminate-draining .ensures)
 
 returns-2 : tie.Need-returns-2
-returns-2 c = rw (ne-eqb _ _ (c .before .before .before .before .before .if1 .left), c .flush-chunk-acknowledgements .ensures, c .before .with-receiver .ensures, c .before .before .with-pending .ensures)
+returns-2 c =
+    let at-with-pending = c .before .before in
+    let at-if1 = at-with-pending .before .before .before in
+    rw (ne-eqb _ _ (at-if1 .if1 .left), c .flush-chunk-acknowledgements .ensures, c .before .with-receiver .ensures, at-with-pending .with-pending .ensures)
 
 pub sent-spec : {M : Type 1} → statement M
 sent-spec = tie.close (tie.spec (search needs) returns (search needs) (search needs) (search needs) (search needs) returns-2)

@@ -16,11 +16,17 @@ returns-2 c = simp (eq-eqb _ _ (c .before .before .if1 .taken), le-leb _ _ (c .i
 
 returns-3 : tie.Need-returns-3
 unfolding sentOf
-returns-3 c = simp (ne-eqb _ _ (c .before .before .before .before .if1 .left), eq-eqb _ _ (c .before .before .if3 .taken), sym (c .before .is-errno .ensures) ∙ c .if4 .taken)
+returns-3 c =
+    let at-if3 = c .before .before in
+    let at-if1 = at-if3 .before .before in
+    simp (ne-eqb _ _ (at-if1 .if1 .left), eq-eqb _ _ (at-if3 .if3 .taken), sym (c .before .is-errno .ensures) ∙ c .if4 .taken)
 
 returns-4 : tie.Need-returns-4
 unfolding sentOf
-returns-4 c = simp (ne-eqb _ _ (c .before .before .before .before .if1 .left), eq-eqb _ _ (c .before .before .if3 .taken), sym (c .before .is-errno .ensures) ∙ c .if4 .left)
+returns-4 c =
+    let at-if3 = c .before .before in
+    let at-if1 = at-if3 .before .before in
+    simp (ne-eqb _ _ (at-if1 .if1 .left), eq-eqb _ _ (at-if3 .if3 .taken), sym (c .before .is-errno .ensures) ∙ c .if4 .left)
 
 returns-5 : tie.Need-returns-5
 unfolding sentOf

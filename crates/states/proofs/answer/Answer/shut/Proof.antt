@@ -12,11 +12,17 @@ returns c = simp (eq-eqb _ _ (c .if1 .taken))
 
 returns-2 : tie.Need-returns-2
 unfolding shutOf
-returns-2 c = simp (ne-eqb _ _ (c .before .before .before .before .if1 .left), eq-eqb _ _ (c .before .before .if2 .taken), sym (c .before .is-errno .ensures) ∙ c .if3 .taken)
+returns-2 c =
+    let at-if2 = c .before .before in
+    let at-if1 = at-if2 .before .before in
+    simp (ne-eqb _ _ (at-if1 .if1 .left), eq-eqb _ _ (at-if2 .if2 .taken), sym (c .before .is-errno .ensures) ∙ c .if3 .taken)
 
 returns-3 : tie.Need-returns-3
 unfolding shutOf
-returns-3 c = simp (ne-eqb _ _ (c .before .before .before .before .if1 .left), eq-eqb _ _ (c .before .before .if2 .taken), sym (c .before .is-errno .ensures) ∙ c .if3 .left)
+returns-3 c =
+    let at-if2 = c .before .before in
+    let at-if1 = at-if2 .before .before in
+    simp (ne-eqb _ _ (at-if1 .if1 .left), eq-eqb _ _ (at-if2 .if2 .taken), sym (c .before .is-errno .ensures) ∙ c .if3 .left)
 
 returns-4 : tie.Need-returns-4
 unfolding shutOf

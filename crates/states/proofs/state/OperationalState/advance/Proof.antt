@@ -12,10 +12,21 @@ returns-2 : tie.Need-returns-2
 returns-2 c = rw (← (sym (c .before .f .given .1) ∙ c .before .before .before .normal2 .ensures))
 
 returns-3 : tie.Need-returns-3
-returns-3 c = rw (← (sym (c .before .before .before .before .before .before .before .c .given .1) ∙ c .before .before .before .before .before .before .before .before .before .normal2 .ensures), ← c .before .before .before .before .before .before .before .before .before .before .normal .ensures, c .carrying .ensures, c .before .towards-error .ensures) (drain-on (c .before .before .before .before .before .before .before .c .given .0 .0) (c .before .before .before .e .given .0 .0) (c .before .before .before .before .before .before .before .before .before .before .normal .result) (sym (c .before .before .before .before .before .cached-failure .ensures) ∙ c .before .before .before .e .given .1))
+returns-3 c =
+    let at-e = c .before .before .before in
+    let at-cached-failure = at-e .before .before in
+    let at-c = at-cached-failure .before .before in
+    let at-normal2 = at-c .before .before in
+    let at-normal = at-normal2 .before in
+    rw (← (sym (at-c .c .given .1) ∙ at-normal2 .normal2 .ensures), ← at-normal .normal .ensures, c .carrying .ensures, c .before .towards-error .ensures) (drain-on (at-c .c .given .0 .0) (at-e .e .given .0 .0) (at-normal .normal .result) (sym (at-cached-failure .cached-failure .ensures) ∙ at-e .e .given .1))
 
 returns-4 : tie.Need-returns-4
-returns-4 c = rw (← (sym (c .before .before .before .before .c .given .1) ∙ c .before .before .before .before .before .before .normal2 .ensures), ← c .before .before .before .before .before .before .before .normal .ensures) (drain-stays (c .before .before .before .before .c .given .0 .0) (c .before .before .before .before .before .before .before .normal .result) (sym (c .before .before .cached-failure .ensures) ∙ c .enum-told2 .given .1))
+returns-4 c =
+    let at-cached-failure = c .before .before in
+    let at-c = at-cached-failure .before .before in
+    let at-normal2 = at-c .before .before in
+    let at-normal = at-normal2 .before in
+    rw (← (sym (at-c .c .given .1) ∙ at-normal2 .normal2 .ensures), ← at-normal .normal .ensures) (drain-stays (at-c .c .given .0 .0) (at-normal .normal .result) (sym (at-cached-failure .cached-failure .ensures) ∙ c .enum-told2 .given .1))
 
 pub advance-spec : {M : Type 1} → statement M
 advance-spec =

@@ -9,10 +9,18 @@ returns : tie.Need-returns
 returns c = rw (sym (c .before .before .fits2 .ensures) ∙ not-true _ (c .before .if1 .taken), c .stored-misfit .ensures)
 
 returns-2 : tie.Need-returns-2
-returns-2 c = rw (sym (c .before .before .before .before .fits2 .ensures) ∙ not-false _ (c .before .before .before .if1 .left), sym (c .before .before .fits3 .ensures) ∙ not-true _ (c .before .if2 .taken), c .stored-misfit2 .ensures)
+returns-2 c =
+    let at-fits3 = c .before .before in
+    let at-if1 = at-fits3 .before in
+    let at-fits2 = at-if1 .before in
+    rw (sym (at-fits2 .fits2 .ensures) ∙ not-false _ (at-if1 .if1 .left), sym (at-fits3 .fits3 .ensures) ∙ not-true _ (c .before .if2 .taken), c .stored-misfit2 .ensures)
 
 returns-3 : tie.Need-returns-3
-returns-3 c = rw (sym (c .before .before .before .before .fits2 .ensures) ∙ not-false _ (c .before .before .before .if1 .left), sym (c .before .before .fits3 .ensures) ∙ not-false _ (c .before .if2 .left), c .advance .ensures)
+returns-3 c =
+    let at-fits3 = c .before .before in
+    let at-if1 = at-fits3 .before in
+    let at-fits2 = at-if1 .before in
+    rw (sym (at-fits2 .fits2 .ensures) ∙ not-false _ (at-if1 .if1 .left), sym (at-fits3 .fits3 .ensures) ∙ not-false _ (c .before .if2 .left), c .advance .ensures)
 
 pub advance-state-towards-termination-spec : {M : Type 1} → statement M
 advance-state-towards-termination-spec =

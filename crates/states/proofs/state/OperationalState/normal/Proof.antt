@@ -6,10 +6,16 @@ use Rattle.states.proofs.state.OperationalState.normal.Statement.{state
 use Rattle.states.proofs.state.OperationalState.normal.Tie as tie
 
 returns : tie.Need-returns
-returns c = blocked-is-normal _ _ (sym (c .before .before .before .before .before .cached-failure .ensures) ∙ c .before .before .before .f .given .1) (sym (c .before .is-errno .ensures) ∙ c .if1 .taken)
+returns c =
+    let at-f = c .before .before .before in
+    let at-cached-failure = at-f .before .before in
+    blocked-is-normal _ _ (sym (at-cached-failure .cached-failure .ensures) ∙ at-f .f .given .1) (sym (c .before .is-errno .ensures) ∙ c .if1 .taken)
 
 returns-2 : tie.Need-returns-2
-returns-2 c = other-stays _ _ (sym (c .before .before .before .before .before .cached-failure .ensures) ∙ c .before .before .before .f .given .1) (sym (c .before .is-errno .ensures) ∙ c .if1 .left)
+returns-2 c =
+    let at-f = c .before .before .before in
+    let at-cached-failure = at-f .before .before in
+    other-stays _ _ (sym (at-cached-failure .cached-failure .ensures) ∙ at-f .f .given .1) (sym (c .before .is-errno .ensures) ∙ c .if1 .left)
 
 returns-3 : tie.Need-returns-3
 returns-3 c = none-stays _ (sym (c .before .before .cached-failure .ensures) ∙ c .enum-told .given .1)

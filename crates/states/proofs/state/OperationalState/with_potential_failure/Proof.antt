@@ -9,7 +9,11 @@ returns : tie.Need-returns
 returns c = rw (sym (c .before .before .fits2 .ensures) ∙ not-true _ (c .before .if1 .taken), c .stored-misfit .ensures)
 
 returns-2 : tie.Need-returns-2
-returns-2 c = rw (sym (c .before .before .before .before .before .fits2 .ensures) ∙ not-false _ (c .before .before .before .before .if1 .left), c .before .before .reason .given .1, c .with-failure .ensures)
+returns-2 c =
+    let at-reason = c .before .before in
+    let at-if1 = at-reason .before .before in
+    let at-fits2 = at-if1 .before in
+    rw (sym (at-fits2 .fits2 .ensures) ∙ not-false _ (at-if1 .if1 .left), at-reason .reason .given .1, c .with-failure .ensures)
 
 returns-3 : tie.Need-returns-3
 returns-3 c = rw (sym (c .before .before .before .fits2 .ensures) ∙ not-false _ (c .before .before .if1 .left), c .enum-told .given .1)

@@ -1,0 +1,10 @@
+-- The flat form of what `sched`'s call answers on the scheduler that the numbers stand for.
+use borrow.Author.Needs.{needs}
+use Rattle.stripring.proofs.schedule.stripring_scheduler_schedule_writes.Statement.{statement}
+use Rattle.stripring.proofs.schedule.stripring_scheduler_schedule_writes.Tie as tie
+
+returns : tie.Need-returns
+returns c = rw (c .flat-operations-answer .ensures, c .before .schedule-writes .ensures, c .before .before .scheduler .ensures)
+
+pub stripring-scheduler-schedule-writes-spec : {M : Type 1} → statement M
+stripring-scheduler-schedule-writes-spec = tie.close (tie.spec (search needs) (search needs) (search needs) returns)

@@ -14,4 +14,4 @@ returns-3 : tie.Need-returns-3
 returns-3 c = rw (c .before .before .before .self2 .given .1, zero-add)
 
 pub outside-spec : {M : Type 1} → statement M
-outside-spec = tie.close (tie.spec (search needs) (search needs) (search needs) add-t8 (search needs) returns-2 returns-3)
+outside-spec = tie.close (tie.spec (search needs) (search needs) (search needs) add-t8 (λ c. search needs) returns-2 returns-3)

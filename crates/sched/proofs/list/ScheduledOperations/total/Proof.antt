@@ -10,4 +10,4 @@ returns-3 : tie.Need-returns-3
 returns-3 c = rw (c .before .before .before .self2 .given .1)
 
 pub total-spec : {M : Type 1} → statement M
-total-spec = tie.close (tie.spec (search needs) (search needs) (search needs) add-result (search needs) (search needs) returns-3)
+total-spec = tie.close (tie.spec (search needs) (search needs) (search needs) add-result (λ c. search needs) (λ c. search needs) returns-3)

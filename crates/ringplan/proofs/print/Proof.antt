@@ -11,5 +11,5 @@ slice-aggregate-write-all c = sym (length-take-le (c .before .before .before .ar
 
 pub print-spec : {M : Type 1} → statement M
 print-spec =
-    tie.close (tie.spec (search needs) slice-aggregate-write-all (search needs) (search needs) (search needs) (search needs)
-    (search needs))
+    tie.close (tie.spec (λ c. search needs) slice-aggregate-write-all (search needs) (search needs) (search needs) (λ c. search needs)
+    (λ c. search needs))

@@ -11,4 +11,5 @@ returns c = delivered-by _ _ _ _ _ _ (c .before .before .before .before .enum-to
 
 pub deliver-by-spec : {M : Type 1} → statement M
 deliver-by-spec =
-    tie.close (tie.spec (search needs) (search needs) (search needs) (search needs) (search needs) returns (search needs) (search needs))
+    tie.close (tie.spec (search needs) (search needs) (search needs) (search needs) (search needs) returns (λ c. search needs)
+    (λ c. search needs))

@@ -8,4 +8,4 @@ returns : tie.Need-returns
 returns c = retries-by _ _ (c .before .before .step .given .1) _ _ (c .retries .ensures)
 
 pub retries-spec : {M : Type 1} → statement M
-retries-spec = tie.close (tie.spec (search needs) (search needs) (search needs) returns (search needs))
+retries-spec = tie.close (tie.spec (search needs) (search needs) (search needs) returns (λ c. search needs))

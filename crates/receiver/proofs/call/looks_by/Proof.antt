@@ -7,4 +7,4 @@ returns : tie.Need-returns
 returns c = rw (c .enum-told .given .1)
 
 pub looks-by-spec : {M : Type 1} → statement M
-looks-by-spec = tie.close (tie.spec (search needs) (search needs) (search needs) returns (search needs) (search needs))
+looks-by-spec = tie.close (tie.spec (search needs) (search needs) (search needs) returns (λ c. search needs) (λ c. search needs))

@@ -8,4 +8,5 @@ returns-2 c = rw (c .before .before .before .before .a2 .given .1, c .no-operati
 
 pub flat-starts-answer-spec : {M : Type 1} → statement M
 flat-starts-answer-spec =
-    tie.close (tie.spec (search needs) (search needs) (search needs) (search needs) (search needs) (search needs) (search needs) returns-2)
+    tie.close (tie.spec (search needs) (search needs) (search needs) (search needs) (search needs) (search needs) (λ c. search needs)
+    returns-2)

@@ -11,5 +11,5 @@ returns-3 c = rw (c .before .before .s2 .given .1, c .flat-failure2 .ensures)
 
 pub flat-state-spec : {M : Type 1} → statement M
 flat-state-spec =
-    tie.close (tie.spec (search needs) (search needs) (search needs) (search needs) (search needs) (search needs) (search needs) returns-2
-    returns-3)
+    tie.close (tie.spec (search needs) (search needs) (search needs) (search needs) (search needs) (search needs) (λ c. search needs)
+    returns-2 returns-3)

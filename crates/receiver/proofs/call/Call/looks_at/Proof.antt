@@ -8,5 +8,5 @@ returns c = rw (c .before .before .before .phase .given .1, c .looks-by .ensures
 
 pub looks-at-spec : {M : Type 1} → statement M
 looks-at-spec =
-    tie.close (tie.spec (search needs) (search needs) (search needs) (search needs) (search needs) (search needs) returns (search needs)
-    (search needs) (search needs))
+    tie.close (tie.spec (search needs) (search needs) (search needs) (search needs) (search needs) (search needs) returns
+    (λ c. search needs) (λ c. search needs) (λ c. search needs))

@@ -13,4 +13,4 @@ returns-2 c = retries-by _ _ _ (c .before .enum-told2 .given .1) _ (c .is-interr
 pub retries-spec : {M : Type 1} → statement M
 retries-spec =
     tie.close (tie.spec (search needs) (search needs) (search needs) (search needs) (search needs) (search needs) returns returns-2
-    (search needs) (search needs))
+    (λ c. search needs) (λ c. search needs))

@@ -14,4 +14,4 @@ unfolding fitsErrno
 returns-2 c = rw (c .before .before .self .given .1, ne-eqb _ _ (c .if1 .left))
 
 pub fits-spec : {M : Type 1} → statement M
-fits-spec = tie.close (tie.spec (search needs) returns (search needs) returns-2 (search needs))
+fits-spec = tie.close (tie.spec (search needs) returns (search needs) returns-2 (λ c. search needs))

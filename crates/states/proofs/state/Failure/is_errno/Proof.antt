@@ -7,4 +7,4 @@ returns : tie.Need-returns
 returns c = rw (c .before .self .given .1)
 
 pub is-errno-spec : {M : Type 1} → statement M
-is-errno-spec = tie.close (tie.spec (search needs) (search needs) returns (search needs))
+is-errno-spec = tie.close (tie.spec (search needs) (search needs) returns (λ c. search needs))

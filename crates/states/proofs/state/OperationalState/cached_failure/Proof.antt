@@ -10,4 +10,4 @@ returns-3 : tie.Need-returns-3
 returns-3 c = rw (c .before .self2 .given .1)
 
 pub cached-failure-spec : {M : Type 1} → statement M
-cached-failure-spec = tie.close (tie.spec (search needs) (search needs) (search needs) (search needs) returns-2 returns-3)
+cached-failure-spec = tie.close (tie.spec (search needs) (search needs) (search needs) (λ c. search needs) returns-2 returns-3)

@@ -10,4 +10,4 @@ returns-3 : tie.Need-returns-3
 returns-3 c = rw (c .enum-told3 .given .1)
 
 pub carrying-spec : {M : Type 1} → statement M
-carrying-spec = tie.close (tie.spec (search needs) (search needs) (search needs) (search needs) returns-2 returns-3)
+carrying-spec = tie.close (tie.spec (search needs) (search needs) (search needs) (λ c. search needs) returns-2 returns-3)

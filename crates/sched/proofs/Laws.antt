@@ -20,9 +20,9 @@ use Rattle.sched.specs.declared.refusal.Refusal.the-variants.{ZeroBuffer
 use Rattle.sched.specs.declared.scheduler.Checked.{Checked}
 use Rattle.sched.specs.declared.scheduler.Checked.the-variants as checked
 use Rattle.sched.specs.declared.scheduler.RingBufferScheduler.{RingBufferScheduler}
-use Rattle.sched.specs.declared.scheduler.Move.{Move}
-use Rattle.sched.specs.declared.scheduler.MoveAnswer.the-variants as moves
-use Rattle.sched.specs.declared.scheduler.Registered.the-variants as registered
+use Rattle.sched.specs.declared.register.Move.{Move}
+use Rattle.sched.specs.declared.register.MoveAnswer.the-variants as moves
+use Rattle.sched.specs.declared.register.Registered.the-variants as registered
 use Rattle.sched.specs.declared.operation.ScheduledOperation.{ScheduledOperation}
 use Rattle.sched.specs.declared.operation.NextOperation.the-variants as next
 use Rattle.sched.specs.declared.list.ScheduledOperations.{ScheduledOperations}

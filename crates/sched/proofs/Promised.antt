@@ -17,8 +17,8 @@ use Rattle.sched.specs.declared.operation.OperationType.{OperationType}
 use Rattle.sched.specs.declared.operation.OperationType.the-variants.{Read, Write}
 use Rattle.sched.specs.declared.operation.ScheduledOperation.{ScheduledOperation}
 use Rattle.sched.specs.declared.scheduler.Checked.the-variants as checked
-use Rattle.sched.specs.declared.scheduler.Registered.{Registered}
-use Rattle.sched.specs.declared.scheduler.Registered.the-variants as registered
+use Rattle.sched.specs.declared.register.Registered.{Registered}
+use Rattle.sched.specs.declared.register.Registered.the-variants as registered
 use Rattle.sched.specs.declared.scheduler.RingBufferScheduler.{RingBufferScheduler}
 use Rattle.sched.specs.Promise.{Schedules, Asks, Moves, NextPromise, joined, byBlocks, Between, Taken, WrittenBy, MovedBy, MovedByList}
 use Rattle.sched.specs.Scheduler.{IsSound, soundOf, dataIn, spaceIn, greatestIn, nextIn, scheduleIn, advancedIn, greatestFrom, nextFrom, nextOf, scheduleFrom, scheduleOf, registerOf, registerListOf}

@@ -17,7 +17,7 @@ use Rattle.sched.specs.declared.operation.OperationType.{OperationType}
 use Rattle.sched.specs.declared.operation.OperationType.the-variants.{Read, Write}
 use Rattle.sched.specs.declared.operation.ScheduledOperation.{ScheduledOperation}
 use Rattle.sched.specs.declared.refusal.Refusal.the-variants.{OperationTooLarge, OperationTooLong, InconsistentOperationType}
-use Rattle.sched.specs.declared.scheduler.Registered.the-variants as registered
+use Rattle.sched.specs.declared.register.Registered.the-variants as registered
 use Rattle.sched.specs.declared.scheduler.RingBufferScheduler.{RingBufferScheduler}
 use Rattle.sched.specs.Operation.{operationOf}
 use Rattle.sched.specs.Promise.{Promise, upFrom, roundFrom, joined, byBlocks}

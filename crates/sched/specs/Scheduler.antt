@@ -42,11 +42,11 @@ use Rattle.sched.specs.declared.operation.ScheduledOperation.{ScheduledO
 use Rattle.sched.specs.declared.refusal.Refusal.the-variants.{ZeroBufferLength, BufferTooLarge, ItemsWrittenOutOfBounds, ItemsReadOutofBounds, DataAvailOutOfBounds, OperationTooLarge}
 use Rattle.sched.specs.declared.scheduler.Checked.{Checked}
 use Rattle.sched.specs.declared.scheduler.Checked.the-variants as checked
-use Rattle.sched.specs.declared.scheduler.Move.{Move}
-use Rattle.sched.specs.declared.scheduler.MoveAnswer.{MoveAnswer}
-use Rattle.sched.specs.declared.scheduler.MoveAnswer.the-variants as moves
-use Rattle.sched.specs.declared.scheduler.Registered.{Registered}
-use Rattle.sched.specs.declared.scheduler.Registered.the-variants as registered
+use Rattle.sched.specs.declared.register.Move.{Move}
+use Rattle.sched.specs.declared.register.MoveAnswer.{MoveAnswer}
+use Rattle.sched.specs.declared.register.MoveAnswer.the-variants as moves
+use Rattle.sched.specs.declared.register.Registered.{Registered}
+use Rattle.sched.specs.declared.register.Registered.the-variants as registered
 use Rattle.sched.specs.declared.scheduler.RingBufferScheduler.{RingBufferScheduler}
 use Rattle.sched.specs.Counter.{offsetOf, dataOf, laterOf}
 use Rattle.sched.specs.Operation.{operationOf}

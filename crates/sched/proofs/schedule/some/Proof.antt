@@ -2,8 +2,8 @@
 use borrow.Author.Tests.{eq-eqb, ne-eqb}
 use Rattle.sched.specs.Scheduler.{someOf}
 use borrow.Author.Needs.{needs}
-use Rattle.sched.proofs.scheduler.some.Statement.{statement}
-use Rattle.sched.proofs.scheduler.some.Tie as tie
+use Rattle.sched.proofs.schedule.some.Statement.{statement}
+use Rattle.sched.proofs.schedule.some.Tie as tie
 
 returns : tie.Need-returns
 unfolding someOf

@@ -1,7 +1,7 @@
 -- The sum modulo twice the length.
 use borrow.Author.Needs.{needs}
-use Rattle.sched.proofs.scheduler.later.Statement.{statement}
-use Rattle.sched.proofs.scheduler.later.Tie as tie
+use Rattle.sched.proofs.register.later.Statement.{statement}
+use Rattle.sched.proofs.register.later.Tie as tie
 
 returns : tie.Need-returns
 returns c = rw (c .add .ensures, c .before .double-modulus .ensures)

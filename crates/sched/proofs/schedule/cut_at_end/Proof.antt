@@ -2,8 +2,8 @@
 use native.Mathlib.Omega.{arith}
 use Rattle.sched.proofs.Laws.{positive, cut-none, cut-one, cut-two}
 use borrow.Author.Needs.{needs}
-use Rattle.sched.proofs.scheduler.cut_at_end.Statement.{statement}
-use Rattle.sched.proofs.scheduler.cut_at_end.Tie as tie
+use Rattle.sched.proofs.schedule.cut_at_end.Statement.{statement}
+use Rattle.sched.proofs.schedule.cut_at_end.Tie as tie
 
 returns : tie.Need-returns
 returns c = cut-none _ _ _ _ (c .if1 .taken)

@@ -1,7 +1,7 @@
 -- The two cases of the definition.
 use borrow.Author.Needs.{needs}
-use Rattle.sched.proofs.scheduler.off_of.Statement.{statement}
-use Rattle.sched.proofs.scheduler.off_of.Tie as tie
+use Rattle.sched.proofs.layout.off_of.Statement.{statement}
+use Rattle.sched.proofs.layout.off_of.Tie as tie
 
 returns : tie.Need-returns
 returns c = rw (c .before .before .b .given .1)

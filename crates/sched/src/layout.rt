@@ -23,7 +23,7 @@ impl RingBufferScheduler {
         ensures { λ r. ⌜ r ≡ layoutOf self ⌝ }
     {
         match self.demand_soundness() {
-            Checked::Sound(s) => LayoutAnswer::Of(s.arrangement()),
+            Checked::Sound(s) => LayoutAnswer::Of(s.layout_in()),
             Checked::Refused(e) => LayoutAnswer::Refused(e),
         }
     }
@@ -32,7 +32,7 @@ impl RingBufferScheduler {
         ensures { λ r. ⌜ r ≡ blocksOf self ⌝ }
     {
         match self.demand_soundness() {
-            Checked::Sound(s) => BlocksAnswer::Of(s.cut()),
+            Checked::Sound(s) => BlocksAnswer::Of(s.blocks_in()),
             Checked::Refused(e) => BlocksAnswer::Refused(e),
         }
     }
@@ -76,44 +76,44 @@ impl RingBufferScheduler {
     pub fn block_0_off(self) -> OffsetAnswer
         ensures { λ r. ⌜ r ≡ offFrom (block0From (blocksOf self)) ⌝ }
     {
-        off_of(self.block_0())
+        off_from(self.block_0())
     }
 
     pub fn block_1_off(self) -> OffsetAnswer
         ensures { λ r. ⌜ r ≡ offFrom (block1From (blocksOf self)) ⌝ }
     {
-        off_of(self.block_1())
+        off_from(self.block_1())
     }
 
     pub fn block_2_off(self) -> OffsetAnswer
         ensures { λ r. ⌜ r ≡ offFrom (block2From (blocksOf self)) ⌝ }
     {
-        off_of(self.block_2())
+        off_from(self.block_2())
     }
 
     pub fn block_0_len(self) -> AmountAnswer
         ensures { λ r. ⌜ r ≡ lenFrom (block0From (blocksOf self)) ⌝ }
     {
-        len_of(self.block_0())
+        len_from(self.block_0())
     }
 
     pub fn block_1_len(self) -> AmountAnswer
         ensures { λ r. ⌜ r ≡ lenFrom (block1From (blocksOf self)) ⌝ }
     {
-        len_of(self.block_1())
+        len_from(self.block_1())
     }
 
     pub fn block_2_len(self) -> AmountAnswer
         ensures { λ r. ⌜ r ≡ lenFrom (block2From (blocksOf self)) ⌝ }
     {
-        len_of(self.block_2())
+        len_from(self.block_2())
     }
 
     pub fn next_operation_block(self, op: OperationType) -> BlockAnswer
         ensures { λ r. ⌜ r ≡ nextBlockOf self op ⌝ }
     {
         match self.demand_soundness() {
-            Checked::Sound(s) => BlockAnswer::Of(s.next_block(op)),
+            Checked::Sound(s) => BlockAnswer::Of(s.next_block_in(op)),
             Checked::Refused(e) => BlockAnswer::Refused(e),
         }
     }
@@ -132,32 +132,32 @@ impl RingBufferScheduler {
 
     // ---- of a sound scheduler
 
-    fn arrangement(self) -> BufferLayout
+    fn layout_in(self) -> BufferLayout
         requires { ⌜ IsSound self ⌝ }
         ensures { λ r. ⌜ r ≡ layoutIn self ⌝ }
     {
-        let read = self.off(OperationType::Read).0;
-        let write = self.off(OperationType::Write).0;
+        let read = self.offset_in(OperationType::Read).0;
+        let write = self.offset_in(OperationType::Write).0;
         if read < write {
             return BufferLayout::FreeDataFree;
         }
         if write < read {
             return BufferLayout::DataFreeData;
         }
-        if self.data() == 0 {
+        if self.data_in() == 0 {
             return BufferLayout::FreeDataFree;
         }
         BufferLayout::DataFreeData
     }
 
-    fn cut(self) -> Blocks
+    fn blocks_in(self) -> Blocks
         requires { ⌜ IsSound self ⌝ }
         ensures { λ r. ⌜ r ≡ blocksIn self ⌝ }
     {
-        let low = self.low();
-        let high = self.high();
+        let low = self.low_in();
+        let high = self.high_in();
         let last = self.buf_len - high;
-        match self.arrangement() {
+        match self.layout_in() {
             BufferLayout::DataFreeData => Blocks(
                 Block::new(BlockType::Data, Bit::One, Offset(0), low),
                 Block::new(BlockType::Free, Bit::Zero, Offset(low), high - low),
@@ -171,32 +171,32 @@ impl RingBufferScheduler {
         }
     }
 
-    fn low(self) -> u64
+    fn low_in(self) -> u64
         requires { ⌜ IsSound self ⌝ }
         ensures { λ r. ⌜ r ≡ lowIn self ⌝ }
     {
         least(
-            self.off(OperationType::Read).0,
-            self.off(OperationType::Write).0,
+            self.offset_in(OperationType::Read).0,
+            self.offset_in(OperationType::Write).0,
         )
     }
 
-    fn high(self) -> u64
+    fn high_in(self) -> u64
         requires { ⌜ IsSound self ⌝ }
         ensures { λ r. ⌜ r ≡ highIn self ⌝ }
     {
         most(
-            self.off(OperationType::Read).0,
-            self.off(OperationType::Write).0,
+            self.offset_in(OperationType::Read).0,
+            self.offset_in(OperationType::Write).0,
         )
     }
 
-    pub(crate) fn next_block(self, op: OperationType) -> Block
+    pub(crate) fn next_block_in(self, op: OperationType) -> Block
         requires { ⌜ IsSound self ⌝ }
         ensures { λ r. ⌜ r ≡ nextBlockIn self op ⌝ }
     {
-        let blocks = self.cut();
-        match self.arrangement() {
+        let blocks = self.blocks_in();
+        match self.layout_in() {
             BufferLayout::DataFreeData => match op {
                 OperationType::Read => blocks.2,
                 OperationType::Write => blocks.1,
@@ -209,7 +209,7 @@ impl RingBufferScheduler {
     }
 }
 
-fn off_of(b: BlockAnswer) -> OffsetAnswer
+fn off_from(b: BlockAnswer) -> OffsetAnswer
     ensures { λ r. ⌜ r ≡ offFrom b ⌝ }
 {
     match b {
@@ -221,7 +221,7 @@ fn off_of(b: BlockAnswer) -> OffsetAnswer
     }
 }
 
-fn len_of(b: BlockAnswer) -> AmountAnswer
+fn len_from(b: BlockAnswer) -> AmountAnswer
     ensures { λ r. ⌜ r ≡ lenFrom b ⌝ }
 {
     match b {

@@ -50,7 +50,7 @@ impl RingBufferScheduler {
         ensures { λ r. ⌜ r ≡ registerOf self op len ⌝ }
     {
         match self.demand_soundness() {
-            Checked::Sound(s) => s.register(op, len),
+            Checked::Sound(s) => s.register_in(op, len),
             Checked::Refused(e) => Registered::Refused(e),
         }
     }
@@ -68,7 +68,7 @@ impl RingBufferScheduler {
     {
         match self.demand_soundness() {
             Checked::Sound(s) => match ScheduledOperations::try_new(list) {
-                OperationsAnswer::Of(ops) => s.register_list(ops),
+                OperationsAnswer::Of(ops) => s.register_list_in(ops),
                 OperationsAnswer::Refused(e) => Registered::Refused(e),
             },
             Checked::Refused(e) => Registered::Refused(e),
@@ -90,11 +90,11 @@ impl RingBufferScheduler {
 
     // ---- of a sound scheduler
 
-    fn register(self, op: OperationType, len: u64) -> Registered
+    fn register_in(self, op: OperationType, len: u64) -> Registered
         requires { ⌜ IsSound self ⌝ }
         ensures { λ r. ⌜ r ≡ registerIn self op len ⌝ }
     {
-        let greatest = self.greatest(op);
+        let greatest = self.greatest_in(op);
         if len > greatest {
             return Registered::Refused(Refusal::OperationTooLarge {
                 op_type: op,
@@ -102,7 +102,7 @@ impl RingBufferScheduler {
                 max_len: greatest,
             });
         }
-        Registered::Advanced(self.advanced(op, len))
+        Registered::Advanced(self.advanced_in(op, len))
     }
 
     fn register_one(self, op: ScheduledOperation) -> Registered
@@ -110,10 +110,10 @@ impl RingBufferScheduler {
         ensures { λ r. ⌜ r ≡ registerIn self (op .typ) (op .len) ⌝ }
     {
         let typ = op.typ;
-        self.register(typ, op.len)
+        self.register_in(typ, op.len)
     }
 
-    fn register_list(self, list: ScheduledOperations) -> Registered
+    fn register_list_in(self, list: ScheduledOperations) -> Registered
         requires { ⌜ IsSound self ⌝ }
         ensures { λ r. ⌜ r ≡ registerListIn self list ⌝ }
     {
@@ -127,7 +127,7 @@ impl RingBufferScheduler {
         }
     }
 
-    fn advanced(self, op: OperationType, n: u64) -> RingBufferScheduler
+    fn advanced_in(self, op: OperationType, n: u64) -> RingBufferScheduler
         requires { ⌜ IsSound self ⌝ }
         ensures { λ r. ⌜ r ≡ advancedIn self op n ⌝ }
     {
@@ -137,13 +137,13 @@ impl RingBufferScheduler {
         match op {
             OperationType::Read => RingBufferScheduler {
                 buf_len,
-                items_read: later(items_read, buf_len, n),
+                items_read: later_of(items_read, buf_len, n),
                 items_written,
             },
             OperationType::Write => RingBufferScheduler {
                 buf_len,
                 items_read,
-                items_written: later(items_written, buf_len, n),
+                items_written: later_of(items_written, buf_len, n),
             },
         }
     }
@@ -152,9 +152,9 @@ impl RingBufferScheduler {
         requires { ⌜ IsSound self ⌝ }
         ensures { λ r. ⌜ r ≡ moveIn self op «max_len» ⌝ }
     {
-        let off = self.off(op);
-        let len = least(max_len, self.greatest(op));
-        let scheduler = self.advanced(op, len);
+        let off = self.offset_in(op);
+        let len = least(max_len, self.greatest_in(op));
+        let scheduler = self.advanced_in(op, len);
         Move {
             off,
             len,
@@ -164,7 +164,7 @@ impl RingBufferScheduler {
 }
 
 // The counter n items on.
-fn later(counter: Counter, buf_len: u64, n: u64) -> Counter
+fn later_of(counter: Counter, buf_len: u64, n: u64) -> Counter
     requires { ⌜ Sized «buf_len» ⌝ }
     ensures { λ r. ⌜ r ≡ laterOf «buf_len» counter n ⌝ }
 {

@@ -22,7 +22,7 @@ impl RingBufferScheduler {
         ensures { λ r. ⌜ r ≡ nextOf self op «max_len» ⌝ }
     {
         match self.demand_soundness() {
-            Checked::Sound(s) => NextOperationAnswer::Of(s.next(op, max_len)),
+            Checked::Sound(s) => NextOperationAnswer::Of(s.next_in(op, max_len)),
             Checked::Refused(e) => NextOperationAnswer::Refused(e),
         }
     }
@@ -43,7 +43,7 @@ impl RingBufferScheduler {
         ensures { λ r. ⌜ r ≡ scheduleOf self op «max_len» ⌝ }
     {
         match self.demand_soundness() {
-            Checked::Sound(s) => OperationsAnswer::Of(s.schedule(op, max_len)),
+            Checked::Sound(s) => OperationsAnswer::Of(s.schedule_in(op, max_len)),
             Checked::Refused(e) => OperationsAnswer::Refused(e),
         }
     }
@@ -62,26 +62,26 @@ impl RingBufferScheduler {
 
     // ---- of a sound scheduler
 
-    fn next(self, op: OperationType, max_len: u64) -> NextOperation
+    fn next_in(self, op: OperationType, max_len: u64) -> NextOperation
         requires { ⌜ IsSound self ⌝ }
         ensures { λ r. ⌜ r ≡ nextIn self op «max_len» ⌝ }
     {
-        let block = self.next_block(op);
-        some(op, block.off, least(max_len, block.len))
+        let block = self.next_block_in(op);
+        some_of(op, block.off, least(max_len, block.len))
     }
 
     // All that is asked and there, from the offset on. That asking block after block gives the same is a law.
-    fn schedule(self, op: OperationType, max_len: u64) -> ScheduledOperations
+    fn schedule_in(self, op: OperationType, max_len: u64) -> ScheduledOperations
         requires { ⌜ IsSound self ⌝ }
         ensures { λ r. ⌜ r ≡ scheduleIn self op «max_len» ⌝ }
     {
-        let n = least(max_len, self.greatest(op));
-        cut_at_end(op, self.buf_len, self.off(op), n)
+        let n = least(max_len, self.greatest_in(op));
+        cut_of(op, self.buf_len, self.offset_in(op), n)
     }
 }
 
 // An operation of n items; none of 0.
-fn some(typ: OperationType, off: Offset, n: u64) -> NextOperation
+fn some_of(typ: OperationType, off: Offset, n: u64) -> NextOperation
     ensures { λ r. ⌜ r ≡ someOf typ off n ⌝ }
 {
     if n == 0 {
@@ -91,7 +91,7 @@ fn some(typ: OperationType, off: Offset, n: u64) -> NextOperation
 }
 
 // n items from the offset on, cut where the buffer ends.
-fn cut_at_end(typ: OperationType, buf_len: u64, off: Offset, n: u64) -> ScheduledOperations
+fn cut_of(typ: OperationType, buf_len: u64, off: Offset, n: u64) -> ScheduledOperations
     requires { ⌜ (off .0 < «buf_len») × (n ≤ «buf_len») ⌝ }
     ensures { λ r. ⌜ r ≡ cutOf typ «buf_len» off n ⌝ }
 {

@@ -105,7 +105,7 @@ impl RingBufferScheduler {
         ensures { λ r. ⌜ r ≡ counterAnswerOf self op ⌝ }
     {
         match self.demand_soundness() {
-            Checked::Sound(s) => CounterAnswer::Of(s.counter(op)),
+            Checked::Sound(s) => CounterAnswer::Of(s.counter_in(op)),
             Checked::Refused(e) => CounterAnswer::Refused(e),
         }
     }
@@ -126,7 +126,7 @@ impl RingBufferScheduler {
         ensures { λ r. ⌜ r ≡ offsetAnswerOf self op ⌝ }
     {
         match self.demand_soundness() {
-            Checked::Sound(s) => OffsetAnswer::Of(s.off(op)),
+            Checked::Sound(s) => OffsetAnswer::Of(s.offset_in(op)),
             Checked::Refused(e) => OffsetAnswer::Refused(e),
         }
     }
@@ -146,7 +146,7 @@ impl RingBufferScheduler {
     pub fn is_zero_sized(self) -> BoolAnswer
         ensures { λ r. ⌜ r ≡ isZeroFrom (bufLenOf self) ⌝ }
     {
-        is_zero(self.buf_len())
+        is_zero_from(self.buf_len())
     }
 
     pub fn data_avail(self) -> AmountAnswer
@@ -165,7 +165,7 @@ impl RingBufferScheduler {
         ensures { λ r. ⌜ r ≡ greatestOf self op ⌝ }
     {
         match self.demand_soundness() {
-            Checked::Sound(s) => AmountAnswer::Of(s.greatest(op)),
+            Checked::Sound(s) => AmountAnswer::Of(s.greatest_in(op)),
             Checked::Refused(e) => AmountAnswer::Refused(e),
         }
     }
@@ -174,7 +174,7 @@ impl RingBufferScheduler {
         ensures { λ r. ⌜ r ≡ fillStateOf self ⌝ }
     {
         match self.demand_soundness() {
-            Checked::Sound(s) => FillStateAnswer::Of(s.fill()),
+            Checked::Sound(s) => FillStateAnswer::Of(s.fill_state_in()),
             Checked::Refused(e) => FillStateAnswer::Refused(e),
         }
     }
@@ -182,30 +182,30 @@ impl RingBufferScheduler {
     pub fn is_empty(self) -> BoolAnswer
         ensures { λ r. ⌜ r ≡ isZeroFrom (greatestOf self OperationType.Read) ⌝ }
     {
-        is_zero(self.data_avail())
+        is_zero_from(self.data_avail())
     }
 
     pub fn is_full(self) -> BoolAnswer
         ensures { λ r. ⌜ r ≡ isZeroFrom (greatestOf self OperationType.Write) ⌝ }
     {
-        is_zero(self.space_avail())
+        is_zero_from(self.space_avail())
     }
 
     pub fn is_nonempty(self) -> BoolAnswer
         ensures { λ r. ⌜ r ≡ isPositiveFrom (greatestOf self OperationType.Read) ⌝ }
     {
-        is_positive(self.data_avail())
+        is_positive_from(self.data_avail())
     }
 
     pub fn is_nonfull(self) -> BoolAnswer
         ensures { λ r. ⌜ r ≡ isPositiveFrom (greatestOf self OperationType.Write) ⌝ }
     {
-        is_positive(self.space_avail())
+        is_positive_from(self.space_avail())
     }
 
     // ---- of a sound scheduler
 
-    fn counter(self, op: OperationType) -> Counter
+    fn counter_in(self, op: OperationType) -> Counter
         ensures { λ r. ⌜ r ≡ counterIn self op ⌝ }
     {
         match op {
@@ -214,35 +214,35 @@ impl RingBufferScheduler {
         }
     }
 
-    pub(crate) fn off(self, op: OperationType) -> Offset
+    pub(crate) fn offset_in(self, op: OperationType) -> Offset
         requires { ⌜ IsSound self ⌝ }
         ensures { λ r. ⌜ r ≡ offsetIn self op ⌝ }
     {
-        offset(self.counter(op), self.buf_len)
+        offset_of(self.counter_in(op), self.buf_len)
     }
 
-    pub(crate) fn data(self) -> u64
+    pub(crate) fn data_in(self) -> u64
         requires { ⌜ IsSound self ⌝ }
         ensures { λ r. ⌜ r ≡ dataIn self ⌝ }
     {
         double_modulus(self.buf_len).sub(self.items_written.0, self.items_read.0)
     }
 
-    pub(crate) fn greatest(self, op: OperationType) -> u64
+    pub(crate) fn greatest_in(self, op: OperationType) -> u64
         requires { ⌜ IsSound self ⌝ }
         ensures { λ r. ⌜ r ≡ greatestIn self op ⌝ }
     {
         match op {
-            OperationType::Read => self.data(),
-            OperationType::Write => self.buf_len - self.data(),
+            OperationType::Read => self.data_in(),
+            OperationType::Write => self.buf_len - self.data_in(),
         }
     }
 
-    fn fill(self) -> BufferFillState
+    fn fill_state_in(self) -> BufferFillState
         requires { ⌜ IsSound self ⌝ }
         ensures { λ r. ⌜ r ≡ fillStateIn self ⌝ }
     {
-        let data = self.data();
+        let data = self.data_in();
         if data == 0 {
             return BufferFillState::Empty;
         }
@@ -265,7 +265,7 @@ pub(crate) fn double_modulus(buf_len: u64) -> Modulus
 }
 
 // The only way from a counter to an offset. A counter is below 2L, so a compare does for the remainder.
-fn offset(counter: Counter, buf_len: u64) -> Offset
+fn offset_of(counter: Counter, buf_len: u64) -> Offset
     requires { ⌜ counter .0 < 2 * «buf_len» ⌝ }
     ensures { λ r. ⌜ r ≡ offsetOf «buf_len» counter ⌝ }
 {
@@ -275,7 +275,7 @@ fn offset(counter: Counter, buf_len: u64) -> Offset
     Offset(counter.0 - buf_len)
 }
 
-fn is_zero(a: AmountAnswer) -> BoolAnswer
+fn is_zero_from(a: AmountAnswer) -> BoolAnswer
     ensures { λ r. ⌜ r ≡ isZeroFrom a ⌝ }
 {
     match a {
@@ -284,7 +284,7 @@ fn is_zero(a: AmountAnswer) -> BoolAnswer
     }
 }
 
-fn is_positive(a: AmountAnswer) -> BoolAnswer
+fn is_positive_from(a: AmountAnswer) -> BoolAnswer
     ensures { λ r. ⌜ r ≡ isPositiveFrom a ⌝ }
 {
     match a {

@@ -16,7 +16,8 @@ use Rattle.sched.specs.declared.register.Move.{Move}
 use Rattle.sched.specs.declared.register.MoveAnswer.the-variants as moves
 use Rattle.sched.specs.declared.scheduler.RingBufferScheduler.{RingBufferScheduler}
 use Rattle.sched.specs.Scheduler.{moveOf}
-use Rattle.sched.proofs.Laws.{sound-is, offset-lt, greatest-most, move-of, move-refused}
+use Rattle.sched.proofs.Laws.{sound-is, offset-lt, greatest-most}
+use Rattle.sched.proofs.RegisterLaws.{move-of, move-refused}
 use Rattle.copies.specs.declared.Copied.{Copied}
 use Rattle.copies.specs.declared.lent.Told.{Told}
 use Rattle.copies.specs.declared.Ready.the-variants as ready

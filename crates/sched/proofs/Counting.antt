@@ -25,7 +25,9 @@ use Rattle.sched.specs.List.{soundListOf}
 use Rattle.sched.specs.Operation.{operationOf}
 use Rattle.sched.specs.Promise.{MovedByList, by-none, by-one, by-two, Next, Between, Taken, MovedBy}
 use Rattle.sched.specs.Scheduler.{Sized, IsSound, soundOf, dataIn, greatestIn, offsetIn, nextIn, advancedIn, registerFrom, registerOf, registerSoundList, registerListFrom, registerListOf, thenRegister}
-use Rattle.sched.proofs.Laws.{sound-is, sound-both, registered-sound, next-is, some-none, some-some, offset-lt, advanced-sound}
+use Rattle.sched.proofs.Laws.{sound-is, sound-both, offset-lt}
+use Rattle.sched.proofs.RegisterLaws.{registered-sound, advanced-sound}
+use Rattle.sched.proofs.ScheduleLaws.{next-is, some-none, some-some}
 use Rattle.sched.proofs.GivenLists.{list-kept, tests-list, registers-one, registers-two}
 use Rattle.sched.proofs.Promises.{too-large, registers}
 

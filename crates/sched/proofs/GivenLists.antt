@@ -24,7 +24,8 @@ use Rattle.sched.specs.declared.scheduler.RingBufferScheduler.{RingBuffe
 use Rattle.sched.specs.Given.{Verdict, accepted, refused, numberIn, valuesIn, Exactly, Given, taken, GivenRegister, given-6, GivenList, list-none, list-one, list-two, given-7, given-8, GivenOperations, the-record, the-list, nothing, alone, at-first, at-second, ofChecked, ofRegistered, ofOperations}
 use Rattle.sched.specs.List.{sameTypeOf, soundListOf}
 use Rattle.sched.specs.Scheduler.{IsSound, soundOf, greatestIn, advancedIn, registerFrom, registerOf, registerSoundList, registerListFrom, registerListOf, thenRegister}
-use Rattle.sched.proofs.Laws.{sound-is, sound-both, advanced-sound}
+use Rattle.sched.proofs.Laws.{sound-is, sound-both}
+use Rattle.sched.proofs.RegisterLaws.{advanced-sound}
 use Rattle.sched.proofs.Promises.{too-large, registers, too-long, inconsistent, list-taken}
 use Rattle.sched.proofs.Given.{Told, told, number-some, type-number, record-exactly, register-exactly}
 

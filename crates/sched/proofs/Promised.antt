@@ -23,7 +23,8 @@ use Rattle.sched.specs.declared.scheduler.RingBufferScheduler.{RingBuffe
 use Rattle.sched.specs.Promise.{Schedules, Asks, Moves, NextPromise, joined, byBlocks, Between, Taken, WrittenBy, MovedBy, MovedByList}
 use Rattle.sched.specs.Scheduler.{IsSound, soundOf, dataIn, spaceIn, greatestIn, nextIn, scheduleIn, advancedIn, greatestFrom, nextFrom, nextOf, scheduleFrom, scheduleOf, registerOf, registerListOf}
 use Rattle.sched.proofs.Counting.{between, taken-sound, sound-taken, moved, registered-moved, list-moved, next-promised}
-use Rattle.sched.proofs.Laws.{sound-is, sound-both, advanced-sound}
+use Rattle.sched.proofs.Laws.{sound-is, sound-both}
+use Rattle.sched.proofs.RegisterLaws.{advanced-sound}
 use Rattle.sched.proofs.Promises.{scheduling, by-blocks, registers}
 use Rattle.sched.proofs.Says.{demand-soundness-says, data-avail-says, space-avail-says, max-operation-len-says, schedule-contiguous-operations-says, schedule-reads-says, schedule-writes-says, schedule-next-contiguous-operation-says, schedule-next-read-says, schedule-next-write-says, try-register-read-says, try-register-write-says, try-register-operation-manually-says, try-register-operation-says, try-register-operations-says}
 use Rattle.sched.proofs.scheduler.RingBufferScheduler.demand_soundness.Kinds as demand-soundness-kinds

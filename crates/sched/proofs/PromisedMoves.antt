@@ -20,7 +20,8 @@ use Rattle.sched.specs.declared.scheduler.RingBufferScheduler.{RingBuffe
 use Rattle.sched.specs.Promise.{MovePromise, MovesAtOnce}
 use Rattle.sched.specs.Scheduler.{IsSound, greatestIn, cutOf, scheduleIn, scheduleFrom, registerListOf, moveIn, moveFrom}
 use Rattle.sched.proofs.Counting.{moved}
-use Rattle.sched.proofs.Laws.{sound-is, move-of, move-refused}
+use Rattle.sched.proofs.Laws.{sound-is}
+use Rattle.sched.proofs.RegisterLaws.{move-of, move-refused}
 use Rattle.sched.proofs.Promises.{scheduling}
 use Rattle.sched.proofs.Promised.{Schedule}
 use Rattle.sched.proofs.Says.{schedule-and-register-says, schedule-contiguous-operations-says, try-register-operations-says}

@@ -1,7 +1,7 @@
 -- The three cases of the definition; the compare before the sum is the compare of the sum.
 use mathlib.Core.Path.{refl, sym, _∙_}
 use native.Mathlib.Omega.{arith}
-use Rattle.sched.proofs.Laws.{two-long, two-fits-same, two-fits-mixed}
+use Rattle.sched.proofs.ListLaws.{two-long, two-fits-same, two-fits-mixed}
 use borrow.Author.Needs.{needs}
 use Rattle.sched.proofs.list.sound_two_of.Statement.{statement}
 use Rattle.sched.proofs.list.sound_two_of.Tie as tie

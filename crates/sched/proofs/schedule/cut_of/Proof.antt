@@ -1,6 +1,6 @@
 -- By whether there is anything, and whether it fits before the end.
 use native.Mathlib.Omega.{arith}
-use Rattle.sched.proofs.Laws.{positive, cut-none, cut-one, cut-two}
+use Rattle.sched.proofs.ScheduleLaws.{positive, cut-none, cut-one, cut-two}
 use borrow.Author.Needs.{needs}
 use Rattle.sched.proofs.schedule.cut_of.Statement.{statement}
 use Rattle.sched.proofs.schedule.cut_of.Tie as tie

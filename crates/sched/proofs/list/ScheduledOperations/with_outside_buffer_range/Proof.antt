@@ -1,6 +1,6 @@
 -- The list's refusal is passed on; else the answer is of the list that passed.
 use mathlib.Core.Path.{sym, _∙_}
-use Rattle.sched.proofs.Laws.{summed}
+use Rattle.sched.proofs.ListLaws.{summed}
 use borrow.Author.Needs.{needs}
 use Rattle.sched.proofs.list.ScheduledOperations.with_outside_buffer_range.Statement.{statement}
 use Rattle.sched.proofs.list.ScheduledOperations.with_outside_buffer_range.Tie as tie

@@ -1,7 +1,7 @@
 -- By the offsets; equal ones by the data.
 use native.Mathlib.Omega.{arith}
 use mathlib.Core.Path.{sym, _∙_}
-use Rattle.sched.proofs.Laws.{layout-below, layout-above, layout-empty, layout-full}
+use Rattle.sched.proofs.LayoutLaws.{layout-below, layout-above, layout-empty, layout-full}
 use borrow.Author.Needs.{needs}
 use Rattle.sched.proofs.scheduler.RingBufferScheduler.layout_in.Statement.{statement}
 use Rattle.sched.proofs.scheduler.RingBufferScheduler.layout_in.Tie as tie

@@ -1,6 +1,6 @@
 -- Operation by operation; the scheduler after the first is sound.
 use mathlib.Core.Path.{sym, _∙_}
-use Rattle.sched.proofs.Laws.{registered-sound}
+use Rattle.sched.proofs.RegisterLaws.{registered-sound}
 use borrow.Author.Needs.{needs}
 use Rattle.sched.proofs.scheduler.RingBufferScheduler.register_list_in.Statement.{statement}
 use Rattle.sched.proofs.scheduler.RingBufferScheduler.register_list_in.Tie as tie

@@ -24,7 +24,7 @@ use Rattle.sched.specs.declared.scheduler.RingBufferScheduler.{RingBuffe
 use Rattle.sched.specs.List.{soundListOf}
 use Rattle.sched.specs.Operation.{operationOf}
 use Rattle.sched.specs.Promise.{MovedByList, by-none, by-one, by-two, Next, Between, Taken, MovedBy}
-use Rattle.sched.specs.Scheduler.{Sized, IsSound, soundOf, dataIn, greatestIn, offsetIn, nextIn, advancedIn, registerFrom, registerOf, registerSoundList, registerListFrom, registerListOf, thenRegister}
+use Rattle.sched.specs.Scheduler.{Sized, IsSound, soundOf, dataIn, greatestIn, offsetIn, nextIn, advancedIn, registerOf, registerSoundList, registerListOf, thenRegister}
 use Rattle.sched.proofs.Laws.{sound-is, sound-both, offset-lt}
 use Rattle.sched.proofs.RegisterLaws.{registered-sound, advanced-sound}
 use Rattle.sched.proofs.ScheduleLaws.{next-is, some-none, some-some}
@@ -101,15 +101,15 @@ registered-moved s t n u p = go (soundOf s) refl
 
     go : (c : Checked) → soundOf s ≡ c → IsSound s × MovedBy s t n u
     go (checked.Sound v) q = let h : IsSound s = sound-both v s (sym q) .0 in (h, sound-part h)
-    go (checked.Refused e) q = never u e (sym (ap (registerFrom t n) q) ∙ p)
+    go (checked.Refused e) q = never u e (rw q at p)
 
 -- ---- registering a list
 module _ (s : RingBufferScheduler) (h : IsSound s) (u : RingBufferScheduler) where
   -- the second after the first
   then-moved : (a b : ScheduledOperation) (x : Registered) → registerOf s (a .typ) (a .len) ≡ x → thenRegister x b ≡ registered.Advanced u → MovedByList s (list.Two a b) u
   then-moved a b (registered.Advanced v) p q =
-      let k : IsSound v = registered-sound s h (a .typ) (a .len) v (sym p ∙ sym (ap (registerFrom (a .typ) (a .len)) (sound-is s h))) in
-      by-two v (registered-moved s (a .typ) (a .len) v p .1) (registered-moved v (b .typ) (b .len) u (sym (ap (registerFrom (b .typ) (b .len)) (sound-is v k)) ∙ q) .1)
+      let k : IsSound v = registered-sound s h (a .typ) (a .len) v (rw (← sound-is s h) at (sym p)) in
+      by-two v (registered-moved s (a .typ) (a .len) v p .1) (registered-moved v (b .typ) (b .len) u (rw (← sound-is v k) q) .1)
   then-moved a b (registered.Refused e) p q = never u e q
 
   sound-moved : (ops : ScheduledOperations) → registerListOf s ops ≡ registered.Advanced u → MovedByList s ops u
@@ -126,7 +126,7 @@ list-moved s ops u p = go (soundOf s) refl
   where
     go : (c : Checked) → soundOf s ≡ c → IsSound s × MovedByList s ops u
     go (checked.Sound v) q = let h : IsSound s = sound-both v s (sym q) .0 in (h, sound-moved s h u ops p)
-    go (checked.Refused e) q = never u e (sym (ap (registerListFrom ops) q) ∙ p)
+    go (checked.Refused e) q = never u e (rw q at p)
 
 -- ---- the next operation
 pub next-promised : (s : RingBufferScheduler) → IsSound s → (t : OperationType) (m : ℕ) (o : NextOperation) → nextIn s t m ≡ o → Next s t m o

@@ -21,9 +21,9 @@ use Rattle.sched.specs.declared.scheduler.Checked.the-variants as checke
 use Rattle.sched.specs.declared.register.Registered.{Registered}
 use Rattle.sched.specs.declared.register.Registered.the-variants as registered
 use Rattle.sched.specs.declared.scheduler.RingBufferScheduler.{RingBufferScheduler}
-use Rattle.sched.specs.Given.{Verdict, accepted, refused, numberIn, valuesIn, Exactly, Given, taken, GivenRegister, given-6, GivenList, list-none, list-one, list-two, given-7, given-8, GivenOperations, the-record, the-list, nothing, alone, at-first, at-second, ofChecked, ofRegistered, ofOperations}
+use Rattle.sched.specs.Given.{Verdict, accepted, refused, numberIn, valuesIn, Exactly, Given, GivenRegister, given-6, GivenList, list-none, list-one, list-two, given-7, given-8, GivenOperations, the-record, the-list, nothing, alone, at-first, at-second, ofChecked, ofRegistered, ofOperations}
 use Rattle.sched.specs.List.{sameTypeOf, soundListOf}
-use Rattle.sched.specs.Scheduler.{IsSound, soundOf, greatestIn, advancedIn, registerFrom, registerOf, registerSoundList, registerListFrom, registerListOf, thenRegister}
+use Rattle.sched.specs.Scheduler.{registerIn, IsSound, soundOf, greatestIn, advancedIn, registerOf, registerSoundList, registerListOf, thenRegister}
 use Rattle.sched.proofs.Laws.{sound-is, sound-both}
 use Rattle.sched.proofs.RegisterLaws.{advanced-sound}
 use Rattle.sched.proofs.Promises.{too-large, registers, too-long, inconsistent, list-taken}
@@ -101,29 +101,29 @@ module _ (s : RingBufferScheduler) where
   ofOps ops = ofRegistered (registerListOf s ops)
 
   record-refused : (ops : ScheduledOperations) (e : Refusal) → soundOf s ≡ checked.Refused e → ofOps ops ≡ refused e
-  record-refused ops e p = ap (λ (c : Checked). ofRegistered (registerListFrom ops c)) p
+  record-refused ops e p = rw p
 
   module _ (h : IsSound s) where
     pub tests-list : (ops : ScheduledOperations) → registerListOf s ops ≡ registerSoundList s (soundListOf ops)
-    tests-list ops = ap (registerListFrom ops) (sym (sound-is s h))
+    tests-list ops = rw (← sound-is s h)
 
     list-refused : (ops : ScheduledOperations) (e : Refusal) → soundListOf ops ≡ operations.Refused e → ofOps ops ≡ refused e
     list-refused ops e p = ap ofRegistered (tests-list ops ∙ ap (registerSoundList s) p)
 
     pub registers-one : (a : ScheduledOperation) → registerListOf s (list.One a) ≡ registerOf s (a .typ) (a .len)
-    registers-one a = tests-list (list.One a) ∙ ap (registerFrom (a .typ) (a .len)) (sound-is s h)
+    registers-one a = rw (← sound-is s h)
 
     module _ (a b : ScheduledOperation) (l : soundListOf (list.Two a b) ≡ operations.Of (list.Two a b)) where
       pub registers-two : registerListOf s (list.Two a b) ≡ thenRegister (registerOf s (a .typ) (a .len)) b
-      registers-two = tests-list (list.Two a b) ∙ ap (registerSoundList s) l ∙ ap (λ (c : Checked). thenRegister (registerFrom (a .typ) (a .len) c) b) (sound-is s h)
+      registers-two = rw (← sound-is s h, l)
 
       first-refused : (e : Refusal) → registerOf s (a .typ) (a .len) ≡ registered.Refused e → ofOps (list.Two a b) ≡ refused e
       first-refused e p = ap ofRegistered (registers-two ∙ ap (λ (x : Registered). thenRegister x b) p)
 
       second-asked : a .len ≤ greatestIn s (a .typ) → registerListOf s (list.Two a b) ≡ registerOf (advancedIn s (a .typ) (a .len)) (b .typ) (b .len)
       second-asked f =
-          registers-two ∙ ap (λ (x : Registered). thenRegister x b) (registers s h (a .typ) (a .len) f)
-          ∙ ap (registerFrom (b .typ) (b .len)) (sound-is (advancedIn s (a .typ) (a .len)) (advanced-sound s h (a .len) (a .typ) f))
+          let after : registerIn (advancedIn s (a .typ) (a .len)) (b .typ) (b .len) ≡ registerOf (advancedIn s (a .typ) (a .len)) (b .typ) (b .len) = rw (← sound-is (advancedIn s (a .typ) (a .len)) (advanced-sound s h (a .len) (a .typ) f)) in
+          registers-two ∙ ap (λ (x : Registered). thenRegister x b) (registers s h (a .typ) (a .len) f) ∙ after
 
     sound-only : (ops : ScheduledOperations) → GivenOperations s ops (numberIn (ofOps ops)) (valuesIn (ofOps ops))
     sound-only list.None = rw (ap ofRegistered (tests-list list.None)) (nothing h)

@@ -16,8 +16,8 @@ use Rattle.sched.specs.declared.scheduler.RingBufferScheduler.{RingBuffe
 use Rattle.sched.specs.declared.register.Move.{Move}
 use Rattle.sched.specs.declared.register.MoveAnswer.the-variants as moves
 use Rattle.sched.specs.declared.register.Registered.the-variants as registered
-use Rattle.sched.specs.Scheduler.{IsSound, soundOf, dataIn, offsetIn, greatestIn, advancedIn, registerIn, moveIn, moveFrom, moveOf}
-use Rattle.sched.proofs.Laws.{sound-both}
+use Rattle.sched.specs.Scheduler.{IsSound, soundOf, dataIn, offsetIn, greatestIn, advancedIn, registerIn, moveIn, moveOf}
+use Rattle.sched.proofs.Laws.{sound-both, sound-is}
 
 -- ---- what registering does
 module _ (s : RingBufferScheduler) (h : IsSound s) (n : ℕ) where
@@ -74,18 +74,27 @@ registered-sound s h t n u p = go (ltb (greatestIn s t) n) refl p
 -- ---- a move is of a sound record, or refused as the tests refuse
 module _ (s : RingBufferScheduler) (t : OperationType) (m : ℕ) where
   pub move-of : (v : Move) → moves.Of v ≡ moveOf s t m → IsSound s × (v ≡ moveIn s t m)
-  move-of v p = go (soundOf s) refl p
+  move-of v p = go (soundOf s) refl
     where
-      go : (c : Checked) → soundOf s ≡ c → moves.Of v ≡ moveFrom t m c → IsSound s × (v ≡ moveIn s t m)
-      go (checked.Sound u) q p =
-          let b : IsSound s × (u ≡ s) = sound-both u s (sym q) in
-          let e : v ≡ moveIn u t m = cc in
-          (b .0, e ∙ ap (λ (x : RingBufferScheduler). moveIn x t m) (b .1))
-      go (checked.Refused e) q p = let z : _≡_ {A = ℕ} 0 1 = cc in absurd (omega arith)
+      go : (c : Checked) → soundOf s ≡ c → IsSound s × (v ≡ moveIn s t m)
+      go (checked.Sound u) q =
+          let h : IsSound s = sound-both u s (sym q) .0 in
+          let e : moves.Of v ≡ moves.Of (moveIn s t m) = rw (← sound-is s h) at p in
+          (h, cc)
+      go (checked.Refused e) q =
+          let f : moves.Of v ≡ moves.Refused e = rw q at p in
+          let z : _≡_ {A = ℕ} 0 1 = cc in
+          absurd (omega arith)
 
   pub move-refused : (e : Refusal) → moves.Refused e ≡ moveOf s t m → soundOf s ≡ checked.Refused e
-  move-refused e p = go (soundOf s) refl p
+  move-refused e p = go (soundOf s) refl
     where
-      go : (c : Checked) → soundOf s ≡ c → moves.Refused e ≡ moveFrom t m c → soundOf s ≡ checked.Refused e
-      go (checked.Sound u) q p = let z : _≡_ {A = ℕ} 0 1 = cc in absurd (omega arith)
-      go (checked.Refused r) q p = let f : e ≡ r = cc in q ∙ ap checked.Refused (sym f)
+      go : (c : Checked) → soundOf s ≡ c → soundOf s ≡ checked.Refused e
+      go (checked.Sound u) q =
+          let f : moves.Refused e ≡ moves.Of (moveIn s t m) = rw (← sound-is s (sound-both u s (sym q) .0)) at p in
+          let z : _≡_ {A = ℕ} 0 1 = cc in
+          absurd (omega arith)
+      go (checked.Refused r) q =
+          let f : moves.Refused e ≡ moves.Refused r = rw q at p in
+          let d : e ≡ r = cc in
+          q ∙ ap checked.Refused (sym d)

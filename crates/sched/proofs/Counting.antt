@@ -24,7 +24,7 @@ use Rattle.sched.specs.declared.scheduler.RingBufferScheduler.{RingBuffe
 use Rattle.sched.specs.List.{soundListOf}
 use Rattle.sched.specs.Operation.{operationOf}
 use Rattle.sched.specs.Promise.{MovedByList, by-none, by-one, by-two, Next, Between, Taken, MovedBy}
-use Rattle.sched.specs.Scheduler.{Sized, IsSound, soundOf, dataIn, greatestIn, offsetIn, nextIn, advancedIn, registerOf, registerSoundList, registerListOf, thenRegister}
+use Rattle.sched.specs.Scheduler.{Sized, IsSound, soundOf, dataIn, greatestIn, offsetIn, nextIn, advancedIn, registerOf, registerListOf, thenRegister}
 use Rattle.sched.proofs.Laws.{sound-is, sound-both, offset-lt}
 use Rattle.sched.proofs.RegisterLaws.{registered-sound, advanced-sound}
 use Rattle.sched.proofs.ScheduleLaws.{next-is, some-none, some-some}
@@ -119,7 +119,7 @@ module _ (s : RingBufferScheduler) (h : IsSound s) (u : RingBufferScheduler) whe
     where
       go : (x : OperationsAnswer) → soundListOf (list.Two a b) ≡ x → MovedByList s (list.Two a b) u
       go (operations.Of ops) q = then-moved a b (registerOf s (a .typ) (a .len)) refl (sym (registers-two s h a b (q ∙ ap operations.Of (list-kept a b ops q))) ∙ p)
-      go (operations.Refused e) q = never u e (sym (tests-list s h (list.Two a b) ∙ ap (registerSoundList s) q) ∙ p)
+      go (operations.Refused e) q = never u e (rw (← sound-is s h, q) at p)
 
 pub list-moved : (s : RingBufferScheduler) (ops : ScheduledOperations) (u : RingBufferScheduler) → registerListOf s ops ≡ registered.Advanced u → IsSound s × MovedByList s ops u
 list-moved s ops u p = go (soundOf s) refl

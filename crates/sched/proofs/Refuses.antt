@@ -1,13 +1,11 @@
 -- "Given exactly when", 1 to 8, of every call that can refuse: whatever its attached contract allows is refused with a number
 -- and values exactly when the paper's table says so.
-use mathlib.Core.Path.{refl}
 use Rattle.modular.proofs.Saying.{Keeps}
 use Rattle.sched.specs.declared.operation.OperationType.the-variants.{Read, Write}
 use Rattle.sched.specs.Given.{Exactly, Given, GivenRegister, GivenList, GivenOperations, ofChecked, ofRegistered, ofMove, ofAmount, ofBool, ofCounter, ofOffset, ofFillState, ofLayout, ofBlock, ofBlocks, ofNext, ofOperations, ofCumulativeOffsets, ofOutsideRanges}
-use Rattle.sched.specs.List.{cumulativeLengthFrom, cumulativeOffsetsFrom, outsideRangesFrom}
 use Rattle.sched.specs.Scheduler.{schedulerOf}
 use Rattle.sched.proofs.Given.{record-exactly, tested-exactly, register-exactly}
-use Rattle.sched.proofs.GivenLists.{list-exactly, listed, operations-exactly}
+use Rattle.sched.proofs.GivenLists.{list-exactly, listed-exactly, operations-exactly}
 use Rattle.sched.proofs.Says.{try-new-says, try-from-counters-says, demand-soundness-says, buf-len-says, is-zero-sized-says, items-read-says, items-written-says, operation-counter-says, read-off-says, write-off-says, operation-offset-says, data-avail-says, space-avail-says, max-operation-len-says, fill-state-says, is-empty-says, is-full-says, is-nonempty-says, is-nonfull-says, layout-says, blocks-says, block-0-says, block-1-says, block-2-says, block-0-off-says, block-1-off-says, block-2-off-says, block-0-len-says, block-1-len-says, block-2-len-says, next-operation-block-says, next-read-block-says, next-write-block-says, schedule-next-contiguous-operation-says, schedule-next-read-says, schedule-next-write-says, schedule-contiguous-operations-says, schedule-reads-says, schedule-writes-says, try-register-read-says, try-register-write-says, try-register-operation-manually-says, try-register-operation-says, try-register-operations-says, schedule-and-register-says, ScheduledOperations-try-new-says, container-says, into-container-says, cumulative-operation-length-says, with-cumulative-offset-says, with-outside-buffer-range-says}
 use Rattle.sched.proofs.scheduler.RingBufferScheduler.try_new.Kinds as try-new-kinds
 use Rattle.sched.proofs.scheduler.RingBufferScheduler.try_new.Reads as try-new
@@ -261,10 +259,10 @@ pub into-container-refuses : Keeps 0 into-container-kinds.ps into-container-kind
 into-container-refuses κs a z q = rw (into-container-says κs a z (q .0) (q .1)) (list-exactly (a .0))
 
 pub cumulative-operation-length-refuses : Keeps 0 cumulative-operation-length-kinds.ps cumulative-operation-length-kinds.r cumulative-operation-length.Learnt (λ κs a z. Exactly (GivenList (a .0)) (ofAmount z))
-cumulative-operation-length-refuses κs a z q = rw (cumulative-operation-length-says κs a z (q .0) (q .1)) (listed ofAmount cumulativeLengthFrom (λ l. refl) (λ e. refl) (a .0))
+cumulative-operation-length-refuses κs a z q = rw (cumulative-operation-length-says κs a z (q .0) (q .1)) (listed-exactly (a .0) _ (λ l p. rw p) (λ e p. rw p))
 
 pub with-cumulative-offset-refuses : Keeps 0 with-cumulative-offset-kinds.ps with-cumulative-offset-kinds.r with-cumulative-offset.Learnt (λ κs a z. Exactly (GivenList (a .0)) (ofCumulativeOffsets z))
-with-cumulative-offset-refuses κs a z q = rw (with-cumulative-offset-says κs a z (q .0) (q .1)) (listed ofCumulativeOffsets cumulativeOffsetsFrom (λ l. refl) (λ e. refl) (a .0))
+with-cumulative-offset-refuses κs a z q = rw (with-cumulative-offset-says κs a z (q .0) (q .1)) (listed-exactly (a .0) _ (λ l p. rw p) (λ e p. rw p))
 
 pub with-outside-buffer-range-refuses : Keeps 0 with-outside-buffer-range-kinds.ps with-outside-buffer-range-kinds.r with-outside-buffer-range.Learnt (λ κs a z. Exactly (GivenList (a .0)) (ofOutsideRanges z))
-with-outside-buffer-range-refuses κs a z q = rw (with-outside-buffer-range-says κs a z (q .0) (q .1)) (listed ofOutsideRanges outsideRangesFrom (λ l. refl) (λ e. refl) (a .0))
+with-outside-buffer-range-refuses κs a z q = rw (with-outside-buffer-range-says κs a z (q .0) (q .1)) (listed-exactly (a .0) _ (λ l p. rw p) (λ e p. rw p))

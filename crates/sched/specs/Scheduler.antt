@@ -1,7 +1,7 @@
 -- The scheduler: its tests, data and space, blocks, layout, scheduling and registering, over whole numbers. Write L for
 -- `buf_len`. A name that ends in `In` is of a sound scheduler; one that ends in `Of` tests the record first.
 use Prim.Native.Nat.{ℕ, _+_, _-_, _*_, _^_, _≤_, _<_, min, max}
-use mathlib.Core.Bool.{Bool, cond}
+use mathlib.Core.Bool.{cond}
 use lib.Dec.{ltb, leb, eqb}
 use Rattle.sched.specs.declared.counter.Counter.{Counter}
 use Rattle.sched.specs.declared.counter.Offset.{Offset}
@@ -52,7 +52,7 @@ use Rattle.sched.specs.declared.scheduler.RingBufferScheduler.{RingBuffe
 use Rattle.sched.specs.Counter.{offsetOf, dataOf, laterOf}
 use Rattle.sched.specs.Operation.{operationOf}
 use Rattle.sched.specs.Block.{blockOf, outerOf, innerOf}
-use Rattle.sched.specs.List.{soundListOf}
+use Rattle.sched.specs.List.{soundListOf, listed}
 
 -- ---- soundness
 abbrev pub schedulerOf : ℕ → Counter → Counter → RingBufferScheduler
@@ -244,12 +244,8 @@ abbrev pub registerOf : RingBufferScheduler → OperationType → ℕ → Regist
 registerOf s t n = tested (soundOf s) (λ u. registerIn u t n) registered.Refused
 
 -- the scheduler's tests, then the list's, 7 and 8, and then 6
-abbrev pub registerSoundList : RingBufferScheduler → OperationsAnswer → Registered
-registerSoundList s (operations.Of ops) = registerListIn s ops
-registerSoundList s (operations.Refused e) = registered.Refused e
-
 abbrev pub registerListOf : RingBufferScheduler → ScheduledOperations → Registered
-registerListOf s ops = tested (soundOf s) (λ u. registerSoundList u (soundListOf ops)) registered.Refused
+registerListOf s ops = tested (soundOf s) (λ u. listed (soundListOf ops) (registerListIn u) registered.Refused) registered.Refused
 
 abbrev pub moveOf : RingBufferScheduler → OperationType → ℕ → MoveAnswer
 moveOf s t m = tested (soundOf s) (λ u. moves.Of (moveIn u t m)) moves.Refused

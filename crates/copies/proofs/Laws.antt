@@ -12,11 +12,12 @@ use lib.Seq.{length-take-le, take-length, take-at, drop-append-add, drop-drop, t
 use Rattle.sched.specs.declared.operation.OperationType.{OperationType}
 use Rattle.sched.specs.declared.operation.OperationType.the-variants.{Read, Write}
 use Rattle.sched.specs.declared.refusal.Refusal as sched
-use Rattle.sched.specs.declared.scheduler.Move.{Move}
-use Rattle.sched.specs.declared.scheduler.MoveAnswer.the-variants as moves
+use Rattle.sched.specs.declared.register.Move.{Move}
+use Rattle.sched.specs.declared.register.MoveAnswer.the-variants as moves
 use Rattle.sched.specs.declared.scheduler.RingBufferScheduler.{RingBufferScheduler}
 use Rattle.sched.specs.Scheduler.{moveOf}
-use Rattle.sched.proofs.Laws.{sound-is, offset-lt, greatest-most, move-of, move-refused}
+use Rattle.sched.proofs.Laws.{sound-is, offset-lt, greatest-most}
+use Rattle.sched.proofs.RegisterLaws.{move-of, move-refused}
 use Rattle.copies.specs.declared.Copied.{Copied}
 use Rattle.copies.specs.declared.lent.Told.{Told}
 use Rattle.copies.specs.declared.Ready.the-variants as ready

@@ -7,7 +7,7 @@ use lib.ListN.{length, take, drop}
 use Rattle.sched.specs.declared.operation.OperationType.the-variants.{Read, Write}
 use Rattle.sched.specs.declared.scheduler.Checked.{Checked}
 use Rattle.sched.specs.declared.scheduler.Checked.the-variants as checked
-use Rattle.sched.specs.declared.scheduler.Move.{Move}
+use Rattle.sched.specs.declared.register.Move.{Move}
 use Rattle.sched.specs.declared.scheduler.RingBufferScheduler.{RingBufferScheduler}
 use Rattle.sched.specs.Refusal as sched
 use Rattle.sched.specs.Scheduler.{soundOf, dataIn, spaceIn, offsetIn, advancedIn}

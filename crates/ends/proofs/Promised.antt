@@ -13,7 +13,11 @@ use Rattle.sched.specs.declared.operation.OperationType.the-variants.{Read, Wri
 use Rattle.sched.specs.declared.scheduler.Checked.{Checked}
 use Rattle.sched.specs.declared.scheduler.Checked.the-variants as checked
 use Rattle.sched.specs.declared.scheduler.RingBufferScheduler.{RingBufferScheduler}
-use Rattle.sched.specs.Scheduler.{schedulerOf, IsSound, counterFrom, greatestIn, greatestFrom, greatestOf}
+use Rattle.sched.specs.declared.counter.AmountAnswer.{AmountAnswer}
+use Rattle.sched.specs.declared.counter.AmountAnswer.the-variants as amount
+use Rattle.sched.specs.declared.counter.CounterAnswer.{CounterAnswer}
+use Rattle.sched.specs.declared.counter.CounterAnswer.the-variants as counter
+use Rattle.sched.specs.Scheduler.{schedulerOf, IsSound, counterIn, greatestIn, tested, greatestOf}
 use Rattle.modular.proofs.Saying.{Keeps}
 use Rattle.sched.specs.Given.{Given}
 use Rattle.sched.proofs.Given.{number-some}
@@ -65,6 +69,13 @@ use Rattle.ends.proofs.writing_end.WritingEnd.take.Reads as takeW
 use Rattle.ends.proofs.reading_end.ReadingEnd.take.Kinds as takeR-kinds
 use Rattle.ends.proofs.reading_end.ReadingEnd.take.Reads as takeR
 
+-- ---- what an end asks, of the tests' answer
+abbrev counterBy : OperationType → Checked → CounterAnswer
+counterBy t c = tested c (λ s. counter.Of (counterIn s t)) counter.Refused
+
+abbrev greatestBy : OperationType → Checked → AmountAnswer
+greatestBy t c = tested c (λ s. amount.Of (greatestIn s t)) amount.Refused
+
 -- ---- of the definitions: each answer's verdict is that of what it is made of
 writing-same : (c : Checked) → ofChecked c ≡ ofWritingEnd (writingEndFrom c)
 writing-same (checked.Sound s) = refl
@@ -74,11 +85,11 @@ reading-same : (c : Checked) → ofChecked c ≡ ofReadingEnd (readingEndFrom c)
 reading-same (checked.Sound s) = refl
 reading-same (checked.Refused e) = refl
 
-written-same : (c : Checked) → ofChecked c ≡ ofWritten (writtenSentFrom (counterFrom Write c))
+written-same : (c : Checked) → ofChecked c ≡ ofWritten (writtenSentFrom (counterBy Write c))
 written-same (checked.Sound s) = refl
 written-same (checked.Refused e) = refl
 
-read-same : (c : Checked) → ofChecked c ≡ ofRead (readSentFrom (counterFrom Read c))
+read-same : (c : Checked) → ofChecked c ≡ ofRead (readSentFrom (counterBy Read c))
 read-same (checked.Sound s) = refl
 read-same (checked.Refused e) = refl
 
@@ -116,17 +127,17 @@ madeR s c k = (rw (← reading-same c) (checked-given s c k), holds c k)
     holds c (passes h) e q = let p : e ≡ readingEnd s = cc in ap (λ (x : ReadingEnd). x .scheduler) p
     holds c (fails r p) e q = let z : _≡_ {A = ℕ} 0 1 = cc in never z
 
-sentW : (e : WritingEnd) (c : Checked) → Checks (e .scheduler) c → SentW e (writtenSentFrom (counterFrom Write c))
+sentW : (e : WritingEnd) (c : Checked) → Checks (e .scheduler) c → SentW e (writtenSentFrom (counterBy Write c))
 sentW e c k = (rw (← written-same c) (checked-given (e .scheduler) c k), own-counter c k)
   where
-    own-counter : (c : Checked) → Checks (e .scheduler) c → (n : WrittenCounter) → writtenSentFrom (counterFrom Write c) ≡ writtenCounter.Of n → n .0 ≡ e .scheduler .«items_written»
+    own-counter : (c : Checked) → Checks (e .scheduler) c → (n : WrittenCounter) → writtenSentFrom (counterBy Write c) ≡ writtenCounter.Of n → n .0 ≡ e .scheduler .«items_written»
     own-counter c (passes h) n q = let p : n ≡ record { 0 = e .scheduler .«items_written» } = cc in ap (λ (x : WrittenCounter). x .0) p
     own-counter c (fails r p) n q = let z : _≡_ {A = ℕ} 0 1 = cc in never z
 
-sentR : (e : ReadingEnd) (c : Checked) → Checks (e .scheduler) c → SentR e (readSentFrom (counterFrom Read c))
+sentR : (e : ReadingEnd) (c : Checked) → Checks (e .scheduler) c → SentR e (readSentFrom (counterBy Read c))
 sentR e c k = (rw (← read-same c) (checked-given (e .scheduler) c k), own-counter c k)
   where
-    own-counter : (c : Checked) → Checks (e .scheduler) c → (n : ReadCounter) → readSentFrom (counterFrom Read c) ≡ readCounter.Of n → n .0 ≡ e .scheduler .«items_read»
+    own-counter : (c : Checked) → Checks (e .scheduler) c → (n : ReadCounter) → readSentFrom (counterBy Read c) ≡ readCounter.Of n → n .0 ≡ e .scheduler .«items_read»
     own-counter c (passes h) n q = let p : n ≡ record { 0 = e .scheduler .«items_read» } = cc in ap (λ (x : ReadCounter). x .0) p
     own-counter c (fails r p) n q = let z : _≡_ {A = ℕ} 0 1 = cc in never z
 
@@ -136,7 +147,7 @@ ofTaken taken.Accepted = verdict 0 []
 ofTaken (taken.Refused e) = refusedBy e
 
 module _ (s u : RingBufferScheduler) (t : OperationType) where
-  taking : (c d : Checked) → Checks s c → Checks u d → Exactly (GivenTake s u t) (ofTaken (takenFrom (greatestFrom t c) (greatestFrom t d)))
+  taking : (c d : Checked) → Checks s c → Checks u d → Exactly (GivenTake s u t) (ofTaken (takenFrom (greatestBy t c) (greatestBy t d)))
   unfolding takenFrom
   taking c d (passes h) (passes g) = by (ltb (greatestIn u t) (greatestIn s t)) refl
     where

@@ -24,7 +24,7 @@ use Rattle.sched.specs.declared.operation.ScheduledOperation.{ScheduledOperatio
 use Rattle.sched.specs.declared.refusal.Refusal.the-variants.{OperationTooLarge}
 use Rattle.sched.specs.declared.scheduler.Checked.{Checked}
 use Rattle.sched.specs.declared.scheduler.Checked.the-variants as checked
-use Rattle.sched.specs.declared.scheduler.Registered.the-variants as registered
+use Rattle.sched.specs.declared.register.Registered.the-variants as registered
 use Rattle.sched.specs.declared.scheduler.RingBufferScheduler.{RingBufferScheduler}
 use Rattle.sched.proofs.scheduler.RingBufferScheduler.try_from_counters.Kinds as made-kinds
 use Rattle.sched.proofs.scheduler.RingBufferScheduler.try_from_counters.Reads as made

@@ -23,7 +23,7 @@ use Rattle.receiver.specs.declared.receiver.ReceiverState.{ReceiverState
 use Rattle.receiver.proofs.StepLaws.{Settled, Ends, as-dropped, as-told, told-failure, Spends, sentIn, sent-spends, shut-spends, Hands, hands, Took, handed, failed, took}
 use Prim.Native.Nat.{_%_, _*_}
 use Rattle.modular.proofs.Laws.{add-is}
-use Rattle.sched.proofs.Laws.{advanced-offset}
+use Rattle.sched.proofs.RegisterLaws.{advanced-offset}
 use Rattle.sched.specs.declared.counter.Counter.{Counter}
 use Rattle.sched.specs.declared.operation.OperationType.the-variants.{Read}
 use Rattle.sched.specs.Scheduler.{IsSound, offsetIn, advancedIn}

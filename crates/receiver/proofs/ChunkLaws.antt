@@ -7,7 +7,8 @@ use mathlib.Core.List.{List}
 use lib.Dec.{ltb}
 use lib.ListN.{length}
 use borrow.Author.Tests.{lt-ltb, le-ltb}
-use Rattle.sched.proofs.Laws.{offset-lt, advanced-greatest, advanced-sound}
+use Rattle.sched.proofs.Laws.{offset-lt}
+use Rattle.sched.proofs.RegisterLaws.{advanced-greatest, advanced-sound}
 use Rattle.sched.specs.declared.counter.Offset.{Offset}
 use Rattle.sched.specs.declared.operation.OperationType.the-variants.{Read, Write}
 use Rattle.sched.specs.declared.scheduler.RingBufferScheduler.{RingBufferScheduler}

@@ -3,7 +3,8 @@ use Prim.Native.Nat.{ℕ, _-_, _^_, _≤_, _+_}
 use mathlib.Core.Path.{_≡_, sym, ap, _∙_}
 use mathlib.Core.Bool.{Bool, cond, true, false}
 use lib.Dec.{eqb}
-use Rattle.sched.proofs.Laws.{sound-is, advanced-sound}
+use Rattle.sched.proofs.Laws.{sound-is}
+use Rattle.sched.proofs.RegisterLaws.{advanced-sound}
 use Rattle.sched.specs.declared.operation.OperationType.the-variants.{Read}
 use Rattle.sched.specs.declared.scheduler.RingBufferScheduler.{RingBufferScheduler}
 use Rattle.sched.specs.Scheduler.{IsSound, dataIn, advancedIn}

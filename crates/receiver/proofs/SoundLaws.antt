@@ -6,8 +6,8 @@ use Rattle.sched.proofs.Laws.{sound-is}
 use Rattle.sched.specs.declared.counter.AmountAnswer.the-variants as amount
 use Rattle.sched.specs.declared.operation.OperationType.{OperationType}
 use Rattle.sched.specs.declared.refusal.Refusal.{Refusal}
-use Rattle.sched.specs.declared.scheduler.Move.{Move}
-use Rattle.sched.specs.declared.scheduler.MoveAnswer.the-variants as moves
+use Rattle.sched.specs.declared.register.Move.{Move}
+use Rattle.sched.specs.declared.register.MoveAnswer.the-variants as moves
 use Rattle.sched.specs.declared.scheduler.RingBufferScheduler.{RingBufferScheduler}
 use Rattle.sched.specs.Scheduler.{IsSound, greatestIn, greatestOf, advancedIn, moveIn, moveOf}
 

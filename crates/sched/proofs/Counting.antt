@@ -18,14 +18,16 @@ use Rattle.sched.specs.declared.refusal.Refusal.{Refusal}
 use Rattle.sched.specs.declared.refusal.Refusal.the-variants.{OperationTooLarge}
 use Rattle.sched.specs.declared.scheduler.Checked.{Checked}
 use Rattle.sched.specs.declared.scheduler.Checked.the-variants as checked
-use Rattle.sched.specs.declared.scheduler.Registered.{Registered}
-use Rattle.sched.specs.declared.scheduler.Registered.the-variants as registered
+use Rattle.sched.specs.declared.register.Registered.{Registered}
+use Rattle.sched.specs.declared.register.Registered.the-variants as registered
 use Rattle.sched.specs.declared.scheduler.RingBufferScheduler.{RingBufferScheduler}
 use Rattle.sched.specs.List.{soundListOf}
 use Rattle.sched.specs.Operation.{operationOf}
 use Rattle.sched.specs.Promise.{MovedByList, by-none, by-one, by-two, Next, Between, Taken, MovedBy}
-use Rattle.sched.specs.Scheduler.{Sized, IsSound, soundOf, dataIn, greatestIn, offsetIn, nextIn, advancedIn, registerFrom, registerOf, registerSoundList, registerListFrom, registerListOf, thenRegister}
-use Rattle.sched.proofs.Laws.{sound-is, sound-both, registered-sound, next-is, some-none, some-some, offset-lt, advanced-sound}
+use Rattle.sched.specs.Scheduler.{Sized, IsSound, soundOf, dataIn, greatestIn, offsetIn, nextIn, advancedIn, registerOf, registerListOf, thenRegister}
+use Rattle.sched.proofs.Laws.{sound-is, sound-both, offset-lt}
+use Rattle.sched.proofs.RegisterLaws.{registered-sound, advanced-sound}
+use Rattle.sched.proofs.ScheduleLaws.{next-is, some-none, some-some}
 use Rattle.sched.proofs.GivenLists.{list-kept, tests-list, registers-one, registers-two}
 use Rattle.sched.proofs.Promises.{too-large, registers}
 
@@ -99,15 +101,15 @@ registered-moved s t n u p = go (soundOf s) refl
 
     go : (c : Checked) → soundOf s ≡ c → IsSound s × MovedBy s t n u
     go (checked.Sound v) q = let h : IsSound s = sound-both v s (sym q) .0 in (h, sound-part h)
-    go (checked.Refused e) q = never u e (sym (ap (registerFrom t n) q) ∙ p)
+    go (checked.Refused e) q = never u e (rw q at p)
 
 -- ---- registering a list
 module _ (s : RingBufferScheduler) (h : IsSound s) (u : RingBufferScheduler) where
   -- the second after the first
   then-moved : (a b : ScheduledOperation) (x : Registered) → registerOf s (a .typ) (a .len) ≡ x → thenRegister x b ≡ registered.Advanced u → MovedByList s (list.Two a b) u
   then-moved a b (registered.Advanced v) p q =
-      let k : IsSound v = registered-sound s h (a .typ) (a .len) v (sym p ∙ sym (ap (registerFrom (a .typ) (a .len)) (sound-is s h))) in
-      by-two v (registered-moved s (a .typ) (a .len) v p .1) (registered-moved v (b .typ) (b .len) u (sym (ap (registerFrom (b .typ) (b .len)) (sound-is v k)) ∙ q) .1)
+      let k : IsSound v = registered-sound s h (a .typ) (a .len) v (rw (← sound-is s h) at (sym p)) in
+      by-two v (registered-moved s (a .typ) (a .len) v p .1) (registered-moved v (b .typ) (b .len) u (rw (← sound-is v k) q) .1)
   then-moved a b (registered.Refused e) p q = never u e q
 
   sound-moved : (ops : ScheduledOperations) → registerListOf s ops ≡ registered.Advanced u → MovedByList s ops u
@@ -117,14 +119,14 @@ module _ (s : RingBufferScheduler) (h : IsSound s) (u : RingBufferScheduler) whe
     where
       go : (x : OperationsAnswer) → soundListOf (list.Two a b) ≡ x → MovedByList s (list.Two a b) u
       go (operations.Of ops) q = then-moved a b (registerOf s (a .typ) (a .len)) refl (sym (registers-two s h a b (q ∙ ap operations.Of (list-kept a b ops q))) ∙ p)
-      go (operations.Refused e) q = never u e (sym (tests-list s h (list.Two a b) ∙ ap (registerSoundList s) q) ∙ p)
+      go (operations.Refused e) q = never u e (rw (← sound-is s h, q) at p)
 
 pub list-moved : (s : RingBufferScheduler) (ops : ScheduledOperations) (u : RingBufferScheduler) → registerListOf s ops ≡ registered.Advanced u → IsSound s × MovedByList s ops u
 list-moved s ops u p = go (soundOf s) refl
   where
     go : (c : Checked) → soundOf s ≡ c → IsSound s × MovedByList s ops u
     go (checked.Sound v) q = let h : IsSound s = sound-both v s (sym q) .0 in (h, sound-moved s h u ops p)
-    go (checked.Refused e) q = never u e (sym (ap (registerListFrom ops) q) ∙ p)
+    go (checked.Refused e) q = never u e (rw q at p)
 
 -- ---- the next operation
 pub next-promised : (s : RingBufferScheduler) → IsSound s → (t : OperationType) (m : ℕ) (o : NextOperation) → nextIn s t m ≡ o → Next s t m o

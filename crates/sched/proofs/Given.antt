@@ -17,7 +17,7 @@ use Rattle.sched.specs.declared.scheduler.Checked.the-variants as checke
 use Rattle.sched.specs.declared.scheduler.RingBufferScheduler.{RingBufferScheduler}
 use Rattle.sched.specs.Given.{Verdict, accepted, refused, numberIn, valuesIn, Exactly, Given, taken, given-1, given-2, given-3, given-4, given-5, TypeNumber, a-read, a-write, GivenRegister, before-6, given-6, fits, ofChecked, ofRegistered}
 use Rattle.sched.specs.Refusal.{numberOf, typeNumber}
-use Rattle.sched.specs.Scheduler.{IsSound, soundOf, dataIn, greatestIn, registerFrom, registerOf}
+use Rattle.sched.specs.Scheduler.{IsSound, soundOf, dataIn, greatestIn, registerOf}
 use Rattle.sched.proofs.Laws.{sound-is, sound-both}
 use Rattle.sched.proofs.Promises.{too-large, registers}
 
@@ -74,16 +74,16 @@ module _ (s : RingBufferScheduler) where
   pub record-exactly : Exactly (Given s) (ofChecked (soundOf s))
   record-exactly = record { only = only; always = λ k vs g. always g }
 
--- an answer that is made of the tests' answer, and refused where they refuse
-module _ {A : Type 0} (of : A → Verdict) (from : Checked → A) where
-  same : ((s : RingBufferScheduler) → of (from (checked.Sound s)) ≡ accepted) → ((e : Refusal) → of (from (checked.Refused e)) ≡ refused e) → (c : Checked) → ofChecked c ≡ of (from c)
-  same f g (checked.Sound s) = sym (f s)
-  same f g (checked.Refused e) = sym (g e)
+-- a verdict on an answer that is refused just where the tests refuse
+module _ (s : RingBufferScheduler) (v : Verdict) where
+  same : (c : Checked) → soundOf s ≡ c → ((u : RingBufferScheduler) → soundOf s ≡ checked.Sound u → v ≡ accepted) → ((e : Refusal) → soundOf s ≡ checked.Refused e → v ≡ refused e) → ofChecked c ≡ v
+  same (checked.Sound u) p f g = sym (f u p)
+  same (checked.Refused e) p f g = sym (g e p)
 
-  pub tested :
-      ((s : RingBufferScheduler) → of (from (checked.Sound s)) ≡ accepted) → ((e : Refusal) → of (from (checked.Refused e)) ≡ refused e) →
-      (s : RingBufferScheduler) → Exactly (Given s) (of (from (soundOf s)))
-  tested f g s = rw (same f g (soundOf s)) at (record-exactly s)
+  pub tested-exactly :
+      ((u : RingBufferScheduler) → soundOf s ≡ checked.Sound u → v ≡ accepted) → ((e : Refusal) → soundOf s ≡ checked.Refused e → v ≡ refused e) →
+      Exactly (Given s) v
+  tested-exactly f g = rw (same (soundOf s) refl f g) at (record-exactly s)
 
 -- a verdict of 0 takes; and no refusal has the number 0
 pub number-some : (e : Refusal) → 0 < numberOf e
@@ -111,7 +111,7 @@ module _ (s : RingBufferScheduler) (t : OperationType) (n : ℕ) where
 
   -- a record that is refused
   unsound : (e : Refusal) → soundOf s ≡ checked.Refused e → after ≡ refused e
-  unsound e p = ap (λ (c : Checked). ofRegistered (registerFrom t n c)) p
+  unsound e p = rw p
 
   register-only : GivenRegister s t n (numberIn after) (valuesIn after)
   register-only = go (soundOf s) refl

@@ -18,13 +18,14 @@ use Rattle.sched.specs.declared.refusal.Refusal.{Refusal}
 use Rattle.sched.specs.declared.refusal.Refusal.the-variants.{OperationTooLarge, OperationTooLong, InconsistentOperationType}
 use Rattle.sched.specs.declared.scheduler.Checked.{Checked}
 use Rattle.sched.specs.declared.scheduler.Checked.the-variants as checked
-use Rattle.sched.specs.declared.scheduler.Registered.{Registered}
-use Rattle.sched.specs.declared.scheduler.Registered.the-variants as registered
+use Rattle.sched.specs.declared.register.Registered.{Registered}
+use Rattle.sched.specs.declared.register.Registered.the-variants as registered
 use Rattle.sched.specs.declared.scheduler.RingBufferScheduler.{RingBufferScheduler}
-use Rattle.sched.specs.Given.{Verdict, accepted, refused, numberIn, valuesIn, Exactly, Given, taken, GivenRegister, given-6, GivenList, list-none, list-one, list-two, given-7, given-8, GivenOperations, the-record, the-list, nothing, alone, at-first, at-second, ofChecked, ofRegistered, ofOperations}
-use Rattle.sched.specs.List.{sameTypeOf, soundListOf}
-use Rattle.sched.specs.Scheduler.{IsSound, soundOf, greatestIn, advancedIn, registerFrom, registerOf, registerSoundList, registerListFrom, registerListOf, thenRegister}
-use Rattle.sched.proofs.Laws.{sound-is, sound-both, advanced-sound}
+use Rattle.sched.specs.Given.{Verdict, accepted, refused, numberIn, valuesIn, Exactly, Given, GivenRegister, given-6, GivenList, list-none, list-one, list-two, given-7, given-8, GivenOperations, the-record, the-list, nothing, alone, at-first, at-second, ofChecked, ofRegistered, ofOperations}
+use Rattle.sched.specs.List.{listed, sameTypeOf, soundListOf}
+use Rattle.sched.specs.Scheduler.{registerIn, IsSound, soundOf, greatestIn, advancedIn, registerOf, registerListIn, registerListOf, thenRegister}
+use Rattle.sched.proofs.Laws.{sound-is, sound-both}
+use Rattle.sched.proofs.RegisterLaws.{advanced-sound}
 use Rattle.sched.proofs.Promises.{too-large, registers, too-long, inconsistent, list-taken}
 use Rattle.sched.proofs.Given.{Told, told, number-some, type-number, record-exactly, register-exactly}
 
@@ -83,16 +84,16 @@ list-kept a b ops p = go (list-only (list.Two a b)) (ap (λ (x : OperationsAnswe
     go (given-7 l) z = absurd (omega arith)
     go (given-8 l d) z = absurd (omega arith)
 
--- an answer that is made of the list's, and refused where that is refused
-module _ {A : Type 0} (of : A → Verdict) (from : OperationsAnswer → A) where
-  same-list : ((ops : ScheduledOperations) → of (from (operations.Of ops)) ≡ accepted) → ((e : Refusal) → of (from (operations.Refused e)) ≡ refused e) → (c : OperationsAnswer) → ofOperations c ≡ of (from c)
-  same-list f g (operations.Of ops) = sym (f ops)
-  same-list f g (operations.Refused e) = sym (g e)
+-- a verdict on an answer that is refused just where the list's tests refuse
+module _ (ops : ScheduledOperations) (v : Verdict) where
+  same-list : (c : OperationsAnswer) → soundListOf ops ≡ c → ((l : ScheduledOperations) → soundListOf ops ≡ operations.Of l → v ≡ accepted) → ((e : Refusal) → soundListOf ops ≡ operations.Refused e → v ≡ refused e) → ofOperations c ≡ v
+  same-list (operations.Of l) p f g = sym (f l p)
+  same-list (operations.Refused e) p f g = sym (g e p)
 
-  pub listed :
-      ((ops : ScheduledOperations) → of (from (operations.Of ops)) ≡ accepted) → ((e : Refusal) → of (from (operations.Refused e)) ≡ refused e) →
-      (ops : ScheduledOperations) → Exactly (GivenList ops) (of (from (soundListOf ops)))
-  listed f g ops = rw (same-list f g (soundListOf ops)) at (list-exactly ops)
+  pub listed-exactly :
+      ((l : ScheduledOperations) → soundListOf ops ≡ operations.Of l → v ≡ accepted) → ((e : Refusal) → soundListOf ops ≡ operations.Refused e → v ≡ refused e) →
+      Exactly (GivenList ops) v
+  listed-exactly f g = rw (same-list (soundListOf ops) refl f g) at (list-exactly ops)
 
 -- ---- a list that is registered
 module _ (s : RingBufferScheduler) where
@@ -100,29 +101,29 @@ module _ (s : RingBufferScheduler) where
   ofOps ops = ofRegistered (registerListOf s ops)
 
   record-refused : (ops : ScheduledOperations) (e : Refusal) → soundOf s ≡ checked.Refused e → ofOps ops ≡ refused e
-  record-refused ops e p = ap (λ (c : Checked). ofRegistered (registerListFrom ops c)) p
+  record-refused ops e p = rw p
 
   module _ (h : IsSound s) where
-    pub tests-list : (ops : ScheduledOperations) → registerListOf s ops ≡ registerSoundList s (soundListOf ops)
-    tests-list ops = ap (registerListFrom ops) (sym (sound-is s h))
+    pub tests-list : (ops : ScheduledOperations) → registerListOf s ops ≡ listed (soundListOf ops) (registerListIn s) registered.Refused
+    tests-list ops = rw (← sound-is s h)
 
     list-refused : (ops : ScheduledOperations) (e : Refusal) → soundListOf ops ≡ operations.Refused e → ofOps ops ≡ refused e
-    list-refused ops e p = ap ofRegistered (tests-list ops ∙ ap (registerSoundList s) p)
+    list-refused ops e p = rw (tests-list ops, p)
 
     pub registers-one : (a : ScheduledOperation) → registerListOf s (list.One a) ≡ registerOf s (a .typ) (a .len)
-    registers-one a = tests-list (list.One a) ∙ ap (registerFrom (a .typ) (a .len)) (sound-is s h)
+    registers-one a = rw (← sound-is s h)
 
     module _ (a b : ScheduledOperation) (l : soundListOf (list.Two a b) ≡ operations.Of (list.Two a b)) where
       pub registers-two : registerListOf s (list.Two a b) ≡ thenRegister (registerOf s (a .typ) (a .len)) b
-      registers-two = tests-list (list.Two a b) ∙ ap (registerSoundList s) l ∙ ap (λ (c : Checked). thenRegister (registerFrom (a .typ) (a .len) c) b) (sound-is s h)
+      registers-two = rw (← sound-is s h, l)
 
       first-refused : (e : Refusal) → registerOf s (a .typ) (a .len) ≡ registered.Refused e → ofOps (list.Two a b) ≡ refused e
       first-refused e p = ap ofRegistered (registers-two ∙ ap (λ (x : Registered). thenRegister x b) p)
 
       second-asked : a .len ≤ greatestIn s (a .typ) → registerListOf s (list.Two a b) ≡ registerOf (advancedIn s (a .typ) (a .len)) (b .typ) (b .len)
       second-asked f =
-          registers-two ∙ ap (λ (x : Registered). thenRegister x b) (registers s h (a .typ) (a .len) f)
-          ∙ ap (registerFrom (b .typ) (b .len)) (sound-is (advancedIn s (a .typ) (a .len)) (advanced-sound s h (a .len) (a .typ) f))
+          let after : registerIn (advancedIn s (a .typ) (a .len)) (b .typ) (b .len) ≡ registerOf (advancedIn s (a .typ) (a .len)) (b .typ) (b .len) = rw (← sound-is (advancedIn s (a .typ) (a .len)) (advanced-sound s h (a .len) (a .typ) f)) in
+          registers-two ∙ ap (λ (x : Registered). thenRegister x b) (registers s h (a .typ) (a .len) f) ∙ after
 
     sound-only : (ops : ScheduledOperations) → GivenOperations s ops (numberIn (ofOps ops)) (valuesIn (ofOps ops))
     sound-only list.None = rw (ap ofRegistered (tests-list list.None)) (nothing h)

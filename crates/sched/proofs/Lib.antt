@@ -1,4 +1,8 @@
 pub mod Laws
+pub mod LayoutLaws
+pub mod RegisterLaws
+pub mod ScheduleLaws
+pub mod ListLaws
 pub mod ChunkLaws
 pub mod Promises
 pub mod Says

@@ -26,7 +26,8 @@ use Rattle.sched.specs.declared.scheduler.RingBufferScheduler.{RingBuffe
 use Rattle.sched.specs.Block.{blockOf, outerOf, innerOf}
 use Rattle.sched.specs.Parts.{CounterOf, OffsetOf, FillOf, None, Some, LayoutOf, Typed, BlocksOf, typeFor, NextBlockOf}
 use Rattle.sched.specs.Scheduler.{IsSound, dataIn, greatestIn, counterIn, offsetIn, fillStateIn, layoutIn, lowIn, highIn, blocksIn, nextBlockIn}
-use Rattle.sched.proofs.Laws.{offset-lt, counter-lt, arranged, next-off, next-len}
+use Rattle.sched.proofs.Laws.{offset-lt, counter-lt}
+use Rattle.sched.proofs.LayoutLaws.{arranged, next-off, next-len}
 
 pub counter-is : (s : RingBufferScheduler) (t : OperationType) → CounterOf s t (counterIn s t)
 counter-is s Read = refl

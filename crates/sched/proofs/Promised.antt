@@ -17,13 +17,14 @@ use Rattle.sched.specs.declared.operation.OperationType.{OperationType}
 use Rattle.sched.specs.declared.operation.OperationType.the-variants.{Read, Write}
 use Rattle.sched.specs.declared.operation.ScheduledOperation.{ScheduledOperation}
 use Rattle.sched.specs.declared.scheduler.Checked.the-variants as checked
-use Rattle.sched.specs.declared.scheduler.Registered.{Registered}
-use Rattle.sched.specs.declared.scheduler.Registered.the-variants as registered
+use Rattle.sched.specs.declared.register.Registered.{Registered}
+use Rattle.sched.specs.declared.register.Registered.the-variants as registered
 use Rattle.sched.specs.declared.scheduler.RingBufferScheduler.{RingBufferScheduler}
 use Rattle.sched.specs.Promise.{Schedules, Asks, Moves, NextPromise, joined, byBlocks, Between, Taken, WrittenBy, MovedBy, MovedByList}
-use Rattle.sched.specs.Scheduler.{IsSound, soundOf, dataIn, spaceIn, greatestIn, nextIn, scheduleIn, advancedIn, greatestFrom, nextFrom, nextOf, scheduleFrom, scheduleOf, registerOf, registerListOf}
+use Rattle.sched.specs.Scheduler.{IsSound, soundOf, dataIn, spaceIn, greatestIn, nextIn, scheduleIn, advancedIn, nextOf, scheduleOf, registerOf, registerListOf}
 use Rattle.sched.proofs.Counting.{between, taken-sound, sound-taken, moved, registered-moved, list-moved, next-promised}
-use Rattle.sched.proofs.Laws.{sound-is, sound-both, advanced-sound}
+use Rattle.sched.proofs.Laws.{sound-is, sound-both}
+use Rattle.sched.proofs.RegisterLaws.{advanced-sound}
 use Rattle.sched.proofs.Promises.{scheduling, by-blocks, registers}
 use Rattle.sched.proofs.Says.{demand-soundness-says, data-avail-says, space-avail-says, max-operation-len-says, schedule-contiguous-operations-says, schedule-reads-says, schedule-writes-says, schedule-next-contiguous-operation-says, schedule-next-read-says, schedule-next-write-says, try-register-read-says, try-register-write-says, try-register-operation-manually-says, try-register-operation-says, try-register-operations-says}
 use Rattle.sched.proofs.scheduler.RingBufferScheduler.demand_soundness.Kinds as demand-soundness-kinds
@@ -94,13 +95,13 @@ MaxOperationLen s t z = Allows 0 max-operation-len-kinds.ps max-operation-len-ki
 
 module _ (s : RingBufferScheduler) (h : IsSound s) where
   pub data-is : (z : AmountAnswer) → DataAvail s z → z ≡ amount.Of (dataIn s)
-  data-is z q = data-avail-says tt (s, tt) z (q .0) (q .1) ∙ ap (greatestFrom Read) (sym (sound-is s h))
+  data-is z q = rw (data-avail-says tt (s, tt) z (q .0) (q .1), ← sound-is s h)
 
   pub space-is : (z : AmountAnswer) → SpaceAvail s z → z ≡ amount.Of (spaceIn s)
-  space-is z q = space-avail-says tt (s, tt) z (q .0) (q .1) ∙ ap (greatestFrom Write) (sym (sound-is s h))
+  space-is z q = rw (space-avail-says tt (s, tt) z (q .0) (q .1), ← sound-is s h)
 
   pub greatest-is : (t : OperationType) (z : AmountAnswer) → MaxOperationLen s t z → z ≡ amount.Of (greatestIn s t)
-  greatest-is t z q = max-operation-len-says tt (s, (t, tt)) z (q .0) (q .1) ∙ ap (greatestFrom t) (sym (sound-is s h))
+  greatest-is t z q = rw (max-operation-len-says tt (s, (t, tt)) z (q .0) (q .1), ← sound-is s h)
 
   pub data-between : (z : AmountAnswer) → DataAvail s z → (d : ℕ) × (z ≡ amount.Of d) × Between s d
   data-between z q = (dataIn s, data-is z q, between s h)
@@ -144,7 +145,7 @@ data-after-write s u n d z p q r =
 
 -- ---- scheduling
 schedules : (s : RingBufferScheduler) (t : OperationType) (m : ℕ) (z : OperationsAnswer) → z ≡ scheduleOf s t m → Schedules s t m z
-schedules s t m z e h = (scheduleIn s t m, e ∙ ap (scheduleFrom t m) (sym (sound-is s h)), scheduling s h t m)
+schedules s t m z e h = (scheduleIn s t m, rw (e, ← sound-is s h), scheduling s h t m)
 
 pub schedule-promised : Keeps 0 schedule-contiguous-operations-kinds.ps schedule-contiguous-operations-kinds.r schedule-contiguous-operations.Learnt (λ κs a z. Schedules (a .0) (a .1 .0) (a .1 .1 .0) z)
 schedule-promised κs a z q = schedules (a .0) (a .1 .0) (a .1 .1 .0) z (schedule-contiguous-operations-says κs a z (q .0) (q .1))
@@ -157,7 +158,7 @@ writes-promised κs a z q = schedules (a .0) Write (a .1 .0) z (schedule-writes-
 
 -- the next operation alone
 asks : (s : RingBufferScheduler) (t : OperationType) (m : ℕ) (z : NextOperationAnswer) → z ≡ nextOf s t m → Asks s t m z
-asks s t m z e h = (nextIn s t m, e ∙ ap (nextFrom t m) (sym (sound-is s h)), next-promised s h t m (nextIn s t m) refl)
+asks s t m z e h = (nextIn s t m, rw (e, ← sound-is s h), next-promised s h t m (nextIn s t m) refl)
 
 pub next-operation-promised : Keeps 0 schedule-next-contiguous-operation-kinds.ps schedule-next-contiguous-operation-kinds.r schedule-next-contiguous-operation.Learnt (λ κs a z. Asks (a .0) (a .1 .0) (a .1 .1 .0) z)
 next-operation-promised κs a z q = asks (a .0) (a .1 .0) (a .1 .1 .0) z (schedule-next-contiguous-operation-says κs a z (q .0) (q .1))
@@ -180,13 +181,13 @@ abbrev pub TryRegister : RingBufferScheduler → ScheduledOperation → Register
 TryRegister s f z = Allows 0 try-register-operation-kinds.ps try-register-operation-kinds.r try-register-operation.Learnt tt (s, (f, tt)) z
 
 next-of : (s : RingBufferScheduler) → IsSound s → (t : OperationType) (m : ℕ) (o : NextOperation) → NextOne s t m (nexts.Of o) → o ≡ nextIn s t m
-next-of s h t m o q = same-next o (nextIn s t m) (schedule-next-contiguous-operation-says tt (s, (t, (m, tt))) (nexts.Of o) (q .0) (q .1) ∙ ap (nextFrom t m) (sym (sound-is s h)))
+next-of s h t m o q = same-next o (nextIn s t m) (rw (← sound-is s h) at (schedule-next-contiguous-operation-says tt (s, (t, (m, tt))) (nexts.Of o) (q .0) (q .1)))
 
 module _ (s : RingBufferScheduler) (h : IsSound s) (t : OperationType) (m : ℕ) (z : OperationsAnswer) (q : Schedule s t m z) where
   by-blocks-is : z ≡ operations.Of (byBlocks s t m (nextIn s t m))
   by-blocks-is =
-      schedule-contiguous-operations-says tt (s, (t, (m, tt))) z (q .0) (q .1)
-      ∙ ap (scheduleFrom t m) (sym (sound-is s h)) ∙ ap operations.Of (sym (by-blocks s h t m))
+      (rw (← sound-is s h) at (schedule-contiguous-operations-says tt (s, (t, (m, tt))) z (q .0) (q .1)))
+      ∙ ap operations.Of (sym (by-blocks s h t m))
 
   pub block-after-none : NextOne s t m (nexts.Of next.None) → z ≡ operations.Of list.None
   block-after-none p = by-blocks-is ∙ ap (λ (x : NextOperation). operations.Of (byBlocks s t m x)) (sym (next-of s h t m next.None p))
@@ -210,7 +211,7 @@ pub schedule-registers :
     (z : Registered) → Allows 0 try-register-operations-kinds.ps try-register-operations-kinds.r try-register-operations.Learnt tt (s, (ops, tt)) z →
     (u : RingBufferScheduler) × (z ≡ registered.Advanced u) × MovedBy s t (min m (greatestIn s t)) u
 schedule-registers s h t m ops q z p =
-    let e : ops ≡ scheduleIn s t m = same-operations ops (scheduleIn s t m) (schedule-contiguous-operations-says tt (s, (t, (m, tt))) (operations.Of ops) (q .0) (q .1) ∙ ap (scheduleFrom t m) (sym (sound-is s h))) in (
+    let e : ops ≡ scheduleIn s t m = same-operations ops (scheduleIn s t m) (rw (← sound-is s h) at (schedule-contiguous-operations-says tt (s, (t, (m, tt))) (operations.Of ops) (q .0) (q .1))) in (
       advancedIn s t (min m (greatestIn s t)),
       try-register-operations-says tt (s, (ops, tt)) z (p .0) (p .1) ∙ ap (registerListOf s) e ∙ scheduling s h t m .registers,
       moved s h (min m (greatestIn s t)) t (omega arith),

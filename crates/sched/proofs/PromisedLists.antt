@@ -23,7 +23,7 @@ use Rattle.sched.specs.declared.refusal.Refusal.{Refusal}
 use Rattle.sched.specs.declared.scheduler.Checked.the-variants as checked
 use Rattle.sched.specs.declared.scheduler.RingBufferScheduler.{RingBufferScheduler}
 use Rattle.sched.specs.Diff.{diffOf, isSameOf, isDifferentOf, oldValueOf, newValueOf}
-use Rattle.sched.specs.List.{soundListOf, totalIn, cumulativeLengthFrom, cumulativeLengthOf, cumulativeIn, cumulativeOffsetsFrom, cumulativeOffsetsOf, outsideIn, outsideRangesFrom, outsideRangesOf}
+use Rattle.sched.specs.List.{soundListOf, listed, totalIn, cumulativeLengthOf, cumulativeIn, cumulativeOffsetsOf, outsideIn, outsideRangesOf}
 use Rattle.sched.specs.Parts.{StartsOf, starts-none, starts-one, starts-two, RangesOf, ranges-none, ranges-one, ranges-two, lastEnd, DiffOf}
 use Rattle.sched.specs.Scheduler.{schedulerOf}
 use Rattle.sched.proofs.GivenLists.{list-kept}
@@ -69,14 +69,16 @@ same-list list.None l p = cc
 same-list (list.One a) l p = cc
 same-list (list.Two a b) l p = list-kept a b l p
 
-module _ {A B : Type 0} (Of : B → A) (from : OperationsAnswer → A) (in-list : ScheduledOperations → B) (inject : (x y : B) → Of x ≡ Of y → x ≡ y) (taken : (l : ScheduledOperations) → from (operations.Of l) ≡ Of (in-list l)) (refused : (e : Refusal) (x : B) → from (operations.Refused e) ≡ Of x → ⊥) where
-  -- what is answered of a list is of the list itself
-  of-list : (ops : ScheduledOperations) (x : B) → from (soundListOf ops) ≡ Of x → x ≡ in-list ops
+-- what is answered of a list that is taken is of the list itself
+module _ {A B : Type 0} (Of : B → A) (Refused : Refusal → A) (in-list : ScheduledOperations → B) (inject : (x y : B) → Of x ≡ Of y → x ≡ y) (refused : (e : Refusal) (x : B) → Refused e ≡ Of x → ⊥) where
+  of-list : (ops : ScheduledOperations) (x : B) → listed (soundListOf ops) (λ l. Of (in-list l)) Refused ≡ Of x → x ≡ in-list ops
   of-list ops x p = go (soundListOf ops) refl
     where
       go : (y : OperationsAnswer) → soundListOf ops ≡ y → x ≡ in-list ops
-      go (operations.Of l) q = inject x (in-list ops) (sym p ∙ ap from q ∙ taken l ∙ ap (λ (k : ScheduledOperations). Of (in-list k)) (same-list ops l q))
-      go (operations.Refused e) q = absurd (refused e x (sym (ap from q) ∙ p))
+      go (operations.Of l) q =
+          let e : Of (in-list l) ≡ Of x = rw q at p in
+          inject x (in-list ops) (sym e ∙ ap (λ (k : ScheduledOperations). Of (in-list k)) (same-list ops l q))
+      go (operations.Refused e) q = absurd (refused e x (rw q at p))
 
 pub list-try-new-promised : Keeps 0 list-try-new-kinds.ps list-try-new-kinds.r list-try-new.Learnt (λ κs a z. (l : ScheduledOperations) → z ≡ operations.Of l → l ≡ a .0)
 list-try-new-promised κs a z q l e = same-list (a .0) l (sym (ScheduledOperations-try-new-says κs a z (q .0) (q .1)) ∙ e)
@@ -105,13 +107,13 @@ ends-at (list.One a) = omega arith
 ends-at (list.Two a b) = omega arith
 
 starts-of : (ops : ScheduledOperations) (c : CumulativeOffsets) → cumulativeOffsetsOf ops ≡ cumulatives.Of c → c ≡ cumulativeIn ops
-starts-of = of-list cumulatives.Of cumulativeOffsetsFrom cumulativeIn (λ x y p. cc) (λ l. refl) (λ e x p. let z : _≡_ {A = ℕ} 0 1 = cc in omega arith)
+starts-of = of-list cumulatives.Of cumulatives.Refused cumulativeIn (λ x y p. cc) (λ e x p. let z : _≡_ {A = ℕ} 0 1 = cc in omega arith)
 
 ranges-of : (ops : ScheduledOperations) (c : OutsideRanges) → outsideRangesOf ops ≡ outsides.Of c → c ≡ outsideIn ops
-ranges-of = of-list outsides.Of outsideRangesFrom outsideIn (λ x y p. cc) (λ l. refl) (λ e x p. let z : _≡_ {A = ℕ} 0 1 = cc in omega arith)
+ranges-of = of-list outsides.Of outsides.Refused outsideIn (λ x y p. cc) (λ e x p. let z : _≡_ {A = ℕ} 0 1 = cc in omega arith)
 
 total-of : (ops : ScheduledOperations) (n : ℕ) → cumulativeLengthOf ops ≡ amount.Of n → n ≡ totalIn ops
-total-of = of-list amount.Of cumulativeLengthFrom totalIn (λ x y p. cc) (λ l. refl) (λ e x p. let z : _≡_ {A = ℕ} 0 1 = cc in omega arith)
+total-of = of-list amount.Of amount.Refused totalIn (λ x y p. cc) (λ e x p. let z : _≡_ {A = ℕ} 0 1 = cc in omega arith)
 
 pub starts-promised : Keeps 0 with-cumulative-offset-kinds.ps with-cumulative-offset-kinds.r with-cumulative-offset.Learnt (λ κs a z. (c : CumulativeOffsets) → z ≡ cumulatives.Of c → StartsOf (a .0) c)
 starts-promised κs a z q c e = rw (starts-of (a .0) c (sym (with-cumulative-offset-says κs a z (q .0) (q .1)) ∙ e)) (starts-are (a .0))

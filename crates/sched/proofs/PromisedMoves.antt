@@ -11,16 +11,17 @@ use Rattle.sched.specs.declared.list.OperationsAnswer.the-variants as op
 use Rattle.sched.specs.declared.list.ScheduledOperations.{ScheduledOperations}
 use Rattle.sched.specs.declared.operation.OperationType.{OperationType}
 use Rattle.sched.specs.declared.refusal.Refusal.{Refusal}
-use Rattle.sched.specs.declared.scheduler.Move.{Move}
-use Rattle.sched.specs.declared.scheduler.MoveAnswer.{MoveAnswer}
-use Rattle.sched.specs.declared.scheduler.MoveAnswer.the-variants as moves
-use Rattle.sched.specs.declared.scheduler.Registered.{Registered}
-use Rattle.sched.specs.declared.scheduler.Registered.the-variants as registered
+use Rattle.sched.specs.declared.register.Move.{Move}
+use Rattle.sched.specs.declared.register.MoveAnswer.{MoveAnswer}
+use Rattle.sched.specs.declared.register.MoveAnswer.the-variants as moves
+use Rattle.sched.specs.declared.register.Registered.{Registered}
+use Rattle.sched.specs.declared.register.Registered.the-variants as registered
 use Rattle.sched.specs.declared.scheduler.RingBufferScheduler.{RingBufferScheduler}
 use Rattle.sched.specs.Promise.{MovePromise, MovesAtOnce}
-use Rattle.sched.specs.Scheduler.{IsSound, greatestIn, cutOf, scheduleIn, scheduleFrom, registerListOf, moveIn, moveFrom}
+use Rattle.sched.specs.Scheduler.{IsSound, greatestIn, cutOf, scheduleIn, registerListOf, moveIn}
 use Rattle.sched.proofs.Counting.{moved}
-use Rattle.sched.proofs.Laws.{sound-is, move-of, move-refused}
+use Rattle.sched.proofs.Laws.{sound-is}
+use Rattle.sched.proofs.RegisterLaws.{move-of, move-refused}
 use Rattle.sched.proofs.Promises.{scheduling}
 use Rattle.sched.proofs.Promised.{Schedule}
 use Rattle.sched.proofs.Says.{schedule-and-register-says, schedule-contiguous-operations-says, try-register-operations-says}
@@ -49,7 +50,7 @@ move-keeps s h t m =
 pub move-promised : Keeps 0 schedule-and-register-kinds.ps schedule-and-register-kinds.r schedule-and-register.Learnt (λ κs a z. MovesAtOnce (a .0) (a .1 .0) (a .1 .1 .0) z)
 move-promised κs a z q h = (
   moveIn (a .0) (a .1 .0) (a .1 .1 .0),
-  schedule-and-register-says κs a z (q .0) (q .1) ∙ ap (moveFrom (a .1 .0) (a .1 .1 .0)) (sym (sound-is (a .0) h)),
+  rw (schedule-and-register-says κs a z (q .0) (q .1), ← sound-is (a .0) h),
   move-keeps (a .0) h (a .1 .0) (a .1 .1 .0),
 )
 
@@ -60,7 +61,7 @@ module _ (s : RingBufferScheduler) (t : OperationType) (m : ℕ) where
     is = move-of s t m v (schedule-and-register-says tt (s, (t, (m, tt))) (moves.Of v) (p .0) (p .1))
 
     scheduled : (z : OperationsAnswer) → Schedule s t m z → z ≡ operations.Of (scheduleIn s t m)
-    scheduled z q = schedule-contiguous-operations-says tt (s, (t, (m, tt))) z (q .0) (q .1) ∙ ap (scheduleFrom t m) (sym (sound-is s (is .0)))
+    scheduled z q = rw (schedule-contiguous-operations-says tt (s, (t, (m, tt))) z (q .0) (q .1), ← sound-is s (is .0))
 
     -- cut where the buffer ends it is the list that is scheduled
     pub move-cut : (z : OperationsAnswer) → Schedule s t m z → z ≡ operations.Of (cutOf t (s .«buf_len») (v .off) (v .len))
@@ -80,5 +81,4 @@ module _ (s : RingBufferScheduler) (t : OperationType) (m : ℕ) where
   -- it is refused as scheduling is
   pub move-refused-too : (e : Refusal) → ScheduleAndRegister s t m (moves.Refused e) → (z : OperationsAnswer) → Schedule s t m z → z ≡ operations.Refused e
   move-refused-too e p z q =
-      schedule-contiguous-operations-says tt (s, (t, (m, tt))) z (q .0) (q .1)
-      ∙ ap (scheduleFrom t m) (move-refused s t m e (schedule-and-register-says tt (s, (t, (m, tt))) (moves.Refused e) (p .0) (p .1)))
+      rw (schedule-contiguous-operations-says tt (s, (t, (m, tt))) z (q .0) (q .1), move-refused s t m e (schedule-and-register-says tt (s, (t, (m, tt))) (moves.Refused e) (p .0) (p .1)))

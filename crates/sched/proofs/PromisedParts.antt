@@ -1,7 +1,7 @@
 -- Of each call that asks something of a sound record: every outcome that its attached contract allows is what `Parts` of specs/
 -- says, in other words than the definitions.
 use Prim.Native.Nat.{ℕ, _+_, _≤_}
-use mathlib.Core.Path.{_≡_, refl, sym, ap, _∙_}
+use mathlib.Core.Path.{_≡_, refl, sym, _∙_}
 use mathlib.Core.Bool.{Bool, true, false}
 use lib.Dec.{eqb, ltb}
 use borrow.Author.Tests.{ne-eqb}
@@ -28,7 +28,7 @@ use Rattle.sched.specs.declared.scheduler.Checked.{Checked}
 use Rattle.sched.specs.declared.scheduler.Checked.the-variants as checked
 use Rattle.sched.specs.declared.scheduler.RingBufferScheduler.{RingBufferScheduler}
 use Rattle.sched.specs.Parts.{CounterOf, OffsetOf, FillOf, None, Some, LayoutOf, BlocksOf, NextBlockOf}
-use Rattle.sched.specs.Scheduler.{IsSound, soundOf, dataIn, spaceIn, counterIn, offsetIn, fillStateIn, layoutIn, blocksIn, nextBlockIn, bufLenFrom, counterFrom, offsetFrom, offsetAnswerOf, greatestFrom, isZeroFrom, isPositiveFrom, fillStateFrom, layoutFrom, blocksFrom, block0From, block1From, block2From, offFrom, lenFrom, nextBlockFrom}
+use Rattle.sched.specs.Scheduler.{IsSound, soundOf, dataIn, spaceIn, counterIn, offsetIn, fillStateIn, layoutIn, blocksIn, nextBlockIn, offsetAnswerOf}
 use Rattle.sched.proofs.Laws.{sound-is, sound-both}
 use Rattle.sched.proofs.Parts.{counter-is, offset-is, none-is, some-is, fill-is, layout-is, blocks-are, next-block-is}
 use Rattle.sched.proofs.ChunkLaws.{fits, fits-by}
@@ -92,29 +92,29 @@ use Rattle.sched.proofs.scheduler.RingBufferScheduler.next_write_block.
 
 -- ---- the length
 pub buf-len-promised : Keeps 0 buf-len-kinds.ps buf-len-kinds.r buf-len.Learnt (λ κs a z. IsSound (a .0) → z ≡ amount-answer.Of (a .0 .«buf_len»))
-buf-len-promised κs a z q h = buf-len-says κs a z (q .0) (q .1) ∙ ap bufLenFrom (sym (sound-is (a .0) h))
+buf-len-promised κs a z q h = rw (buf-len-says κs a z (q .0) (q .1), ← sound-is (a .0) h)
 
 pub is-zero-sized-promised : Keeps 0 is-zero-sized-kinds.ps is-zero-sized-kinds.r is-zero-sized.Learnt (λ κs a z. IsSound (a .0) → z ≡ bool-answer.Of false)
-is-zero-sized-promised κs a z q h = is-zero-sized-says κs a z (q .0) (q .1) ∙ ap (λ (c : Checked). isZeroFrom (bufLenFrom c)) (sym (sound-is (a .0) h)) ∙ ap bool-answer.Of (ne-eqb (a .0 .«buf_len») 0 (λ e. omega (arith, h .sized .some)))
+is-zero-sized-promised κs a z q h = rw (is-zero-sized-says κs a z (q .0) (q .1), ← sound-is (a .0) h, ne-eqb (a .0 .«buf_len») 0 (λ e. omega (arith, h .sized .some)))
 
 -- ---- counters and offsets
 pub items-read-promised : Keeps 0 items-read-kinds.ps items-read-kinds.r items-read.Learnt (λ κs a z. IsSound (a .0) → (c : Counter) × (z ≡ counter-answer.Of c) × CounterOf (a .0) Read c)
-items-read-promised κs a z q h = (counterIn (a .0) Read, items-read-says κs a z (q .0) (q .1) ∙ ap (counterFrom Read) (sym (sound-is (a .0) h)), counter-is (a .0) Read)
+items-read-promised κs a z q h = (counterIn (a .0) Read, rw (items-read-says κs a z (q .0) (q .1), ← sound-is (a .0) h), counter-is (a .0) Read)
 
 pub items-written-promised : Keeps 0 items-written-kinds.ps items-written-kinds.r items-written.Learnt (λ κs a z. IsSound (a .0) → (c : Counter) × (z ≡ counter-answer.Of c) × CounterOf (a .0) Write c)
-items-written-promised κs a z q h = (counterIn (a .0) Write, items-written-says κs a z (q .0) (q .1) ∙ ap (counterFrom Write) (sym (sound-is (a .0) h)), counter-is (a .0) Write)
+items-written-promised κs a z q h = (counterIn (a .0) Write, rw (items-written-says κs a z (q .0) (q .1), ← sound-is (a .0) h), counter-is (a .0) Write)
 
 pub operation-counter-promised : Keeps 0 operation-counter-kinds.ps operation-counter-kinds.r operation-counter.Learnt (λ κs a z. IsSound (a .0) → (c : Counter) × (z ≡ counter-answer.Of c) × CounterOf (a .0) (a .1 .0) c)
-operation-counter-promised κs a z q h = (counterIn (a .0) (a .1 .0), operation-counter-says κs a z (q .0) (q .1) ∙ ap (counterFrom (a .1 .0)) (sym (sound-is (a .0) h)), counter-is (a .0) (a .1 .0))
+operation-counter-promised κs a z q h = (counterIn (a .0) (a .1 .0), rw (operation-counter-says κs a z (q .0) (q .1), ← sound-is (a .0) h), counter-is (a .0) (a .1 .0))
 
 pub read-off-promised : Keeps 0 read-off-kinds.ps read-off-kinds.r read-off.Learnt (λ κs a z. IsSound (a .0) → (o : Offset) × (z ≡ offset-answer.Of o) × OffsetOf (a .0) Read o)
-read-off-promised κs a z q h = (offsetIn (a .0) Read, read-off-says κs a z (q .0) (q .1) ∙ ap (offsetFrom Read) (sym (sound-is (a .0) h)), offset-is (a .0) h Read)
+read-off-promised κs a z q h = (offsetIn (a .0) Read, rw (read-off-says κs a z (q .0) (q .1), ← sound-is (a .0) h), offset-is (a .0) h Read)
 
 pub write-off-promised : Keeps 0 write-off-kinds.ps write-off-kinds.r write-off.Learnt (λ κs a z. IsSound (a .0) → (o : Offset) × (z ≡ offset-answer.Of o) × OffsetOf (a .0) Write o)
-write-off-promised κs a z q h = (offsetIn (a .0) Write, write-off-says κs a z (q .0) (q .1) ∙ ap (offsetFrom Write) (sym (sound-is (a .0) h)), offset-is (a .0) h Write)
+write-off-promised κs a z q h = (offsetIn (a .0) Write, rw (write-off-says κs a z (q .0) (q .1), ← sound-is (a .0) h), offset-is (a .0) h Write)
 
 pub operation-offset-promised : Keeps 0 operation-offset-kinds.ps operation-offset-kinds.r operation-offset.Learnt (λ κs a z. IsSound (a .0) → (o : Offset) × (z ≡ offset-answer.Of o) × OffsetOf (a .0) (a .1 .0) o)
-operation-offset-promised κs a z q h = (offsetIn (a .0) (a .1 .0), operation-offset-says κs a z (q .0) (q .1) ∙ ap (offsetFrom (a .1 .0)) (sym (sound-is (a .0) h)), offset-is (a .0) h (a .1 .0))
+operation-offset-promised κs a z q h = (offsetIn (a .0) (a .1 .0), rw (operation-offset-says κs a z (q .0) (q .1), ← sound-is (a .0) h), offset-is (a .0) h (a .1 .0))
 
 -- the offset that the other promises name is the one that is answered
 same-offset : (o p : Offset) → offset-answer.Of o ≡ offset-answer.Of p → o ≡ p
@@ -127,8 +127,8 @@ offset-of : (s : RingBufferScheduler) (t : OperationType) (o : Offset) → offse
 offset-of s t o p = go (soundOf s) refl
   where
     go : (c : Checked) → soundOf s ≡ c → o ≡ offsetIn s t
-    go (checked.Sound v) q = same-offset o (offsetIn v t) (sym p ∙ ap (offsetFrom t) q) ∙ ap (λ (x : RingBufferScheduler). offsetIn x t) (sound-both v s (sym q) .1)
-    go (checked.Refused e) q = absurd (never-offset e o (sym (ap (offsetFrom t) q) ∙ p))
+    go (checked.Sound v) q = same-offset o (offsetIn s t) (rw (← sound-is s (sound-both v s (sym q) .0)) at (sym p))
+    go (checked.Refused e) q = absurd (never-offset e o (rw q at p))
 
 pub read-off-is : Keeps 0 read-off-kinds.ps read-off-kinds.r read-off.Learnt (λ κs a z. (o : Offset) → z ≡ offset-answer.Of o → o ≡ offsetIn (a .0) Read)
 read-off-is κs a z q o e = offset-of (a .0) Read o (sym (read-off-says κs a z (q .0) (q .1)) ∙ e)
@@ -141,62 +141,62 @@ operation-offset-is κs a z q o e = offset-of (a .0) (a .1 .0) o (sym (operation
 
 -- ---- fill state
 pub fill-state-promised : Keeps 0 fill-state-kinds.ps fill-state-kinds.r fill-state.Learnt (λ κs a z. IsSound (a .0) → (f : BufferFillState) × (z ≡ fill-answer.Of f) × FillOf (a .0) f)
-fill-state-promised κs a z q h = (fillStateIn (a .0), fill-state-says κs a z (q .0) (q .1) ∙ ap fillStateFrom (sym (sound-is (a .0) h)), fill-is (a .0) h)
+fill-state-promised κs a z q h = (fillStateIn (a .0), rw (fill-state-says κs a z (q .0) (q .1), ← sound-is (a .0) h), fill-is (a .0) h)
 
 pub is-empty-promised : Keeps 0 is-empty-kinds.ps is-empty-kinds.r is-empty.Learnt (λ κs a z. IsSound (a .0) → (b : Bool) × (z ≡ bool-answer.Of b) × None (dataIn (a .0)) b)
-is-empty-promised κs a z q h = (eqb (dataIn (a .0)) 0, is-empty-says κs a z (q .0) (q .1) ∙ ap (λ (c : Checked). isZeroFrom (greatestFrom Read c)) (sym (sound-is (a .0) h)), none-is (dataIn (a .0)))
+is-empty-promised κs a z q h = (eqb (dataIn (a .0)) 0, rw (is-empty-says κs a z (q .0) (q .1), ← sound-is (a .0) h), none-is (dataIn (a .0)))
 
 pub is-full-promised : Keeps 0 is-full-kinds.ps is-full-kinds.r is-full.Learnt (λ κs a z. IsSound (a .0) → (b : Bool) × (z ≡ bool-answer.Of b) × None (spaceIn (a .0)) b)
-is-full-promised κs a z q h = (eqb (spaceIn (a .0)) 0, is-full-says κs a z (q .0) (q .1) ∙ ap (λ (c : Checked). isZeroFrom (greatestFrom Write c)) (sym (sound-is (a .0) h)), none-is (spaceIn (a .0)))
+is-full-promised κs a z q h = (eqb (spaceIn (a .0)) 0, rw (is-full-says κs a z (q .0) (q .1), ← sound-is (a .0) h), none-is (spaceIn (a .0)))
 
 pub is-nonempty-promised : Keeps 0 is-nonempty-kinds.ps is-nonempty-kinds.r is-nonempty.Learnt (λ κs a z. IsSound (a .0) → (b : Bool) × (z ≡ bool-answer.Of b) × Some (dataIn (a .0)) b)
-is-nonempty-promised κs a z q h = (ltb 0 (dataIn (a .0)), is-nonempty-says κs a z (q .0) (q .1) ∙ ap (λ (c : Checked). isPositiveFrom (greatestFrom Read c)) (sym (sound-is (a .0) h)), some-is (dataIn (a .0)))
+is-nonempty-promised κs a z q h = (ltb 0 (dataIn (a .0)), rw (is-nonempty-says κs a z (q .0) (q .1), ← sound-is (a .0) h), some-is (dataIn (a .0)))
 
 pub is-nonfull-promised : Keeps 0 is-nonfull-kinds.ps is-nonfull-kinds.r is-nonfull.Learnt (λ κs a z. IsSound (a .0) → (b : Bool) × (z ≡ bool-answer.Of b) × Some (spaceIn (a .0)) b)
-is-nonfull-promised κs a z q h = (ltb 0 (spaceIn (a .0)), is-nonfull-says κs a z (q .0) (q .1) ∙ ap (λ (c : Checked). isPositiveFrom (greatestFrom Write c)) (sym (sound-is (a .0) h)), some-is (spaceIn (a .0)))
+is-nonfull-promised κs a z q h = (ltb 0 (spaceIn (a .0)), rw (is-nonfull-says κs a z (q .0) (q .1), ← sound-is (a .0) h), some-is (spaceIn (a .0)))
 
 -- ---- layout and blocks
 pub layout-promised : Keeps 0 layout-kinds.ps layout-kinds.r layout.Learnt (λ κs a z. IsSound (a .0) → (l : BufferLayout) × (z ≡ layout-answer.Of l) × LayoutOf (a .0) l)
-layout-promised κs a z q h = (layoutIn (a .0), layout-says κs a z (q .0) (q .1) ∙ ap layoutFrom (sym (sound-is (a .0) h)), layout-is (a .0) h)
+layout-promised κs a z q h = (layoutIn (a .0), rw (layout-says κs a z (q .0) (q .1), ← sound-is (a .0) h), layout-is (a .0) h)
 
 pub blocks-promised : Keeps 0 blocks-kinds.ps blocks-kinds.r blocks.Learnt (λ κs a z. IsSound (a .0) → (b : Blocks) × (z ≡ blocks-answer.Of b) × BlocksOf (a .0) b)
-blocks-promised κs a z q h = (blocksIn (a .0), blocks-says κs a z (q .0) (q .1) ∙ ap blocksFrom (sym (sound-is (a .0) h)), blocks-are (a .0) h)
+blocks-promised κs a z q h = (blocksIn (a .0), rw (blocks-says κs a z (q .0) (q .1), ← sound-is (a .0) h), blocks-are (a .0) h)
 
 pub block-0-promised : Keeps 0 block-0-kinds.ps block-0-kinds.r block-0.Learnt (λ κs a z. IsSound (a .0) → (b : Blocks) × (z ≡ block-answer.Of (b .0)) × BlocksOf (a .0) b)
-block-0-promised κs a z q h = (blocksIn (a .0), block-0-says κs a z (q .0) (q .1) ∙ ap (λ (c : Checked). block0From (blocksFrom c)) (sym (sound-is (a .0) h)), blocks-are (a .0) h)
+block-0-promised κs a z q h = (blocksIn (a .0), rw (block-0-says κs a z (q .0) (q .1), ← sound-is (a .0) h), blocks-are (a .0) h)
 
 pub block-1-promised : Keeps 0 block-1-kinds.ps block-1-kinds.r block-1.Learnt (λ κs a z. IsSound (a .0) → (b : Blocks) × (z ≡ block-answer.Of (b .1)) × BlocksOf (a .0) b)
-block-1-promised κs a z q h = (blocksIn (a .0), block-1-says κs a z (q .0) (q .1) ∙ ap (λ (c : Checked). block1From (blocksFrom c)) (sym (sound-is (a .0) h)), blocks-are (a .0) h)
+block-1-promised κs a z q h = (blocksIn (a .0), rw (block-1-says κs a z (q .0) (q .1), ← sound-is (a .0) h), blocks-are (a .0) h)
 
 pub block-2-promised : Keeps 0 block-2-kinds.ps block-2-kinds.r block-2.Learnt (λ κs a z. IsSound (a .0) → (b : Blocks) × (z ≡ block-answer.Of (b .2)) × BlocksOf (a .0) b)
-block-2-promised κs a z q h = (blocksIn (a .0), block-2-says κs a z (q .0) (q .1) ∙ ap (λ (c : Checked). block2From (blocksFrom c)) (sym (sound-is (a .0) h)), blocks-are (a .0) h)
+block-2-promised κs a z q h = (blocksIn (a .0), rw (block-2-says κs a z (q .0) (q .1), ← sound-is (a .0) h), blocks-are (a .0) h)
 
 pub block-0-off-promised : Keeps 0 block-0-off-kinds.ps block-0-off-kinds.r block-0-off.Learnt (λ κs a z. IsSound (a .0) → (b : Blocks) × (z ≡ offset-answer.Of (b .0 .off)) × BlocksOf (a .0) b)
-block-0-off-promised κs a z q h = (blocksIn (a .0), block-0-off-says κs a z (q .0) (q .1) ∙ ap (λ (c : Checked). offFrom (block0From (blocksFrom c))) (sym (sound-is (a .0) h)), blocks-are (a .0) h)
+block-0-off-promised κs a z q h = (blocksIn (a .0), rw (block-0-off-says κs a z (q .0) (q .1), ← sound-is (a .0) h), blocks-are (a .0) h)
 
 pub block-1-off-promised : Keeps 0 block-1-off-kinds.ps block-1-off-kinds.r block-1-off.Learnt (λ κs a z. IsSound (a .0) → (b : Blocks) × (z ≡ offset-answer.Of (b .1 .off)) × BlocksOf (a .0) b)
-block-1-off-promised κs a z q h = (blocksIn (a .0), block-1-off-says κs a z (q .0) (q .1) ∙ ap (λ (c : Checked). offFrom (block1From (blocksFrom c))) (sym (sound-is (a .0) h)), blocks-are (a .0) h)
+block-1-off-promised κs a z q h = (blocksIn (a .0), rw (block-1-off-says κs a z (q .0) (q .1), ← sound-is (a .0) h), blocks-are (a .0) h)
 
 pub block-2-off-promised : Keeps 0 block-2-off-kinds.ps block-2-off-kinds.r block-2-off.Learnt (λ κs a z. IsSound (a .0) → (b : Blocks) × (z ≡ offset-answer.Of (b .2 .off)) × BlocksOf (a .0) b)
-block-2-off-promised κs a z q h = (blocksIn (a .0), block-2-off-says κs a z (q .0) (q .1) ∙ ap (λ (c : Checked). offFrom (block2From (blocksFrom c))) (sym (sound-is (a .0) h)), blocks-are (a .0) h)
+block-2-off-promised κs a z q h = (blocksIn (a .0), rw (block-2-off-says κs a z (q .0) (q .1), ← sound-is (a .0) h), blocks-are (a .0) h)
 
 pub block-0-len-promised : Keeps 0 block-0-len-kinds.ps block-0-len-kinds.r block-0-len.Learnt (λ κs a z. IsSound (a .0) → (b : Blocks) × (z ≡ amount-answer.Of (b .0 .len)) × BlocksOf (a .0) b)
-block-0-len-promised κs a z q h = (blocksIn (a .0), block-0-len-says κs a z (q .0) (q .1) ∙ ap (λ (c : Checked). lenFrom (block0From (blocksFrom c))) (sym (sound-is (a .0) h)), blocks-are (a .0) h)
+block-0-len-promised κs a z q h = (blocksIn (a .0), rw (block-0-len-says κs a z (q .0) (q .1), ← sound-is (a .0) h), blocks-are (a .0) h)
 
 pub block-1-len-promised : Keeps 0 block-1-len-kinds.ps block-1-len-kinds.r block-1-len.Learnt (λ κs a z. IsSound (a .0) → (b : Blocks) × (z ≡ amount-answer.Of (b .1 .len)) × BlocksOf (a .0) b)
-block-1-len-promised κs a z q h = (blocksIn (a .0), block-1-len-says κs a z (q .0) (q .1) ∙ ap (λ (c : Checked). lenFrom (block1From (blocksFrom c))) (sym (sound-is (a .0) h)), blocks-are (a .0) h)
+block-1-len-promised κs a z q h = (blocksIn (a .0), rw (block-1-len-says κs a z (q .0) (q .1), ← sound-is (a .0) h), blocks-are (a .0) h)
 
 pub block-2-len-promised : Keeps 0 block-2-len-kinds.ps block-2-len-kinds.r block-2-len.Learnt (λ κs a z. IsSound (a .0) → (b : Blocks) × (z ≡ amount-answer.Of (b .2 .len)) × BlocksOf (a .0) b)
-block-2-len-promised κs a z q h = (blocksIn (a .0), block-2-len-says κs a z (q .0) (q .1) ∙ ap (λ (c : Checked). lenFrom (block2From (blocksFrom c))) (sym (sound-is (a .0) h)), blocks-are (a .0) h)
+block-2-len-promised κs a z q h = (blocksIn (a .0), rw (block-2-len-says κs a z (q .0) (q .1), ← sound-is (a .0) h), blocks-are (a .0) h)
 
 pub next-operation-block-promised : Keeps 0 next-operation-block-kinds.ps next-operation-block-kinds.r next-operation-block.Learnt (λ κs a z. IsSound (a .0) → (b : Block) × (z ≡ block-answer.Of b) × NextBlockOf (a .0) (a .1 .0) b)
-next-operation-block-promised κs a z q h = (nextBlockIn (a .0) (a .1 .0), next-operation-block-says κs a z (q .0) (q .1) ∙ ap (nextBlockFrom (a .1 .0)) (sym (sound-is (a .0) h)), next-block-is (a .0) h (a .1 .0))
+next-operation-block-promised κs a z q h = (nextBlockIn (a .0) (a .1 .0), rw (next-operation-block-says κs a z (q .0) (q .1), ← sound-is (a .0) h), next-block-is (a .0) h (a .1 .0))
 
 pub next-read-block-promised : Keeps 0 next-read-block-kinds.ps next-read-block-kinds.r next-read-block.Learnt (λ κs a z. IsSound (a .0) → (b : Block) × (z ≡ block-answer.Of b) × NextBlockOf (a .0) Read b)
-next-read-block-promised κs a z q h = (nextBlockIn (a .0) Read, next-read-block-says κs a z (q .0) (q .1) ∙ ap (nextBlockFrom Read) (sym (sound-is (a .0) h)), next-block-is (a .0) h Read)
+next-read-block-promised κs a z q h = (nextBlockIn (a .0) Read, rw (next-read-block-says κs a z (q .0) (q .1), ← sound-is (a .0) h), next-block-is (a .0) h Read)
 
 pub next-write-block-promised : Keeps 0 next-write-block-kinds.ps next-write-block-kinds.r next-write-block.Learnt (λ κs a z. IsSound (a .0) → (b : Block) × (z ≡ block-answer.Of b) × NextBlockOf (a .0) Write b)
-next-write-block-promised κs a z q h = (nextBlockIn (a .0) Write, next-write-block-says κs a z (q .0) (q .1) ∙ ap (nextBlockFrom Write) (sym (sound-is (a .0) h)), next-block-is (a .0) h Write)
+next-write-block-promised κs a z q h = (nextBlockIn (a .0) Write, rw (next-write-block-says κs a z (q .0) (q .1), ← sound-is (a .0) h), next-block-is (a .0) h Write)
 
 -- ---- the bound of a body: true exactly when it fits with its header
 pub body-fits-promised : Keeps 0 body-fits-kinds.ps body-fits-kinds.r body-fits.Learnt (λ κs a z. (z ≡ true → a .1 .0 + 8 ≤ a .0) × (a .1 .0 + 8 ≤ a .0 → z ≡ true))

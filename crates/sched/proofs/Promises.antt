@@ -17,13 +17,16 @@ use Rattle.sched.specs.declared.operation.OperationType.{OperationType}
 use Rattle.sched.specs.declared.operation.OperationType.the-variants.{Read, Write}
 use Rattle.sched.specs.declared.operation.ScheduledOperation.{ScheduledOperation}
 use Rattle.sched.specs.declared.refusal.Refusal.the-variants.{OperationTooLarge, OperationTooLong, InconsistentOperationType}
-use Rattle.sched.specs.declared.scheduler.Registered.the-variants as registered
+use Rattle.sched.specs.declared.register.Registered.the-variants as registered
 use Rattle.sched.specs.declared.scheduler.RingBufferScheduler.{RingBufferScheduler}
 use Rattle.sched.specs.Operation.{operationOf}
 use Rattle.sched.specs.Promise.{Promise, upFrom, roundFrom, joined, byBlocks}
 use Rattle.sched.specs.List.{sameTypeOf, soundTwoOf, soundListOf, totalIn}
 use Rattle.sched.specs.Scheduler.{IsSound, dataIn, spaceIn, offsetIn, greatestIn, fillStateIn, nextBlockIn, nextIn, scheduleIn, advancedIn, registerIn, registerOf, registerListOf}
-use Rattle.sched.proofs.Laws.{sound-is, offset-lt, arranged, next-len, greatest-most, advanced-greatest, advanced-twice, advanced-nothing, min-min, cut-none, cut-one, cut-two, schedule-none, schedule-one, schedule-two}
+use Rattle.sched.proofs.Laws.{sound-is, offset-lt, greatest-most}
+use Rattle.sched.proofs.LayoutLaws.{arranged, next-len}
+use Rattle.sched.proofs.RegisterLaws.{advanced-greatest, advanced-twice, advanced-nothing}
+use Rattle.sched.proofs.ScheduleLaws.{min-min, cut-none, cut-one, cut-two, schedule-none, schedule-one, schedule-two}
 
 abbrev L : RingBufferScheduler → ℕ
 L s = s .«buf_len»

@@ -1,13 +1,11 @@
 -- "Given exactly when", 1 to 8, of every call that can refuse: whatever its attached contract allows is refused with a number
 -- and values exactly when the paper's table says so.
-use mathlib.Core.Path.{refl}
 use Rattle.modular.proofs.Saying.{Keeps}
 use Rattle.sched.specs.declared.operation.OperationType.the-variants.{Read, Write}
 use Rattle.sched.specs.Given.{Exactly, Given, GivenRegister, GivenList, GivenOperations, ofChecked, ofRegistered, ofMove, ofAmount, ofBool, ofCounter, ofOffset, ofFillState, ofLayout, ofBlock, ofBlocks, ofNext, ofOperations, ofCumulativeOffsets, ofOutsideRanges}
-use Rattle.sched.specs.List.{cumulativeLengthFrom, cumulativeOffsetsFrom, outsideRangesFrom}
-use Rattle.sched.specs.Scheduler.{schedulerOf, bufLenFrom, counterFrom, offsetFrom, greatestFrom, isZeroFrom, isPositiveFrom, fillStateFrom, layoutFrom, blocksFrom, block0From, block1From, block2From, offFrom, lenFrom, nextBlockFrom, nextFrom, scheduleFrom, moveFrom}
-use Rattle.sched.proofs.Given.{record-exactly, tested, register-exactly}
-use Rattle.sched.proofs.GivenLists.{list-exactly, listed, operations-exactly}
+use Rattle.sched.specs.Scheduler.{schedulerOf}
+use Rattle.sched.proofs.Given.{record-exactly, tested-exactly, register-exactly}
+use Rattle.sched.proofs.GivenLists.{list-exactly, listed-exactly, operations-exactly}
 use Rattle.sched.proofs.Says.{try-new-says, try-from-counters-says, demand-soundness-says, buf-len-says, is-zero-sized-says, items-read-says, items-written-says, operation-counter-says, read-off-says, write-off-says, operation-offset-says, data-avail-says, space-avail-says, max-operation-len-says, fill-state-says, is-empty-says, is-full-says, is-nonempty-says, is-nonfull-says, layout-says, blocks-says, block-0-says, block-1-says, block-2-says, block-0-off-says, block-1-off-says, block-2-off-says, block-0-len-says, block-1-len-says, block-2-len-says, next-operation-block-says, next-read-block-says, next-write-block-says, schedule-next-contiguous-operation-says, schedule-next-read-says, schedule-next-write-says, schedule-contiguous-operations-says, schedule-reads-says, schedule-writes-says, try-register-read-says, try-register-write-says, try-register-operation-manually-says, try-register-operation-says, try-register-operations-says, schedule-and-register-says, ScheduledOperations-try-new-says, container-says, into-container-says, cumulative-operation-length-says, with-cumulative-offset-says, with-outside-buffer-range-says}
 use Rattle.sched.proofs.scheduler.RingBufferScheduler.try_new.Kinds as try-new-kinds
 use Rattle.sched.proofs.scheduler.RingBufferScheduler.try_new.Reads as try-new
@@ -124,115 +122,115 @@ demand-soundness-refuses κs a z q = rw (demand-soundness-says κs a z (q .0) (q
 
 -- ---- every call that asks something of a record: the same
 pub buf-len-refuses : Keeps 0 buf-len-kinds.ps buf-len-kinds.r buf-len.Learnt (λ κs a z. Exactly (Given (a .0)) (ofAmount z))
-buf-len-refuses κs a z q = rw (buf-len-says κs a z (q .0) (q .1)) (tested ofAmount bufLenFrom (λ s. refl) (λ e. refl) (a .0))
+buf-len-refuses κs a z q = rw (buf-len-says κs a z (q .0) (q .1)) (tested-exactly (a .0) _ (λ u p. rw p) (λ e p. rw p))
 
 pub is-zero-sized-refuses : Keeps 0 is-zero-sized-kinds.ps is-zero-sized-kinds.r is-zero-sized.Learnt (λ κs a z. Exactly (Given (a .0)) (ofBool z))
-is-zero-sized-refuses κs a z q = rw (is-zero-sized-says κs a z (q .0) (q .1)) (tested ofBool (λ c. isZeroFrom (bufLenFrom c)) (λ s. refl) (λ e. refl) (a .0))
+is-zero-sized-refuses κs a z q = rw (is-zero-sized-says κs a z (q .0) (q .1)) (tested-exactly (a .0) _ (λ u p. rw p) (λ e p. rw p))
 
 pub items-read-refuses : Keeps 0 items-read-kinds.ps items-read-kinds.r items-read.Learnt (λ κs a z. Exactly (Given (a .0)) (ofCounter z))
-items-read-refuses κs a z q = rw (items-read-says κs a z (q .0) (q .1)) (tested ofCounter (counterFrom Read) (λ s. refl) (λ e. refl) (a .0))
+items-read-refuses κs a z q = rw (items-read-says κs a z (q .0) (q .1)) (tested-exactly (a .0) _ (λ u p. rw p) (λ e p. rw p))
 
 pub items-written-refuses : Keeps 0 items-written-kinds.ps items-written-kinds.r items-written.Learnt (λ κs a z. Exactly (Given (a .0)) (ofCounter z))
-items-written-refuses κs a z q = rw (items-written-says κs a z (q .0) (q .1)) (tested ofCounter (counterFrom Write) (λ s. refl) (λ e. refl) (a .0))
+items-written-refuses κs a z q = rw (items-written-says κs a z (q .0) (q .1)) (tested-exactly (a .0) _ (λ u p. rw p) (λ e p. rw p))
 
 pub operation-counter-refuses : Keeps 0 operation-counter-kinds.ps operation-counter-kinds.r operation-counter.Learnt (λ κs a z. Exactly (Given (a .0)) (ofCounter z))
-operation-counter-refuses κs a z q = rw (operation-counter-says κs a z (q .0) (q .1)) (tested ofCounter (counterFrom (a .1 .0)) (λ s. refl) (λ e. refl) (a .0))
+operation-counter-refuses κs a z q = rw (operation-counter-says κs a z (q .0) (q .1)) (tested-exactly (a .0) _ (λ u p. rw p) (λ e p. rw p))
 
 pub read-off-refuses : Keeps 0 read-off-kinds.ps read-off-kinds.r read-off.Learnt (λ κs a z. Exactly (Given (a .0)) (ofOffset z))
-read-off-refuses κs a z q = rw (read-off-says κs a z (q .0) (q .1)) (tested ofOffset (offsetFrom Read) (λ s. refl) (λ e. refl) (a .0))
+read-off-refuses κs a z q = rw (read-off-says κs a z (q .0) (q .1)) (tested-exactly (a .0) _ (λ u p. rw p) (λ e p. rw p))
 
 pub write-off-refuses : Keeps 0 write-off-kinds.ps write-off-kinds.r write-off.Learnt (λ κs a z. Exactly (Given (a .0)) (ofOffset z))
-write-off-refuses κs a z q = rw (write-off-says κs a z (q .0) (q .1)) (tested ofOffset (offsetFrom Write) (λ s. refl) (λ e. refl) (a .0))
+write-off-refuses κs a z q = rw (write-off-says κs a z (q .0) (q .1)) (tested-exactly (a .0) _ (λ u p. rw p) (λ e p. rw p))
 
 pub operation-offset-refuses : Keeps 0 operation-offset-kinds.ps operation-offset-kinds.r operation-offset.Learnt (λ κs a z. Exactly (Given (a .0)) (ofOffset z))
-operation-offset-refuses κs a z q = rw (operation-offset-says κs a z (q .0) (q .1)) (tested ofOffset (offsetFrom (a .1 .0)) (λ s. refl) (λ e. refl) (a .0))
+operation-offset-refuses κs a z q = rw (operation-offset-says κs a z (q .0) (q .1)) (tested-exactly (a .0) _ (λ u p. rw p) (λ e p. rw p))
 
 pub data-avail-refuses : Keeps 0 data-avail-kinds.ps data-avail-kinds.r data-avail.Learnt (λ κs a z. Exactly (Given (a .0)) (ofAmount z))
-data-avail-refuses κs a z q = rw (data-avail-says κs a z (q .0) (q .1)) (tested ofAmount (greatestFrom Read) (λ s. refl) (λ e. refl) (a .0))
+data-avail-refuses κs a z q = rw (data-avail-says κs a z (q .0) (q .1)) (tested-exactly (a .0) _ (λ u p. rw p) (λ e p. rw p))
 
 pub space-avail-refuses : Keeps 0 space-avail-kinds.ps space-avail-kinds.r space-avail.Learnt (λ κs a z. Exactly (Given (a .0)) (ofAmount z))
-space-avail-refuses κs a z q = rw (space-avail-says κs a z (q .0) (q .1)) (tested ofAmount (greatestFrom Write) (λ s. refl) (λ e. refl) (a .0))
+space-avail-refuses κs a z q = rw (space-avail-says κs a z (q .0) (q .1)) (tested-exactly (a .0) _ (λ u p. rw p) (λ e p. rw p))
 
 pub max-operation-len-refuses : Keeps 0 max-operation-len-kinds.ps max-operation-len-kinds.r max-operation-len.Learnt (λ κs a z. Exactly (Given (a .0)) (ofAmount z))
-max-operation-len-refuses κs a z q = rw (max-operation-len-says κs a z (q .0) (q .1)) (tested ofAmount (greatestFrom (a .1 .0)) (λ s. refl) (λ e. refl) (a .0))
+max-operation-len-refuses κs a z q = rw (max-operation-len-says κs a z (q .0) (q .1)) (tested-exactly (a .0) _ (λ u p. rw p) (λ e p. rw p))
 
 pub fill-state-refuses : Keeps 0 fill-state-kinds.ps fill-state-kinds.r fill-state.Learnt (λ κs a z. Exactly (Given (a .0)) (ofFillState z))
-fill-state-refuses κs a z q = rw (fill-state-says κs a z (q .0) (q .1)) (tested ofFillState fillStateFrom (λ s. refl) (λ e. refl) (a .0))
+fill-state-refuses κs a z q = rw (fill-state-says κs a z (q .0) (q .1)) (tested-exactly (a .0) _ (λ u p. rw p) (λ e p. rw p))
 
 pub is-empty-refuses : Keeps 0 is-empty-kinds.ps is-empty-kinds.r is-empty.Learnt (λ κs a z. Exactly (Given (a .0)) (ofBool z))
-is-empty-refuses κs a z q = rw (is-empty-says κs a z (q .0) (q .1)) (tested ofBool (λ c. isZeroFrom (greatestFrom Read c)) (λ s. refl) (λ e. refl) (a .0))
+is-empty-refuses κs a z q = rw (is-empty-says κs a z (q .0) (q .1)) (tested-exactly (a .0) _ (λ u p. rw p) (λ e p. rw p))
 
 pub is-full-refuses : Keeps 0 is-full-kinds.ps is-full-kinds.r is-full.Learnt (λ κs a z. Exactly (Given (a .0)) (ofBool z))
-is-full-refuses κs a z q = rw (is-full-says κs a z (q .0) (q .1)) (tested ofBool (λ c. isZeroFrom (greatestFrom Write c)) (λ s. refl) (λ e. refl) (a .0))
+is-full-refuses κs a z q = rw (is-full-says κs a z (q .0) (q .1)) (tested-exactly (a .0) _ (λ u p. rw p) (λ e p. rw p))
 
 pub is-nonempty-refuses : Keeps 0 is-nonempty-kinds.ps is-nonempty-kinds.r is-nonempty.Learnt (λ κs a z. Exactly (Given (a .0)) (ofBool z))
-is-nonempty-refuses κs a z q = rw (is-nonempty-says κs a z (q .0) (q .1)) (tested ofBool (λ c. isPositiveFrom (greatestFrom Read c)) (λ s. refl) (λ e. refl) (a .0))
+is-nonempty-refuses κs a z q = rw (is-nonempty-says κs a z (q .0) (q .1)) (tested-exactly (a .0) _ (λ u p. rw p) (λ e p. rw p))
 
 pub is-nonfull-refuses : Keeps 0 is-nonfull-kinds.ps is-nonfull-kinds.r is-nonfull.Learnt (λ κs a z. Exactly (Given (a .0)) (ofBool z))
-is-nonfull-refuses κs a z q = rw (is-nonfull-says κs a z (q .0) (q .1)) (tested ofBool (λ c. isPositiveFrom (greatestFrom Write c)) (λ s. refl) (λ e. refl) (a .0))
+is-nonfull-refuses κs a z q = rw (is-nonfull-says κs a z (q .0) (q .1)) (tested-exactly (a .0) _ (λ u p. rw p) (λ e p. rw p))
 
 pub layout-refuses : Keeps 0 layout-kinds.ps layout-kinds.r layout.Learnt (λ κs a z. Exactly (Given (a .0)) (ofLayout z))
-layout-refuses κs a z q = rw (layout-says κs a z (q .0) (q .1)) (tested ofLayout layoutFrom (λ s. refl) (λ e. refl) (a .0))
+layout-refuses κs a z q = rw (layout-says κs a z (q .0) (q .1)) (tested-exactly (a .0) _ (λ u p. rw p) (λ e p. rw p))
 
 pub blocks-refuses : Keeps 0 blocks-kinds.ps blocks-kinds.r blocks.Learnt (λ κs a z. Exactly (Given (a .0)) (ofBlocks z))
-blocks-refuses κs a z q = rw (blocks-says κs a z (q .0) (q .1)) (tested ofBlocks blocksFrom (λ s. refl) (λ e. refl) (a .0))
+blocks-refuses κs a z q = rw (blocks-says κs a z (q .0) (q .1)) (tested-exactly (a .0) _ (λ u p. rw p) (λ e p. rw p))
 
 pub block-0-refuses : Keeps 0 block-0-kinds.ps block-0-kinds.r block-0.Learnt (λ κs a z. Exactly (Given (a .0)) (ofBlock z))
-block-0-refuses κs a z q = rw (block-0-says κs a z (q .0) (q .1)) (tested ofBlock (λ c. block0From (blocksFrom c)) (λ s. refl) (λ e. refl) (a .0))
+block-0-refuses κs a z q = rw (block-0-says κs a z (q .0) (q .1)) (tested-exactly (a .0) _ (λ u p. rw p) (λ e p. rw p))
 
 pub block-1-refuses : Keeps 0 block-1-kinds.ps block-1-kinds.r block-1.Learnt (λ κs a z. Exactly (Given (a .0)) (ofBlock z))
-block-1-refuses κs a z q = rw (block-1-says κs a z (q .0) (q .1)) (tested ofBlock (λ c. block1From (blocksFrom c)) (λ s. refl) (λ e. refl) (a .0))
+block-1-refuses κs a z q = rw (block-1-says κs a z (q .0) (q .1)) (tested-exactly (a .0) _ (λ u p. rw p) (λ e p. rw p))
 
 pub block-2-refuses : Keeps 0 block-2-kinds.ps block-2-kinds.r block-2.Learnt (λ κs a z. Exactly (Given (a .0)) (ofBlock z))
-block-2-refuses κs a z q = rw (block-2-says κs a z (q .0) (q .1)) (tested ofBlock (λ c. block2From (blocksFrom c)) (λ s. refl) (λ e. refl) (a .0))
+block-2-refuses κs a z q = rw (block-2-says κs a z (q .0) (q .1)) (tested-exactly (a .0) _ (λ u p. rw p) (λ e p. rw p))
 
 pub block-0-off-refuses : Keeps 0 block-0-off-kinds.ps block-0-off-kinds.r block-0-off.Learnt (λ κs a z. Exactly (Given (a .0)) (ofOffset z))
-block-0-off-refuses κs a z q = rw (block-0-off-says κs a z (q .0) (q .1)) (tested ofOffset (λ c. offFrom (block0From (blocksFrom c))) (λ s. refl) (λ e. refl) (a .0))
+block-0-off-refuses κs a z q = rw (block-0-off-says κs a z (q .0) (q .1)) (tested-exactly (a .0) _ (λ u p. rw p) (λ e p. rw p))
 
 pub block-1-off-refuses : Keeps 0 block-1-off-kinds.ps block-1-off-kinds.r block-1-off.Learnt (λ κs a z. Exactly (Given (a .0)) (ofOffset z))
-block-1-off-refuses κs a z q = rw (block-1-off-says κs a z (q .0) (q .1)) (tested ofOffset (λ c. offFrom (block1From (blocksFrom c))) (λ s. refl) (λ e. refl) (a .0))
+block-1-off-refuses κs a z q = rw (block-1-off-says κs a z (q .0) (q .1)) (tested-exactly (a .0) _ (λ u p. rw p) (λ e p. rw p))
 
 pub block-2-off-refuses : Keeps 0 block-2-off-kinds.ps block-2-off-kinds.r block-2-off.Learnt (λ κs a z. Exactly (Given (a .0)) (ofOffset z))
-block-2-off-refuses κs a z q = rw (block-2-off-says κs a z (q .0) (q .1)) (tested ofOffset (λ c. offFrom (block2From (blocksFrom c))) (λ s. refl) (λ e. refl) (a .0))
+block-2-off-refuses κs a z q = rw (block-2-off-says κs a z (q .0) (q .1)) (tested-exactly (a .0) _ (λ u p. rw p) (λ e p. rw p))
 
 pub block-0-len-refuses : Keeps 0 block-0-len-kinds.ps block-0-len-kinds.r block-0-len.Learnt (λ κs a z. Exactly (Given (a .0)) (ofAmount z))
-block-0-len-refuses κs a z q = rw (block-0-len-says κs a z (q .0) (q .1)) (tested ofAmount (λ c. lenFrom (block0From (blocksFrom c))) (λ s. refl) (λ e. refl) (a .0))
+block-0-len-refuses κs a z q = rw (block-0-len-says κs a z (q .0) (q .1)) (tested-exactly (a .0) _ (λ u p. rw p) (λ e p. rw p))
 
 pub block-1-len-refuses : Keeps 0 block-1-len-kinds.ps block-1-len-kinds.r block-1-len.Learnt (λ κs a z. Exactly (Given (a .0)) (ofAmount z))
-block-1-len-refuses κs a z q = rw (block-1-len-says κs a z (q .0) (q .1)) (tested ofAmount (λ c. lenFrom (block1From (blocksFrom c))) (λ s. refl) (λ e. refl) (a .0))
+block-1-len-refuses κs a z q = rw (block-1-len-says κs a z (q .0) (q .1)) (tested-exactly (a .0) _ (λ u p. rw p) (λ e p. rw p))
 
 pub block-2-len-refuses : Keeps 0 block-2-len-kinds.ps block-2-len-kinds.r block-2-len.Learnt (λ κs a z. Exactly (Given (a .0)) (ofAmount z))
-block-2-len-refuses κs a z q = rw (block-2-len-says κs a z (q .0) (q .1)) (tested ofAmount (λ c. lenFrom (block2From (blocksFrom c))) (λ s. refl) (λ e. refl) (a .0))
+block-2-len-refuses κs a z q = rw (block-2-len-says κs a z (q .0) (q .1)) (tested-exactly (a .0) _ (λ u p. rw p) (λ e p. rw p))
 
 pub next-operation-block-refuses : Keeps 0 next-operation-block-kinds.ps next-operation-block-kinds.r next-operation-block.Learnt (λ κs a z. Exactly (Given (a .0)) (ofBlock z))
-next-operation-block-refuses κs a z q = rw (next-operation-block-says κs a z (q .0) (q .1)) (tested ofBlock (nextBlockFrom (a .1 .0)) (λ s. refl) (λ e. refl) (a .0))
+next-operation-block-refuses κs a z q = rw (next-operation-block-says κs a z (q .0) (q .1)) (tested-exactly (a .0) _ (λ u p. rw p) (λ e p. rw p))
 
 pub next-read-block-refuses : Keeps 0 next-read-block-kinds.ps next-read-block-kinds.r next-read-block.Learnt (λ κs a z. Exactly (Given (a .0)) (ofBlock z))
-next-read-block-refuses κs a z q = rw (next-read-block-says κs a z (q .0) (q .1)) (tested ofBlock (nextBlockFrom Read) (λ s. refl) (λ e. refl) (a .0))
+next-read-block-refuses κs a z q = rw (next-read-block-says κs a z (q .0) (q .1)) (tested-exactly (a .0) _ (λ u p. rw p) (λ e p. rw p))
 
 pub next-write-block-refuses : Keeps 0 next-write-block-kinds.ps next-write-block-kinds.r next-write-block.Learnt (λ κs a z. Exactly (Given (a .0)) (ofBlock z))
-next-write-block-refuses κs a z q = rw (next-write-block-says κs a z (q .0) (q .1)) (tested ofBlock (nextBlockFrom Write) (λ s. refl) (λ e. refl) (a .0))
+next-write-block-refuses κs a z q = rw (next-write-block-says κs a z (q .0) (q .1)) (tested-exactly (a .0) _ (λ u p. rw p) (λ e p. rw p))
 
 pub schedule-next-contiguous-operation-refuses : Keeps 0 schedule-next-contiguous-operation-kinds.ps schedule-next-contiguous-operation-kinds.r schedule-next-contiguous-operation.Learnt (λ κs a z. Exactly (Given (a .0)) (ofNext z))
-schedule-next-contiguous-operation-refuses κs a z q = rw (schedule-next-contiguous-operation-says κs a z (q .0) (q .1)) (tested ofNext (nextFrom (a .1 .0) (a .1 .1 .0)) (λ s. refl) (λ e. refl) (a .0))
+schedule-next-contiguous-operation-refuses κs a z q = rw (schedule-next-contiguous-operation-says κs a z (q .0) (q .1)) (tested-exactly (a .0) _ (λ u p. rw p) (λ e p. rw p))
 
 pub schedule-next-read-refuses : Keeps 0 schedule-next-read-kinds.ps schedule-next-read-kinds.r schedule-next-read.Learnt (λ κs a z. Exactly (Given (a .0)) (ofNext z))
-schedule-next-read-refuses κs a z q = rw (schedule-next-read-says κs a z (q .0) (q .1)) (tested ofNext (nextFrom Read (a .1 .0)) (λ s. refl) (λ e. refl) (a .0))
+schedule-next-read-refuses κs a z q = rw (schedule-next-read-says κs a z (q .0) (q .1)) (tested-exactly (a .0) _ (λ u p. rw p) (λ e p. rw p))
 
 pub schedule-next-write-refuses : Keeps 0 schedule-next-write-kinds.ps schedule-next-write-kinds.r schedule-next-write.Learnt (λ κs a z. Exactly (Given (a .0)) (ofNext z))
-schedule-next-write-refuses κs a z q = rw (schedule-next-write-says κs a z (q .0) (q .1)) (tested ofNext (nextFrom Write (a .1 .0)) (λ s. refl) (λ e. refl) (a .0))
+schedule-next-write-refuses κs a z q = rw (schedule-next-write-says κs a z (q .0) (q .1)) (tested-exactly (a .0) _ (λ u p. rw p) (λ e p. rw p))
 
 pub schedule-contiguous-operations-refuses : Keeps 0 schedule-contiguous-operations-kinds.ps schedule-contiguous-operations-kinds.r schedule-contiguous-operations.Learnt (λ κs a z. Exactly (Given (a .0)) (ofOperations z))
-schedule-contiguous-operations-refuses κs a z q = rw (schedule-contiguous-operations-says κs a z (q .0) (q .1)) (tested ofOperations (scheduleFrom (a .1 .0) (a .1 .1 .0)) (λ s. refl) (λ e. refl) (a .0))
+schedule-contiguous-operations-refuses κs a z q = rw (schedule-contiguous-operations-says κs a z (q .0) (q .1)) (tested-exactly (a .0) _ (λ u p. rw p) (λ e p. rw p))
 
 pub schedule-reads-refuses : Keeps 0 schedule-reads-kinds.ps schedule-reads-kinds.r schedule-reads.Learnt (λ κs a z. Exactly (Given (a .0)) (ofOperations z))
-schedule-reads-refuses κs a z q = rw (schedule-reads-says κs a z (q .0) (q .1)) (tested ofOperations (scheduleFrom Read (a .1 .0)) (λ s. refl) (λ e. refl) (a .0))
+schedule-reads-refuses κs a z q = rw (schedule-reads-says κs a z (q .0) (q .1)) (tested-exactly (a .0) _ (λ u p. rw p) (λ e p. rw p))
 
 pub schedule-writes-refuses : Keeps 0 schedule-writes-kinds.ps schedule-writes-kinds.r schedule-writes.Learnt (λ κs a z. Exactly (Given (a .0)) (ofOperations z))
-schedule-writes-refuses κs a z q = rw (schedule-writes-says κs a z (q .0) (q .1)) (tested ofOperations (scheduleFrom Write (a .1 .0)) (λ s. refl) (λ e. refl) (a .0))
+schedule-writes-refuses κs a z q = rw (schedule-writes-says κs a z (q .0) (q .1)) (tested-exactly (a .0) _ (λ u p. rw p) (λ e p. rw p))
 
 pub schedule-and-register-refuses : Keeps 0 schedule-and-register-kinds.ps schedule-and-register-kinds.r schedule-and-register.Learnt (λ κs a z. Exactly (Given (a .0)) (ofMove z))
-schedule-and-register-refuses κs a z q = rw (schedule-and-register-says κs a z (q .0) (q .1)) (tested ofMove (moveFrom (a .1 .0) (a .1 .1 .0)) (λ s. refl) (λ e. refl) (a .0))
+schedule-and-register-refuses κs a z q = rw (schedule-and-register-says κs a z (q .0) (q .1)) (tested-exactly (a .0) _ (λ u p. rw p) (λ e p. rw p))
 
 -- ---- registering: then 6
 pub try-register-read-refuses : Keeps 0 try-register-read-kinds.ps try-register-read-kinds.r try-register-read.Learnt (λ κs a z. Exactly (GivenRegister (a .0) Read (a .1 .0)) (ofRegistered z))
@@ -261,10 +259,10 @@ pub into-container-refuses : Keeps 0 into-container-kinds.ps into-container-kind
 into-container-refuses κs a z q = rw (into-container-says κs a z (q .0) (q .1)) (list-exactly (a .0))
 
 pub cumulative-operation-length-refuses : Keeps 0 cumulative-operation-length-kinds.ps cumulative-operation-length-kinds.r cumulative-operation-length.Learnt (λ κs a z. Exactly (GivenList (a .0)) (ofAmount z))
-cumulative-operation-length-refuses κs a z q = rw (cumulative-operation-length-says κs a z (q .0) (q .1)) (listed ofAmount cumulativeLengthFrom (λ l. refl) (λ e. refl) (a .0))
+cumulative-operation-length-refuses κs a z q = rw (cumulative-operation-length-says κs a z (q .0) (q .1)) (listed-exactly (a .0) _ (λ l p. rw p) (λ e p. rw p))
 
 pub with-cumulative-offset-refuses : Keeps 0 with-cumulative-offset-kinds.ps with-cumulative-offset-kinds.r with-cumulative-offset.Learnt (λ κs a z. Exactly (GivenList (a .0)) (ofCumulativeOffsets z))
-with-cumulative-offset-refuses κs a z q = rw (with-cumulative-offset-says κs a z (q .0) (q .1)) (listed ofCumulativeOffsets cumulativeOffsetsFrom (λ l. refl) (λ e. refl) (a .0))
+with-cumulative-offset-refuses κs a z q = rw (with-cumulative-offset-says κs a z (q .0) (q .1)) (listed-exactly (a .0) _ (λ l p. rw p) (λ e p. rw p))
 
 pub with-outside-buffer-range-refuses : Keeps 0 with-outside-buffer-range-kinds.ps with-outside-buffer-range-kinds.r with-outside-buffer-range.Learnt (λ κs a z. Exactly (GivenList (a .0)) (ofOutsideRanges z))
-with-outside-buffer-range-refuses κs a z q = rw (with-outside-buffer-range-says κs a z (q .0) (q .1)) (listed ofOutsideRanges outsideRangesFrom (λ l. refl) (λ e. refl) (a .0))
+with-outside-buffer-range-refuses κs a z q = rw (with-outside-buffer-range-says κs a z (q .0) (q .1)) (listed-exactly (a .0) _ (λ l p. rw p) (λ e p. rw p))

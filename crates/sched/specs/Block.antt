@@ -5,7 +5,6 @@ use Rattle.sched.specs.declared.block.Bit.{Bit}
 use Rattle.sched.specs.declared.block.BlockType.{BlockType}
 use Rattle.sched.specs.declared.block.BlockType.the-variants.{Free, Data}
 use Rattle.sched.specs.declared.block.Block.{Block}
-use Rattle.sched.specs.declared.block.Blocks.{Blocks}
 use Rattle.sched.specs.declared.block.BufferLayout.{BufferLayout}
 use Rattle.sched.specs.declared.block.BufferLayout.the-variants.{DataFreeData, FreeDataFree}
 

@@ -34,10 +34,10 @@ use Rattle.sched.specs.declared.operation.ScheduledOperation.{ScheduledO
 use Rattle.sched.specs.declared.refusal.Refusal.{Refusal}
 use Rattle.sched.specs.declared.scheduler.Checked.{Checked}
 use Rattle.sched.specs.declared.scheduler.Checked.the-variants as checked
-use Rattle.sched.specs.declared.scheduler.MoveAnswer.{MoveAnswer}
-use Rattle.sched.specs.declared.scheduler.MoveAnswer.the-variants as moves
-use Rattle.sched.specs.declared.scheduler.Registered.{Registered}
-use Rattle.sched.specs.declared.scheduler.Registered.the-variants as registered
+use Rattle.sched.specs.declared.register.MoveAnswer.{MoveAnswer}
+use Rattle.sched.specs.declared.register.MoveAnswer.the-variants as moves
+use Rattle.sched.specs.declared.register.Registered.{Registered}
+use Rattle.sched.specs.declared.register.Registered.the-variants as registered
 use Rattle.sched.specs.declared.scheduler.RingBufferScheduler.{RingBufferScheduler}
 use Rattle.sched.specs.Refusal.{numberOf, valuesOf}
 use Rattle.sched.specs.Scheduler.{Sized, IsSound, dataIn, greatestIn, advancedIn}

@@ -21,6 +21,7 @@ use Rattle.sched.specs.declared.list.OutsideRanges.{OutsideRanges}
 use Rattle.sched.specs.declared.list.OutsideRanges.the-variants as outside
 use Rattle.sched.specs.declared.list.OutsideRangesAnswer.{OutsideRangesAnswer}
 use Rattle.sched.specs.declared.list.OutsideRangesAnswer.the-variants as outsides
+use Rattle.sched.specs.declared.refusal.Refusal.{Refusal}
 use Rattle.sched.specs.declared.refusal.Refusal.the-variants.{OperationTooLong, InconsistentOperationType}
 
 abbrev pub sameTypeOf : OperationType → OperationType → Bool
@@ -46,18 +47,19 @@ soundListOf None = operations.Of None
 soundListOf (One a) = operations.Of (One a)
 soundListOf (Two a b) = soundTwoOf a b
 
+-- what the calls answer: of a list that the tests take, else the tests' refusal
+abbrev pub listed : {A : Type 0} → OperationsAnswer → (ScheduledOperations → A) → (Refusal → A) → A
+listed (operations.Of ops) f g = f ops
+listed (operations.Refused e) f g = g e
+
 -- a list whose two lengths sum to a number of 64 bits
 abbrev pub Summed : ScheduledOperations → Type 0
 Summed None = Unit {0}
 Summed (One a) = Unit {0}
 Summed (Two a b) = a .len + b .len < 2 ^ 64
 
-abbrev pub cumulativeLengthFrom : OperationsAnswer → AmountAnswer
-cumulativeLengthFrom (operations.Of ops) = amount.Of (totalIn ops)
-cumulativeLengthFrom (operations.Refused e) = amount.Refused e
-
 abbrev pub cumulativeLengthOf : ScheduledOperations → AmountAnswer
-cumulativeLengthOf ops = cumulativeLengthFrom (soundListOf ops)
+cumulativeLengthOf ops = listed (soundListOf ops) (λ l. amount.Of (totalIn l)) amount.Refused
 
 -- each operation starts, outside the ring, where the lengths before it end
 abbrev pub startAt : ℕ → ScheduledOperation → CumulativeOffset
@@ -68,12 +70,8 @@ cumulativeIn None = cumulative.None
 cumulativeIn (One a) = cumulative.One (startAt 0 a)
 cumulativeIn (Two a b) = cumulative.Two (startAt 0 a) (startAt (a .len) b)
 
-abbrev pub cumulativeOffsetsFrom : OperationsAnswer → CumulativeOffsetsAnswer
-cumulativeOffsetsFrom (operations.Of ops) = cumulatives.Of (cumulativeIn ops)
-cumulativeOffsetsFrom (operations.Refused e) = cumulatives.Refused e
-
 abbrev pub cumulativeOffsetsOf : ScheduledOperations → CumulativeOffsetsAnswer
-cumulativeOffsetsOf ops = cumulativeOffsetsFrom (soundListOf ops)
+cumulativeOffsetsOf ops = listed (soundListOf ops) (λ l. cumulatives.Of (cumulativeIn l)) cumulatives.Refused
 
 -- and ends its length on
 abbrev pub rangeAt : ℕ → ScheduledOperation → OutsideRange
@@ -84,9 +82,5 @@ outsideIn None = outside.None
 outsideIn (One a) = outside.One (rangeAt 0 a)
 outsideIn (Two a b) = outside.Two (rangeAt 0 a) (rangeAt (a .len) b)
 
-abbrev pub outsideRangesFrom : OperationsAnswer → OutsideRangesAnswer
-outsideRangesFrom (operations.Of ops) = outsides.Of (outsideIn ops)
-outsideRangesFrom (operations.Refused e) = outsides.Refused e
-
 abbrev pub outsideRangesOf : ScheduledOperations → OutsideRangesAnswer
-outsideRangesOf ops = outsideRangesFrom (soundListOf ops)
+outsideRangesOf ops = listed (soundListOf ops) (λ l. outsides.Of (outsideIn l)) outsides.Refused

@@ -1,7 +1,7 @@
 -- The scheduler: its tests, data and space, blocks, layout, scheduling and registering, over whole numbers. Write L for
 -- `buf_len`. A name that ends in `In` is of a sound scheduler; one that ends in `Of` tests the record first.
 use Prim.Native.Nat.{ℕ, _+_, _-_, _*_, _^_, _≤_, _<_, min, max}
-use mathlib.Core.Bool.{Bool, cond}
+use mathlib.Core.Bool.{cond}
 use lib.Dec.{ltb, leb, eqb}
 use Rattle.sched.specs.declared.counter.Counter.{Counter}
 use Rattle.sched.specs.declared.counter.Offset.{Offset}
@@ -39,19 +39,20 @@ use Rattle.sched.specs.declared.operation.NextOperationAnswer.the-varian
 use Rattle.sched.specs.declared.operation.OperationType.{OperationType}
 use Rattle.sched.specs.declared.operation.OperationType.the-variants.{Read, Write}
 use Rattle.sched.specs.declared.operation.ScheduledOperation.{ScheduledOperation}
+use Rattle.sched.specs.declared.refusal.Refusal.{Refusal}
 use Rattle.sched.specs.declared.refusal.Refusal.the-variants.{ZeroBufferLength, BufferTooLarge, ItemsWrittenOutOfBounds, ItemsReadOutofBounds, DataAvailOutOfBounds, OperationTooLarge}
 use Rattle.sched.specs.declared.scheduler.Checked.{Checked}
 use Rattle.sched.specs.declared.scheduler.Checked.the-variants as checked
-use Rattle.sched.specs.declared.scheduler.Move.{Move}
-use Rattle.sched.specs.declared.scheduler.MoveAnswer.{MoveAnswer}
-use Rattle.sched.specs.declared.scheduler.MoveAnswer.the-variants as moves
-use Rattle.sched.specs.declared.scheduler.Registered.{Registered}
-use Rattle.sched.specs.declared.scheduler.Registered.the-variants as registered
+use Rattle.sched.specs.declared.register.Move.{Move}
+use Rattle.sched.specs.declared.register.MoveAnswer.{MoveAnswer}
+use Rattle.sched.specs.declared.register.MoveAnswer.the-variants as moves
+use Rattle.sched.specs.declared.register.Registered.{Registered}
+use Rattle.sched.specs.declared.register.Registered.the-variants as registered
 use Rattle.sched.specs.declared.scheduler.RingBufferScheduler.{RingBufferScheduler}
 use Rattle.sched.specs.Counter.{offsetOf, dataOf, laterOf}
 use Rattle.sched.specs.Operation.{operationOf}
 use Rattle.sched.specs.Block.{blockOf, outerOf, innerOf}
-use Rattle.sched.specs.List.{soundListOf}
+use Rattle.sched.specs.List.{soundListOf, listed}
 
 -- ---- soundness
 abbrev pub schedulerOf : ℕ → Counter → Counter → RingBufferScheduler
@@ -176,34 +177,22 @@ registerListIn s (list.Two a b) = thenRegister (registerIn s (a .typ) (a .len)) 
 abbrev pub moveIn : RingBufferScheduler → OperationType → ℕ → Move
 moveIn s t m = record { off = offsetIn s t; len = min m (greatestIn s t); scheduler = advancedIn s t (min m (greatestIn s t)) }
 
--- ---- what the calls answer: the first refusal of the tests, else the above
-abbrev pub bufLenFrom : Checked → AmountAnswer
-bufLenFrom (checked.Sound s) = amount.Of (s .«buf_len»)
-bufLenFrom (checked.Refused e) = amount.Refused e
+-- ---- what the calls answer: of a record that the tests take the above, else the tests' refusal
+abbrev pub tested : {A : Type 0} → Checked → (RingBufferScheduler → A) → (Refusal → A) → A
+tested (checked.Sound s) f g = f s
+tested (checked.Refused e) f g = g e
 
 abbrev pub bufLenOf : RingBufferScheduler → AmountAnswer
-bufLenOf s = bufLenFrom (soundOf s)
-
-abbrev pub counterFrom : OperationType → Checked → CounterAnswer
-counterFrom t (checked.Sound s) = counter.Of (counterIn s t)
-counterFrom t (checked.Refused e) = counter.Refused e
+bufLenOf s = tested (soundOf s) (λ u. amount.Of (u .«buf_len»)) amount.Refused
 
 abbrev pub counterAnswerOf : RingBufferScheduler → OperationType → CounterAnswer
-counterAnswerOf s t = counterFrom t (soundOf s)
-
-abbrev pub offsetFrom : OperationType → Checked → OffsetAnswer
-offsetFrom t (checked.Sound s) = offset.Of (offsetIn s t)
-offsetFrom t (checked.Refused e) = offset.Refused e
+counterAnswerOf s t = tested (soundOf s) (λ u. counter.Of (counterIn u t)) counter.Refused
 
 abbrev pub offsetAnswerOf : RingBufferScheduler → OperationType → OffsetAnswer
-offsetAnswerOf s t = offsetFrom t (soundOf s)
-
-abbrev pub greatestFrom : OperationType → Checked → AmountAnswer
-greatestFrom t (checked.Sound s) = amount.Of (greatestIn s t)
-greatestFrom t (checked.Refused e) = amount.Refused e
+offsetAnswerOf s t = tested (soundOf s) (λ u. offset.Of (offsetIn u t)) offset.Refused
 
 abbrev pub greatestOf : RingBufferScheduler → OperationType → AmountAnswer
-greatestOf s t = greatestFrom t (soundOf s)
+greatestOf s t = tested (soundOf s) (λ u. amount.Of (greatestIn u t)) amount.Refused
 
 abbrev pub isZeroFrom : AmountAnswer → BoolAnswer
 isZeroFrom (amount.Of n) = bool.Of (eqb n 0)
@@ -213,26 +202,14 @@ abbrev pub isPositiveFrom : AmountAnswer → BoolAnswer
 isPositiveFrom (amount.Of n) = bool.Of (ltb 0 n)
 isPositiveFrom (amount.Refused e) = bool.Refused e
 
-abbrev pub fillStateFrom : Checked → FillStateAnswer
-fillStateFrom (checked.Sound s) = fill.Of (fillStateIn s)
-fillStateFrom (checked.Refused e) = fill.Refused e
-
 abbrev pub fillStateOf : RingBufferScheduler → FillStateAnswer
-fillStateOf s = fillStateFrom (soundOf s)
-
-abbrev pub layoutFrom : Checked → LayoutAnswer
-layoutFrom (checked.Sound s) = layout.Of (layoutIn s)
-layoutFrom (checked.Refused e) = layout.Refused e
+fillStateOf s = tested (soundOf s) (λ u. fill.Of (fillStateIn u)) fill.Refused
 
 abbrev pub layoutOf : RingBufferScheduler → LayoutAnswer
-layoutOf s = layoutFrom (soundOf s)
-
-abbrev pub blocksFrom : Checked → BlocksAnswer
-blocksFrom (checked.Sound s) = blocks.Of (blocksIn s)
-blocksFrom (checked.Refused e) = blocks.Refused e
+layoutOf s = tested (soundOf s) (λ u. layout.Of (layoutIn u)) layout.Refused
 
 abbrev pub blocksOf : RingBufferScheduler → BlocksAnswer
-blocksOf s = blocksFrom (soundOf s)
+blocksOf s = tested (soundOf s) (λ u. blocks.Of (blocksIn u)) blocks.Refused
 
 abbrev pub block0From : BlocksAnswer → BlockAnswer
 block0From (blocks.Of b) = block.Of (b .0)
@@ -254,49 +231,21 @@ abbrev pub lenFrom : BlockAnswer → AmountAnswer
 lenFrom (block.Of b) = amount.Of (b .len)
 lenFrom (block.Refused e) = amount.Refused e
 
-abbrev pub nextBlockFrom : OperationType → Checked → BlockAnswer
-nextBlockFrom t (checked.Sound s) = block.Of (nextBlockIn s t)
-nextBlockFrom t (checked.Refused e) = block.Refused e
-
 abbrev pub nextBlockOf : RingBufferScheduler → OperationType → BlockAnswer
-nextBlockOf s t = nextBlockFrom t (soundOf s)
-
-abbrev pub nextFrom : OperationType → ℕ → Checked → NextOperationAnswer
-nextFrom t m (checked.Sound s) = nexts.Of (nextIn s t m)
-nextFrom t m (checked.Refused e) = nexts.Refused e
+nextBlockOf s t = tested (soundOf s) (λ u. block.Of (nextBlockIn u t)) block.Refused
 
 abbrev pub nextOf : RingBufferScheduler → OperationType → ℕ → NextOperationAnswer
-nextOf s t m = nextFrom t m (soundOf s)
-
-abbrev pub scheduleFrom : OperationType → ℕ → Checked → OperationsAnswer
-scheduleFrom t m (checked.Sound s) = operations.Of (scheduleIn s t m)
-scheduleFrom t m (checked.Refused e) = operations.Refused e
+nextOf s t m = tested (soundOf s) (λ u. nexts.Of (nextIn u t m)) nexts.Refused
 
 abbrev pub scheduleOf : RingBufferScheduler → OperationType → ℕ → OperationsAnswer
-scheduleOf s t m = scheduleFrom t m (soundOf s)
-
-abbrev pub registerFrom : OperationType → ℕ → Checked → Registered
-registerFrom t n (checked.Sound s) = registerIn s t n
-registerFrom t n (checked.Refused e) = registered.Refused e
+scheduleOf s t m = tested (soundOf s) (λ u. operations.Of (scheduleIn u t m)) operations.Refused
 
 abbrev pub registerOf : RingBufferScheduler → OperationType → ℕ → Registered
-registerOf s t n = registerFrom t n (soundOf s)
+registerOf s t n = tested (soundOf s) (λ u. registerIn u t n) registered.Refused
 
 -- the scheduler's tests, then the list's, 7 and 8, and then 6
-abbrev pub registerSoundList : RingBufferScheduler → OperationsAnswer → Registered
-registerSoundList s (operations.Of ops) = registerListIn s ops
-registerSoundList s (operations.Refused e) = registered.Refused e
-
-abbrev pub registerListFrom : ScheduledOperations → Checked → Registered
-registerListFrom ops (checked.Sound s) = registerSoundList s (soundListOf ops)
-registerListFrom ops (checked.Refused e) = registered.Refused e
-
 abbrev pub registerListOf : RingBufferScheduler → ScheduledOperations → Registered
-registerListOf s ops = registerListFrom ops (soundOf s)
-
-abbrev pub moveFrom : OperationType → ℕ → Checked → MoveAnswer
-moveFrom t m (checked.Sound s) = moves.Of (moveIn s t m)
-moveFrom t m (checked.Refused e) = moves.Refused e
+registerListOf s ops = tested (soundOf s) (λ u. listed (soundListOf ops) (registerListIn u) registered.Refused) registered.Refused
 
 abbrev pub moveOf : RingBufferScheduler → OperationType → ℕ → MoveAnswer
-moveOf s t m = moveFrom t m (soundOf s)
+moveOf s t m = tested (soundOf s) (λ u. moves.Of (moveIn u t m)) moves.Refused

@@ -52,7 +52,7 @@ pub enum OutsideRangesAnswer {
     Refused(Refusal),
 }
 
-fn same_type(a: OperationType, b: OperationType) -> bool
+fn same_type_of(a: OperationType, b: OperationType) -> bool
     ensures { λ r. ⌜ r ≡ sameTypeOf a b ⌝ }
 {
     match a {
@@ -68,7 +68,7 @@ fn same_type(a: OperationType, b: OperationType) -> bool
 }
 
 // The sum of the lengths is compared with what 64 bits hold before it is made.
-fn sound_two(a: ScheduledOperation, b: ScheduledOperation) -> OperationsAnswer
+fn sound_two_of(a: ScheduledOperation, b: ScheduledOperation) -> OperationsAnswer
     ensures { λ r. ⌜ r ≡ soundTwoOf a b ⌝ }
 {
     let room = u64::MAX - b.len;
@@ -79,7 +79,7 @@ fn sound_two(a: ScheduledOperation, b: ScheduledOperation) -> OperationsAnswer
     }
     let typ_a = a.typ;
     let typ_b = b.typ;
-    if same_type(typ_a, typ_b) {
+    if same_type_of(typ_a, typ_b) {
         return OperationsAnswer::Of(ScheduledOperations::Two(a, b));
     }
     OperationsAnswer::Refused(Refusal::InconsistentOperationType)
@@ -92,7 +92,7 @@ impl ScheduledOperations {
         match list {
             ScheduledOperations::None => OperationsAnswer::Of(list),
             ScheduledOperations::One(_) => OperationsAnswer::Of(list),
-            ScheduledOperations::Two(a, b) => sound_two(a, b),
+            ScheduledOperations::Two(a, b) => sound_two_of(a, b),
         }
     }
 
@@ -112,7 +112,7 @@ impl ScheduledOperations {
         ensures { λ r. ⌜ r ≡ cumulativeLengthOf self ⌝ }
     {
         match ScheduledOperations::try_new(self) {
-            OperationsAnswer::Of(list) => AmountAnswer::Of(list.total()),
+            OperationsAnswer::Of(list) => AmountAnswer::Of(list.total_in()),
             OperationsAnswer::Refused(e) => AmountAnswer::Refused(e),
         }
     }
@@ -121,7 +121,7 @@ impl ScheduledOperations {
         ensures { λ r. ⌜ r ≡ cumulativeOffsetsOf self ⌝ }
     {
         match ScheduledOperations::try_new(self) {
-            OperationsAnswer::Of(list) => CumulativeOffsetsAnswer::Of(list.cumulative()),
+            OperationsAnswer::Of(list) => CumulativeOffsetsAnswer::Of(list.cumulative_in()),
             OperationsAnswer::Refused(e) => CumulativeOffsetsAnswer::Refused(e),
         }
     }
@@ -130,14 +130,14 @@ impl ScheduledOperations {
         ensures { λ r. ⌜ r ≡ outsideRangesOf self ⌝ }
     {
         match ScheduledOperations::try_new(self) {
-            OperationsAnswer::Of(list) => OutsideRangesAnswer::Of(list.outside()),
+            OperationsAnswer::Of(list) => OutsideRangesAnswer::Of(list.outside_in()),
             OperationsAnswer::Refused(e) => OutsideRangesAnswer::Refused(e),
         }
     }
 
     // ---- of a list whose sum fits
 
-    fn total(self) -> u64
+    fn total_in(self) -> u64
         requires { ⌜ Summed self ⌝ }
         ensures { λ r. ⌜ r ≡ totalIn self ⌝ }
     {
@@ -148,7 +148,7 @@ impl ScheduledOperations {
         }
     }
 
-    fn cumulative(self) -> CumulativeOffsets
+    fn cumulative_in(self) -> CumulativeOffsets
         ensures { λ r. ⌜ r ≡ cumulativeIn self ⌝ }
     {
         match self {
@@ -167,7 +167,7 @@ impl ScheduledOperations {
         }
     }
 
-    fn outside(self) -> OutsideRanges
+    fn outside_in(self) -> OutsideRanges
         requires { ⌜ Summed self ⌝ }
         ensures { λ r. ⌜ r ≡ outsideIn self ⌝ }
     {

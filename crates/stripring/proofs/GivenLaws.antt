@@ -9,8 +9,8 @@ use Rattle.copies.specs.Given.{Verdict, Exactly, ofCopied}
 use Rattle.ends.specs.Promises.{ofWritingEnd, ofReadingEnd, ofWrote, ofGot, ofWritten, ofRead}
 use Rattle.sched.specs.declared.scheduler.Checked.{Checked}
 use Rattle.sched.specs.declared.scheduler.Checked.the-variants as checked
-use Rattle.sched.specs.declared.scheduler.Registered.{Registered}
-use Rattle.sched.specs.declared.scheduler.Registered.the-variants as registered
+use Rattle.sched.specs.declared.register.Registered.{Registered}
+use Rattle.sched.specs.declared.register.Registered.the-variants as registered
 use Rattle.sched.specs.declared.counter.CounterAnswer.{CounterAnswer}
 use Rattle.sched.specs.declared.counter.CounterAnswer.the-variants as counter
 use Rattle.sched.specs.declared.counter.OffsetAnswer.{OffsetAnswer}

@@ -1,6 +1,6 @@
 -- The offset of a move.
 use mathlib.Core.Path.{ap}
-use Rattle.sched.specs.declared.scheduler.Move.{Move}
+use Rattle.sched.specs.declared.register.Move.{Move}
 use borrow.Author.Needs.{needs}
 use Rattle.receiver.proofs.sound.read_off.Statement.{statement}
 use Rattle.receiver.proofs.sound.read_off.Tie as tie

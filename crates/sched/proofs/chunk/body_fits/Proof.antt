@@ -1,6 +1,5 @@
 -- By the test of the length.
 use Rattle.sched.proofs.ChunkLaws.{no-header, behind-header}
-use borrow.Author.Needs.{needs}
 use Rattle.sched.proofs.chunk.body_fits.Statement.{statement}
 use Rattle.sched.proofs.chunk.body_fits.Tie as tie
 

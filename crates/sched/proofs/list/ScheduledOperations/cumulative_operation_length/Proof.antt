@@ -1,18 +1,18 @@
 -- The list's refusal is passed on; else the answer is of the list that passed.
 use mathlib.Core.Path.{sym, _∙_}
-use Rattle.sched.proofs.Laws.{summed}
+use Rattle.sched.proofs.ListLaws.{summed}
 use borrow.Author.Needs.{needs}
 use Rattle.sched.proofs.list.ScheduledOperations.cumulative_operation_length.Statement.{statement}
 use Rattle.sched.proofs.list.ScheduledOperations.cumulative_operation_length.Tie as tie
 
-total-requires : tie.Need-total-requires
-total-requires c κs = summed _ (c .before .before .before .before .args .self) (sym (c .before .list .given .1) ∙ c .before .before .before .try-new .ensures)
+total-in-requires : tie.Need-total-in-requires
+total-in-requires c κs = summed _ (c .before .before .before .before .args .self) (sym (c .before .list .given .1) ∙ c .before .before .before .try-new .ensures)
 
 returns : tie.Need-returns
-returns c = rw (← (sym (c .before .before .list .given .1) ∙ c .before .before .before .before .try-new .ensures), c .total .ensures)
+returns c = rw (← (sym (c .before .before .list .given .1) ∙ c .before .before .before .before .try-new .ensures), c .total-in .ensures)
 
 returns-2 : tie.Need-returns-2
 returns-2 c = rw (← (sym (c .before .e .given .1) ∙ c .before .before .before .try-new .ensures))
 
 pub cumulative-operation-length-spec : {M : Type 1} → statement M
-cumulative-operation-length-spec = tie.close (tie.spec (search needs) (search needs) total-requires (search needs) returns returns-2)
+cumulative-operation-length-spec = tie.close (tie.spec (search needs) (search needs) total-in-requires (search needs) returns returns-2)

@@ -10,7 +10,7 @@ returns-2 : tie.Need-returns-2
 returns-2 c = rw (c .enum-told2 .given .1)
 
 returns-3 : tie.Need-returns-3
-returns-3 c = rw (c .before .before .list .given .1, c .sound-two .ensures)
+returns-3 c = rw (c .before .before .list .given .1, c .sound-two-of .ensures)
 
 pub try-new-spec : {M : Type 1} → statement M
 try-new-spec = tie.close (tie.spec (search needs) (search needs) (search needs) (search needs) returns returns-2 returns-3)

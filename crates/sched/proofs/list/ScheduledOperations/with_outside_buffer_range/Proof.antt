@@ -1,18 +1,18 @@
 -- The list's refusal is passed on; else the answer is of the list that passed.
 use mathlib.Core.Path.{sym, _∙_}
-use Rattle.sched.proofs.Laws.{summed}
+use Rattle.sched.proofs.ListLaws.{summed}
 use borrow.Author.Needs.{needs}
 use Rattle.sched.proofs.list.ScheduledOperations.with_outside_buffer_range.Statement.{statement}
 use Rattle.sched.proofs.list.ScheduledOperations.with_outside_buffer_range.Tie as tie
 
-outside-requires : tie.Need-outside-requires
-outside-requires c κs = summed _ (c .before .before .before .before .args .self) (sym (c .before .list .given .1) ∙ c .before .before .before .try-new .ensures)
+outside-in-requires : tie.Need-outside-in-requires
+outside-in-requires c κs = summed _ (c .before .before .before .before .args .self) (sym (c .before .list .given .1) ∙ c .before .before .before .try-new .ensures)
 
 returns : tie.Need-returns
-returns c = rw (← (sym (c .before .before .list .given .1) ∙ c .before .before .before .before .try-new .ensures), c .outside .ensures)
+returns c = rw (← (sym (c .before .before .list .given .1) ∙ c .before .before .before .before .try-new .ensures), c .outside-in .ensures)
 
 returns-2 : tie.Need-returns-2
 returns-2 c = rw (← (sym (c .before .e .given .1) ∙ c .before .before .before .try-new .ensures))
 
 pub with-outside-buffer-range-spec : {M : Type 1} → statement M
-with-outside-buffer-range-spec = tie.close (tie.spec (search needs) (search needs) outside-requires (search needs) returns returns-2)
+with-outside-buffer-range-spec = tie.close (tie.spec (search needs) (search needs) outside-in-requires (search needs) returns returns-2)

@@ -4,7 +4,7 @@ use Rattle.sched.proofs.scheduler.RingBufferScheduler.block_0_len.State
 use Rattle.sched.proofs.scheduler.RingBufferScheduler.block_0_len.Tie as tie
 
 returns : tie.Need-returns
-returns c = rw (c .len-of .ensures, c .before .block-0 .ensures)
+returns c = rw (c .len-from .ensures, c .before .block-0 .ensures)
 
 pub block-0-len-spec : {M : Type 1} → statement M
 block-0-len-spec = tie.close (tie.spec (search needs) (search needs) returns)

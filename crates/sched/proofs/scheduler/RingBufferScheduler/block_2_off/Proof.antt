@@ -4,7 +4,7 @@ use Rattle.sched.proofs.scheduler.RingBufferScheduler.block_2_off.State
 use Rattle.sched.proofs.scheduler.RingBufferScheduler.block_2_off.Tie as tie
 
 returns : tie.Need-returns
-returns c = rw (c .off-of .ensures, c .before .block-2 .ensures)
+returns c = rw (c .off-from .ensures, c .before .block-2 .ensures)
 
 pub block-2-off-spec : {M : Type 1} → statement M
 block-2-off-spec = tie.close (tie.spec (search needs) (search needs) returns)

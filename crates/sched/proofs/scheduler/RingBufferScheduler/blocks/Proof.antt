@@ -5,14 +5,14 @@ use borrow.Author.Needs.{needs}
 use Rattle.sched.proofs.scheduler.RingBufferScheduler.blocks.Statement.{statement}
 use Rattle.sched.proofs.scheduler.RingBufferScheduler.blocks.Tie as tie
 
-cut-requires : tie.Need-cut-requires
-cut-requires c κs = sound _ _ (sym (c .before .s .given .1) ∙ c .before .before .before .demand-soundness .ensures)
+blocks-in-requires : tie.Need-blocks-in-requires
+blocks-in-requires c κs = sound _ _ (sym (c .before .s .given .1) ∙ c .before .before .before .demand-soundness .ensures)
 
 returns : tie.Need-returns
-returns c = rw (← (sym (c .before .before .s .given .1) ∙ c .before .before .before .before .demand-soundness .ensures), c .cut .ensures)
+returns c = rw (← (sym (c .before .before .s .given .1) ∙ c .before .before .before .before .demand-soundness .ensures), c .blocks-in .ensures)
 
 returns-2 : tie.Need-returns-2
 returns-2 c = rw (← (sym (c .before .e .given .1) ∙ c .before .before .before .demand-soundness .ensures))
 
 pub blocks-spec : {M : Type 1} → statement M
-blocks-spec = tie.close (tie.spec (search needs) (search needs) cut-requires (search needs) returns returns-2)
+blocks-spec = tie.close (tie.spec (search needs) (search needs) blocks-in-requires (search needs) returns returns-2)

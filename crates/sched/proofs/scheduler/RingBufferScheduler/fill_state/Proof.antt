@@ -5,14 +5,14 @@ use borrow.Author.Needs.{needs}
 use Rattle.sched.proofs.scheduler.RingBufferScheduler.fill_state.Statement.{statement}
 use Rattle.sched.proofs.scheduler.RingBufferScheduler.fill_state.Tie as tie
 
-fill-requires : tie.Need-fill-requires
-fill-requires c κs = sound _ _ (sym (c .before .s .given .1) ∙ c .before .before .before .demand-soundness .ensures)
+fill-state-in-requires : tie.Need-fill-state-in-requires
+fill-state-in-requires c κs = sound _ _ (sym (c .before .s .given .1) ∙ c .before .before .before .demand-soundness .ensures)
 
 returns : tie.Need-returns
-returns c = rw (← (sym (c .before .before .s .given .1) ∙ c .before .before .before .before .demand-soundness .ensures), c .fill .ensures)
+returns c = rw (← (sym (c .before .before .s .given .1) ∙ c .before .before .before .before .demand-soundness .ensures), c .fill-state-in .ensures)
 
 returns-2 : tie.Need-returns-2
 returns-2 c = rw (← (sym (c .before .e .given .1) ∙ c .before .before .before .demand-soundness .ensures))
 
 pub fill-state-spec : {M : Type 1} → statement M
-fill-state-spec = tie.close (tie.spec (search needs) (search needs) fill-requires (search needs) returns returns-2)
+fill-state-spec = tie.close (tie.spec (search needs) (search needs) fill-state-in-requires (search needs) returns returns-2)

@@ -4,7 +4,7 @@ use Rattle.sched.proofs.scheduler.RingBufferScheduler.is_full.Statement
 use Rattle.sched.proofs.scheduler.RingBufferScheduler.is_full.Tie as tie
 
 returns : tie.Need-returns
-returns c = rw (c .is-zero .ensures, c .before .space-avail .ensures)
+returns c = rw (c .is-zero-from .ensures, c .before .space-avail .ensures)
 
 pub is-full-spec : {M : Type 1} → statement M
 is-full-spec = tie.close (tie.spec (search needs) (search needs) returns)

@@ -5,14 +5,14 @@ use borrow.Author.Needs.{needs}
 use Rattle.sched.proofs.scheduler.RingBufferScheduler.layout.Statement.{statement}
 use Rattle.sched.proofs.scheduler.RingBufferScheduler.layout.Tie as tie
 
-arrangement-requires : tie.Need-arrangement-requires
-arrangement-requires c κs = sound _ _ (sym (c .before .s .given .1) ∙ c .before .before .before .demand-soundness .ensures)
+layout-in-requires : tie.Need-layout-in-requires
+layout-in-requires c κs = sound _ _ (sym (c .before .s .given .1) ∙ c .before .before .before .demand-soundness .ensures)
 
 returns : tie.Need-returns
-returns c = rw (← (sym (c .before .before .s .given .1) ∙ c .before .before .before .before .demand-soundness .ensures), c .arrangement .ensures)
+returns c = rw (← (sym (c .before .before .s .given .1) ∙ c .before .before .before .before .demand-soundness .ensures), c .layout-in .ensures)
 
 returns-2 : tie.Need-returns-2
 returns-2 c = rw (← (sym (c .before .e .given .1) ∙ c .before .before .before .demand-soundness .ensures))
 
 pub layout-spec : {M : Type 1} → statement M
-layout-spec = tie.close (tie.spec (search needs) (search needs) arrangement-requires (search needs) returns returns-2)
+layout-spec = tie.close (tie.spec (search needs) (search needs) layout-in-requires (search needs) returns returns-2)

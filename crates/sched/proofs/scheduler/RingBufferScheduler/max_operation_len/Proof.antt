@@ -5,14 +5,14 @@ use borrow.Author.Needs.{needs}
 use Rattle.sched.proofs.scheduler.RingBufferScheduler.max_operation_len.Statement.{statement}
 use Rattle.sched.proofs.scheduler.RingBufferScheduler.max_operation_len.Tie as tie
 
-greatest-requires : tie.Need-greatest-requires
-greatest-requires c κs = sound _ _ (sym (c .before .s .given .1) ∙ c .before .before .before .demand-soundness .ensures)
+greatest-in-requires : tie.Need-greatest-in-requires
+greatest-in-requires c κs = sound _ _ (sym (c .before .s .given .1) ∙ c .before .before .before .demand-soundness .ensures)
 
 returns : tie.Need-returns
-returns c = rw (← (sym (c .before .before .s .given .1) ∙ c .before .before .before .before .demand-soundness .ensures), c .greatest .ensures)
+returns c = rw (← (sym (c .before .before .s .given .1) ∙ c .before .before .before .before .demand-soundness .ensures), c .greatest-in .ensures)
 
 returns-2 : tie.Need-returns-2
 returns-2 c = rw (← (sym (c .before .e .given .1) ∙ c .before .before .before .demand-soundness .ensures))
 
 pub max-operation-len-spec : {M : Type 1} → statement M
-max-operation-len-spec = tie.close (tie.spec (search needs) (search needs) greatest-requires (search needs) returns returns-2)
+max-operation-len-spec = tie.close (tie.spec (search needs) (search needs) greatest-in-requires (search needs) returns returns-2)

@@ -6,7 +6,7 @@ use Rattle.sched.proofs.scheduler.RingBufferScheduler.move_in.Tie as ti
 returns : tie.Need-returns
 returns c =
     let at-least = c .before in
-    rw (c .advanced .ensures, at-least .least .ensures, at-least .before .greatest .ensures, at-least .before .before .off .ensures)
+    rw (c .advanced-in .ensures, at-least .least .ensures, at-least .before .greatest-in .ensures, at-least .before .before .offset-in .ensures)
 
 pub move-in-spec : {M : Type 1} → statement M
 move-in-spec = tie.close (tie.spec (search needs) (search needs) (search needs) (search needs) returns)

@@ -5,14 +5,14 @@ use borrow.Author.Needs.{needs}
 use Rattle.sched.proofs.scheduler.RingBufferScheduler.next_operation_block.Statement.{statement}
 use Rattle.sched.proofs.scheduler.RingBufferScheduler.next_operation_block.Tie as tie
 
-next-block-requires : tie.Need-next-block-requires
-next-block-requires c κs = sound _ _ (sym (c .before .s .given .1) ∙ c .before .before .before .demand-soundness .ensures)
+next-block-in-requires : tie.Need-next-block-in-requires
+next-block-in-requires c κs = sound _ _ (sym (c .before .s .given .1) ∙ c .before .before .before .demand-soundness .ensures)
 
 returns : tie.Need-returns
-returns c = rw (← (sym (c .before .before .s .given .1) ∙ c .before .before .before .before .demand-soundness .ensures), c .next-block .ensures)
+returns c = rw (← (sym (c .before .before .s .given .1) ∙ c .before .before .before .before .demand-soundness .ensures), c .next-block-in .ensures)
 
 returns-2 : tie.Need-returns-2
 returns-2 c = rw (← (sym (c .before .e .given .1) ∙ c .before .before .before .demand-soundness .ensures))
 
 pub next-operation-block-spec : {M : Type 1} → statement M
-next-operation-block-spec = tie.close (tie.spec (search needs) (search needs) next-block-requires (search needs) returns returns-2)
+next-operation-block-spec = tie.close (tie.spec (search needs) (search needs) next-block-in-requires (search needs) returns returns-2)

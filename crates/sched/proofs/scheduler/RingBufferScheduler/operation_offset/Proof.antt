@@ -5,14 +5,14 @@ use borrow.Author.Needs.{needs}
 use Rattle.sched.proofs.scheduler.RingBufferScheduler.operation_offset.Statement.{statement}
 use Rattle.sched.proofs.scheduler.RingBufferScheduler.operation_offset.Tie as tie
 
-off-requires : tie.Need-off-requires
-off-requires c κs = sound _ _ (sym (c .before .s .given .1) ∙ c .before .before .before .demand-soundness .ensures)
+offset-in-requires : tie.Need-offset-in-requires
+offset-in-requires c κs = sound _ _ (sym (c .before .s .given .1) ∙ c .before .before .before .demand-soundness .ensures)
 
 returns : tie.Need-returns
-returns c = rw (← (sym (c .before .before .s .given .1) ∙ c .before .before .before .before .demand-soundness .ensures), c .off .ensures)
+returns c = rw (← (sym (c .before .before .s .given .1) ∙ c .before .before .before .before .demand-soundness .ensures), c .offset-in .ensures)
 
 returns-2 : tie.Need-returns-2
 returns-2 c = rw (← (sym (c .before .e .given .1) ∙ c .before .before .before .demand-soundness .ensures))
 
 pub operation-offset-spec : {M : Type 1} → statement M
-operation-offset-spec = tie.close (tie.spec (search needs) (search needs) off-requires (search needs) returns returns-2)
+operation-offset-spec = tie.close (tie.spec (search needs) (search needs) offset-in-requires (search needs) returns returns-2)

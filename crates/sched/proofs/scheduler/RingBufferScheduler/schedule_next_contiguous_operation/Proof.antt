@@ -5,14 +5,14 @@ use borrow.Author.Needs.{needs}
 use Rattle.sched.proofs.scheduler.RingBufferScheduler.schedule_next_contiguous_operation.Statement.{statement}
 use Rattle.sched.proofs.scheduler.RingBufferScheduler.schedule_next_contiguous_operation.Tie as tie
 
-next-requires : tie.Need-next-requires
-next-requires c κs = sound _ _ (sym (c .before .s .given .1) ∙ c .before .before .before .demand-soundness .ensures)
+next-in-requires : tie.Need-next-in-requires
+next-in-requires c κs = sound _ _ (sym (c .before .s .given .1) ∙ c .before .before .before .demand-soundness .ensures)
 
 returns : tie.Need-returns
-returns c = rw (← (sym (c .before .before .s .given .1) ∙ c .before .before .before .before .demand-soundness .ensures), c .next .ensures)
+returns c = rw (← (sym (c .before .before .s .given .1) ∙ c .before .before .before .before .demand-soundness .ensures), c .next-in .ensures)
 
 returns-2 : tie.Need-returns-2
 returns-2 c = rw (← (sym (c .before .e .given .1) ∙ c .before .before .before .demand-soundness .ensures))
 
 pub schedule-next-contiguous-operation-spec : {M : Type 1} → statement M
-schedule-next-contiguous-operation-spec = tie.close (tie.spec (search needs) (search needs) next-requires (search needs) returns returns-2)
+schedule-next-contiguous-operation-spec = tie.close (tie.spec (search needs) (search needs) next-in-requires (search needs) returns returns-2)

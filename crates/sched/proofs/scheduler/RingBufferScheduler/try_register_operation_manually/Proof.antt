@@ -5,14 +5,14 @@ use borrow.Author.Needs.{needs}
 use Rattle.sched.proofs.scheduler.RingBufferScheduler.try_register_operation_manually.Statement.{statement}
 use Rattle.sched.proofs.scheduler.RingBufferScheduler.try_register_operation_manually.Tie as tie
 
-register-requires : tie.Need-register-requires
-register-requires c κs = sound _ _ (sym (c .before .s .given .1) ∙ c .before .before .before .demand-soundness .ensures)
+register-in-requires : tie.Need-register-in-requires
+register-in-requires c κs = sound _ _ (sym (c .before .s .given .1) ∙ c .before .before .before .demand-soundness .ensures)
 
 returns : tie.Need-returns
-returns c = rw (← (sym (c .before .before .s .given .1) ∙ c .before .before .before .before .demand-soundness .ensures), c .register .ensures)
+returns c = rw (← (sym (c .before .before .s .given .1) ∙ c .before .before .before .before .demand-soundness .ensures), c .register-in .ensures)
 
 returns-2 : tie.Need-returns-2
 returns-2 c = rw (← (sym (c .before .e .given .1) ∙ c .before .before .before .demand-soundness .ensures))
 
 pub try-register-operation-manually-spec : {M : Type 1} → statement M
-try-register-operation-manually-spec = tie.close (tie.spec (search needs) (search needs) register-requires (search needs) returns returns-2)
+try-register-operation-manually-spec = tie.close (tie.spec (search needs) (search needs) register-in-requires (search needs) returns returns-2)

@@ -1,0 +1,100 @@
+-- Laws of registering: what a scheduler is after an operation, and a move.
+use Prim.Native.Nat.{ℕ, _+_, _-_, _*_, _%_, _≤_}
+use mathlib.Core.Path.{_≡_, refl, sym, ap, _∙_}
+use mathlib.Core.Bool.{Bool, cond, true, false}
+use lib.Dec.{ltb}
+use borrow.Author.Tests.{ltb-false}
+use native.Mathlib.Omega.{arith}
+use Rattle.modular.proofs.Laws.{add-lt, sub-of-sum, sub-to-sum, add-halved, add-add, add-nothing}
+use Rattle.sched.specs.declared.operation.OperationType.{OperationType}
+use Rattle.sched.specs.declared.operation.OperationType.the-variants.{Read, Write}
+use Rattle.sched.specs.declared.refusal.Refusal.{Refusal}
+use Rattle.sched.specs.declared.refusal.Refusal.the-variants.{OperationTooLarge}
+use Rattle.sched.specs.declared.scheduler.Checked.{Checked}
+use Rattle.sched.specs.declared.scheduler.Checked.the-variants as checked
+use Rattle.sched.specs.declared.scheduler.RingBufferScheduler.{RingBufferScheduler}
+use Rattle.sched.specs.declared.register.Move.{Move}
+use Rattle.sched.specs.declared.register.MoveAnswer.the-variants as moves
+use Rattle.sched.specs.declared.register.Registered.the-variants as registered
+use Rattle.sched.specs.Scheduler.{IsSound, soundOf, dataIn, offsetIn, greatestIn, advancedIn, registerIn, moveIn, moveOf}
+use Rattle.sched.proofs.Laws.{sound-both, sound-is}
+
+-- ---- what registering does
+module _ (s : RingBufferScheduler) (h : IsSound s) (n : ℕ) where
+  pub advanced-greatest : (t : OperationType) → n ≤ greatestIn s t → greatestIn (advancedIn s t n) t ≡ greatestIn s t - n
+  advanced-greatest Read l = sub-to-sum (2 * s .«buf_len») (s .«items_written» .0) (s .«items_read» .0) n (omega arith) l
+  advanced-greatest Write l =
+      let e : dataIn (advancedIn s Write n) ≡ dataIn s + n = sub-of-sum (2 * s .«buf_len») (s .«items_written» .0) (s .«items_read» .0) n (omega arith) (omega arith) in
+      omega arith
+
+  pub advanced-sound : (t : OperationType) → n ≤ greatestIn s t → IsSound (advancedIn s t n)
+  advanced-sound Read l =
+      record {
+        sized = h .sized;
+        written = h .written;
+        read = add-lt (2 * s .«buf_len») (s .«items_read» .0) n (omega arith);
+        fill = omega (arith, advanced-greatest Read l);
+      }
+  advanced-sound Write l =
+      record {
+        sized = h .sized;
+        written = add-lt (2 * s .«buf_len») (s .«items_written» .0) n (omega arith);
+        read = h .read;
+        fill = let e : dataIn (advancedIn s Write n) ≡ dataIn s + n = sub-of-sum (2 * s .«buf_len») (s .«items_written» .0) (s .«items_read» .0) n (omega arith) (omega arith) in omega arith;
+      }
+
+  pub advanced-offset : (t : OperationType) → offsetIn (advancedIn s t n) t .0 ≡ (offsetIn s t .0 + n) % s .«buf_len»
+  advanced-offset Read = add-halved (s .«buf_len») (s .«items_read» .0) n
+  advanced-offset Write = add-halved (s .«buf_len») (s .«items_written» .0) n
+
+-- twice, and by nothing
+pub advanced-twice : (s : RingBufferScheduler) (n k : ℕ) (t : OperationType) → advancedIn (advancedIn s t n) t k ≡ advancedIn s t (n + k)
+advanced-twice s n k Read = rw (add-add (2 * s .«buf_len») (s .«items_read» .0) n k)
+advanced-twice s n k Write = rw (add-add (2 * s .«buf_len») (s .«items_written» .0) n k)
+
+pub advanced-nothing : (s : RingBufferScheduler) → IsSound s → (t : OperationType) → advancedIn s t 0 ≡ s
+advanced-nothing s h Read = rw (add-nothing (2 * s .«buf_len») (s .«items_read» .0) (h .read))
+advanced-nothing s h Write = rw (add-nothing (2 * s .«buf_len») (s .«items_written» .0) (h .written))
+
+pub advanced-length : (s : RingBufferScheduler) (n : ℕ) (t : OperationType) → advancedIn s t n .«buf_len» ≡ s .«buf_len»
+advanced-length s n Read = refl
+advanced-length s n Write = refl
+
+-- a scheduler that registering hands back is sound
+pub registered-sound : (s : RingBufferScheduler) → IsSound s → (t : OperationType) (n : ℕ) (u : RingBufferScheduler) → registered.Advanced u ≡ registerIn s t n → IsSound u
+unfolding registerIn
+registered-sound s h t n u p = go (ltb (greatestIn s t) n) refl p
+  where
+    go : (b : Bool) → ltb (greatestIn s t) n ≡ b → registered.Advanced u ≡ cond b (registered.Refused (OperationTooLarge t n (greatestIn s t))) (registered.Advanced (advancedIn s t n)) → IsSound u
+    go true q p = let z : _≡_ {A = ℕ} 0 1 = cc in absurd (omega arith)
+    go false q p =
+        let e : u ≡ advancedIn s t n = cc in
+        rw e (advanced-sound s h n t (ltb-false _ _ q))
+
+-- ---- a move is of a sound record, or refused as the tests refuse
+module _ (s : RingBufferScheduler) (t : OperationType) (m : ℕ) where
+  pub move-of : (v : Move) → moves.Of v ≡ moveOf s t m → IsSound s × (v ≡ moveIn s t m)
+  move-of v p = go (soundOf s) refl
+    where
+      go : (c : Checked) → soundOf s ≡ c → IsSound s × (v ≡ moveIn s t m)
+      go (checked.Sound u) q =
+          let h : IsSound s = sound-both u s (sym q) .0 in
+          let e : moves.Of v ≡ moves.Of (moveIn s t m) = rw (← sound-is s h) at p in
+          (h, cc)
+      go (checked.Refused e) q =
+          let f : moves.Of v ≡ moves.Refused e = rw q at p in
+          let z : _≡_ {A = ℕ} 0 1 = cc in
+          absurd (omega arith)
+
+  pub move-refused : (e : Refusal) → moves.Refused e ≡ moveOf s t m → soundOf s ≡ checked.Refused e
+  move-refused e p = go (soundOf s) refl
+    where
+      go : (c : Checked) → soundOf s ≡ c → soundOf s ≡ checked.Refused e
+      go (checked.Sound u) q =
+          let f : moves.Refused e ≡ moves.Of (moveIn s t m) = rw (← sound-is s (sound-both u s (sym q) .0)) at p in
+          let z : _≡_ {A = ℕ} 0 1 = cc in
+          absurd (omega arith)
+      go (checked.Refused r) q =
+          let f : moves.Refused e ≡ moves.Refused r = rw q at p in
+          let d : e ≡ r = cc in
+          q ∙ ap checked.Refused (sym d)

@@ -19,7 +19,8 @@ get-round-requires c κs =
 
 returns-2 : tie.Need-returns-2
 returns-2 c =
-    let at-get-round = c .before .before .before in
+    let at-before-2 = c .before .before in
+    let at-get-round = at-before-2 .before in
     let at-if1 = at-get-round .before .before in
     let at-before = at-if1 .before .before in
     let at-m = at-before .before in

@@ -8,7 +8,8 @@ use Rattle.copies.proofs.number.then_byte.Tie as tie
 
 returns : tie.Need-returns
 returns c =
-    let start = c .before .before .before .before in
+    let at-before = c .before .before .before in
+    let start = at-before .before in
     ((ap (λ (x : ℕ). start .args .front .n * 256 + x) (c .before .byte-at .ensures .0), c .behind .ensures .0), (omega (arith, c .before .byte-at .ensures .1), c .behind .ensures .1))
 
 pub then-byte-spec : {M : Type 1} → statement M

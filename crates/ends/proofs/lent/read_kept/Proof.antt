@@ -6,7 +6,8 @@ use Rattle.ends.proofs.lent.read_kept.Tie as tie
 
 returns : tie.Need-returns
 returns c =
-    let at-read = c .before .before .before in
+    let at-before = c .before .before in
+    let at-read = at-before .before in
     let start = at-read .before .before .before .before in
     let s = start .args in
     kept-reader _ (s .ring .now) (s .dst .now) _ _ _ _ (at-read .read .ensures) (c .keep-reader .ensures)

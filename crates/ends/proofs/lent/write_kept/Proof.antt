@@ -6,7 +6,8 @@ use Rattle.ends.proofs.lent.write_kept.Tie as tie
 
 returns : tie.Need-returns
 returns c =
-    let at-write = c .before .before .before in
+    let at-before = c .before .before in
+    let at-write = at-before .before in
     let start = at-write .before .before .before .before in
     let s = start .args in
     kept-writer _ (s .ring .now) (s .src .now) _ _ _ _ (at-write .write .ensures) (c .keep-writer .ensures)

@@ -23,7 +23,8 @@ returns-2 c =
 returns-3 : tie.Need-returns-3
 unfolding takenFrom
 returns-3 c =
-    let at-before2 = c .before .before .before .before in
+    let at-before = c .before .before .before in
+    let at-before2 = at-before .before in
     rw (at-before2 .before2 .given .1, c .before .after2 .given .1)
 
 returns-4 : tie.Need-returns-4

@@ -62,7 +62,8 @@ same-length-2 c = search needs
 
 returns-2 : tie.Need-returns-2 Inv-loop μ-loop
 returns-2 c =
-    let start = c .before .before .before .before in
+    let at-before = c .before .before .before in
+    let start = at-before .before in
     let l = c .before .loop in
     let a = start .args in
     sym (at-end (a .most) (filled (l .n) (l .line)) (l .next) (a .piece .now) (omega arith)) ∙ l .inv .1

@@ -27,7 +27,8 @@ is-digit-requires c κs = search needs
 
 returns : tie.Need-returns Inv-loop μ-loop
 returns c =
-    let at-loop = c .before .before .before .before in
+    let at-before = c .before .before .before in
+    let at-loop = at-before .before in
     let start = at-loop .before .before in
     let l = at-loop .loop in
     let line = start .args .line .now in

@@ -18,7 +18,8 @@ returns c =
 
 returns-2 : tie.Need-returns-2
 returns-2 c =
-    let start = c .before .before .before .before .before in
+    let at-before = c .before .before .before .before in
+    let start = at-before .before in
     let a = start .args in
     c .has-room2 .ensures ∙ ap (λ (k : ℕ). hasRoom k (filled (a .at) (a .out .now))) (c .before .width .ensures)
 

@@ -13,7 +13,8 @@ returns c = ap (numberIn (c .before .before .args .line .now)) (sym (front-end (
 
 returns-2 : tie.Need-returns-2
 returns-2 c =
-    let start = c .before .before .before .before in
+    let at-before = c .before .before .before in
+    let start = at-before .before in
     let a = start .args in
     number-there (a .line .now) 0 (a .at + 1) (omega arith) ∙ ap (numberIn (a .line .now)) (sym (front-zero (a .line .now) (a .at) (omega arith) (omega arith)))
 

@@ -28,7 +28,8 @@ returns c =
 
 returns-2 : tie.Need-returns-2
 returns-2 c =
-    let start = c .before .before .before .before in
+    let at-before = c .before .before .before in
+    let start = at-before .before in
     let a = start .args in
     append-full (length (decimal (a .n))) (decimal (a .n)) (a .out .now) (a .at) (sym (c .before .has-room-for .ensures) ∙ c .if1 .left)
 

@@ -13,7 +13,8 @@ use Rattle.planline.proofs.cut.answer_last.Tie as tie
 
 returns : tie.Need-returns
 returns c =
-    let start = c .before .before .before .before .before in
+    let at-before = c .before .before .before .before in
+    let start = at-before .before in
     let a = start .args in
     last-unready lineText mostHeld longest (a .held) (a .line .now) (filled (a .at) (a .out .now)) (sym (c .before .is-ready .ensures) ∙ not-true _ (c .if1 .taken))
 
@@ -26,7 +27,8 @@ returns-2 c =
 
 slice-aggregate-append : tie.Need-slice-aggregate-append
 slice-aggregate-append c =
-    let at-if1 = c .before .before .before in
+    let at-before = c .before .before in
+    let at-if1 = at-before .before in
     let at-is-ready = at-if1 .before in
     let start = at-is-ready .before .before .before .before in
     let a = start .args in
@@ -45,7 +47,8 @@ returns-3 c =
 
 slice-aggregate-append-2 : tie.Need-slice-aggregate-append-2
 slice-aggregate-append-2 c =
-    let at-if1 = c .before .before .before in
+    let at-before = c .before .before in
+    let at-if1 = at-before .before in
     let at-is-ready = at-if1 .before in
     let start = at-is-ready .before .before .before .before in
     let a = start .args in

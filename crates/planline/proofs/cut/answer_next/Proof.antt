@@ -15,20 +15,23 @@ use Rattle.planline.proofs.cut.answer_next.Tie as tie
 
 returns : tie.Need-returns
 returns c =
-    let start = c .before .before .before .before .before .before .before in
+    let at-before = c .before .before .before .before .before .before in
+    let start = at-before .before in
     let a = start .args in
     step-unready lineText mostHeld longest (filled (a .held) (a .line .now)) (a .from) (a .piece .now) (filled (a .at) (a .out .now)) (sym (c .before .is-ready .ensures) ∙ not-true _ (c .if1 .taken))
 
 slice-reshare-prefix-append : tie.Need-slice-reshare-prefix-append
 slice-reshare-prefix-append c =
-    let at-take-line = c .before .before .before in
+    let at-before = c .before .before in
+    let at-take-line = at-before .before in
     let start = at-take-line .before .before .before .before .before .before .before .before .before in
     let a = start .args in
     omega (arith, took-within mostHeld (a .held) (a .from) (a .line .now) (a .piece .now) (at-take-line .take-line .ensures))
 
 slice-aggregate-append : tie.Need-slice-aggregate-append
 slice-aggregate-append c =
-    let at-take-line = c .before .before .before .before in
+    let at-before = c .before .before .before in
+    let at-take-line = at-before .before in
     let start = at-take-line .before .before .before .before .before .before .before .before .before in
     let a = start .args in
     let t = at-take-line .take-line in
@@ -49,7 +52,8 @@ returns-2 c =
 
 returns-3 : tie.Need-returns-3
 returns-3 c =
-    let at-take-line = c .before .before .before in
+    let at-before = c .before .before in
+    let at-take-line = at-before .before in
     let at-if1 = at-take-line .before .before in
     let at-is-ready = at-if1 .before in
     let start = at-is-ready .before .before .before .before .before .before in

@@ -14,7 +14,8 @@ returns c = ready-short mostHeld longest (c .before .before .before .args .line 
 
 returns-2 : tie.Need-returns-2
 returns-2 c =
-    let start = c .before .before .before .before in
+    let at-before = c .before .before .before in
+    let start = at-before .before in
     c .has-room .ensures ∙ ready-long mostHeld longest (start .args .line .now) (filled (start .args .at) (start .args .out .now)) (omega arith)
 
 pub is-ready-spec : {M : Type 1} → statement M

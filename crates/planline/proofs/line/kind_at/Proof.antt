@@ -20,7 +20,8 @@ returns-3 c =
 
 returns-4 : tie.Need-returns-4
 returns-4 c =
-    let start = c .before .before .before .before .before in
+    let at-before = c .before .before .before .before in
+    let start = at-before .before in
     sym (kind-other (start .args .line .now) (start .args .at) (omega arith) (c .if3 .left))
 
 pub kind-at-spec : {M : Type 1} → statement M

@@ -10,7 +10,8 @@ use Rattle.planline.proofs.line.spaced.Tie as tie
 
 returns : tie.Need-returns
 returns c =
-    let at-n = c .before .before .before .before in
+    let at-before = c .before .before .before in
+    let at-n = at-before .before in
     let at-number-at = at-n .before .before in
     let start = at-number-at .before .before in
     let n = at-n .n .given in
@@ -18,7 +19,8 @@ returns c =
 
 returns-2 : tie.Need-returns-2
 returns-2 c =
-    let at-n = c .before .before .before .before in
+    let at-before = c .before .before .before in
+    let at-n = at-before .before in
     let at-number-at = at-n .before .before in
     let start = at-number-at .before .before in
     let n = at-n .n .given in

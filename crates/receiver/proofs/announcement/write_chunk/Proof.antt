@@ -13,12 +13,14 @@ returns-2 c = rw (eq-eqb _ _ (c .before .if1 .left), eq-eqb _ _ (c .if2 .taken))
 
 register-requires : tie.Need-register-requires
 register-requires c κs =
-    let start = c .before .before .before .before .before in
+    let at-before = c .before .before .before .before in
+    let start = at-before .before in
     (start .pre .0, start .pre .1)
 
 register-requires-2 : tie.Need-register-requires-2
 register-requires-2 c κs =
-    let start = c .before .before .before .before .before .before in
+    let at-before = c .before .before .before .before .before in
+    let start = at-before .before in
     let s = start .args .s in let p = start .pre in rw (c .register .ensures) (written s (p .0) (p .1), readable s (p .0) (p .1))
 
 register-requires-3 : tie.Need-register-requires-3

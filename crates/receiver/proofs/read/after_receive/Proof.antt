@@ -7,7 +7,8 @@ use Rattle.receiver.proofs.read.after_receive.Tie as tie
 
 recv-chunk-announcement-requires : tie.Need-recv-chunk-announcement-requires
 recv-chunk-announcement-requires c κs =
-    let start = c .before .before .before .before .before in
+    let at-before = c .before .before .before .before in
+    let start = at-before .before in
     (start .pre .0 .sound, byte-sized _ _ _ _ _ (c .before .received .given .1) (start .pre .1))
 
 after-announcement-requires : tie.Need-after-announcement-requires

@@ -9,10 +9,17 @@ returns : tie.Need-returns
 returns c = cut-none _ _ _ _ (c .if1 .taken)
 
 returns-2 : tie.Need-returns-2
-returns-2 c = rw (c .new .ensures) (cut-one _ _ _ (c .before .before .before .before .args .n) (positive _ (c .before .before .before .if1 .left)) (omega (arith, c .before .if2 .taken, c .before .before .before .before .pre .0)))
+returns-2 c =
+    let at-if1 = c .before .before .before in
+    let start = at-if1 .before in
+    rw (c .new .ensures) (cut-one _ _ _ (start .args .n) (positive _ (at-if1 .if1 .left)) (omega (arith, c .before .if2 .taken, start .pre .0)))
 
 returns-3 : tie.Need-returns-3
-returns-3 c = rw (c .before .new2 .ensures, c .new3 .ensures) (cut-two _ _ _ (c .before .before .before .before .before .args .n) (positive _ (c .before .before .before .before .if1 .left)) (omega (arith, c .before .before .if2 .left, c .before .before .before .before .before .pre .0)))
+returns-3 c =
+    let at-if2 = c .before .before in
+    let at-if1 = at-if2 .before .before in
+    let start = at-if1 .before in
+    rw (c .before .new2 .ensures, c .new3 .ensures) (cut-two _ _ _ (start .args .n) (positive _ (at-if1 .if1 .left)) (omega (arith, at-if2 .if2 .left, start .pre .0)))
 
 pub cut-of-spec : {M : Type 1} → statement M
 cut-of-spec =

@@ -8,11 +8,16 @@ use Rattle.sched.proofs.scheduler.double_modulus.Tie as tie
 
 returns : tie.Need-returns
 returns c =
-    let e = double-is _ (c .before .before .before .before .pre) _ refl _ (sym (c .before .m .given .1) ∙ c .before .before .before .double .ensures) in
+    let at-double = c .before .before .before in
+    let start = at-double .before in
+    let e = double-is _ (start .pre) _ refl _ (sym (c .before .m .given .1) ∙ at-double .double .ensures) in
     omega arith
 
 returns-2 : tie.Need-returns-2
-returns-2 c = absurd (double-never-none _ (c .before .before .before .before .pre) _ refl (sym (c .before .enum-told .given .1) ∙ c .before .before .before .double .ensures))
+returns-2 c =
+    let at-double = c .before .before .before in
+    let start = at-double .before in
+    absurd (double-never-none _ (start .pre) _ refl (sym (c .before .enum-told .given .1) ∙ at-double .double .ensures))
 
 pub double-modulus-spec : {M : Type 1} → statement M
 double-modulus-spec = tie.close (tie.spec (search needs) (search needs) (search needs) (search needs) returns returns-2)

@@ -5,12 +5,14 @@ use Rattle.ends.proofs.writing_end.WritingEnd.write.Tie as tie
 
 returns : tie.Need-returns
 returns c =
-    let at-write = c .before .before .before .before .before in
+    let at-before = c .before .before .before .before in
+    let at-write = at-before .before in
     rw (← at-write .write .ensures, c .before .scheduler .given .1)
 
 returns-2 : tie.Need-returns-2
 returns-2 c =
-    let at-write = c .before .before .before .before .before in
+    let at-before = c .before .before .before .before in
+    let at-write = at-before .before in
     rw (← at-write .write .ensures, c .before .e .given .1)
 
 pub write-spec : {M : Type 1} → statement M

@@ -13,13 +13,15 @@ after-receive-requires c κs =
 
 returns : tie.Need-returns
 returns c =
-    let at-phase = c .before .before .before in
+    let at-before = c .before .before in
+    let at-phase = at-before .before in
     let start = at-phase .before .before .before .before .before in
     stepped-by _ _ _ _ _ (at-phase .phase .given .1) _ (rw (uninterrupted (start .args .self) (start .args .answer) _ (at-phase .phase .given .1) (start .pre .1), c .after-receive .ensures, c .before .received .ensures))
 
 returns-2 : tie.Need-returns-2
 returns-2 c =
-    let at-phase2 = c .before .before .before in
+    let at-before = c .before .before in
+    let at-phase2 = at-before .before in
     let start = at-phase2 .before .before .before .before .before in
     stepped-by _ _ _ _ _ (at-phase2 .phase2 .given .1) _ (rw (uninterrupted (start .args .self) (start .args .answer) _ (at-phase2 .phase2 .given .1) (start .pre .1), c .after-send .ensures, c .before .going .ensures))
 

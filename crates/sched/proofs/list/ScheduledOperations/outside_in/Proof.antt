@@ -5,7 +5,10 @@ use Rattle.sched.proofs.list.ScheduledOperations.outside_in.Statement.{
 use Rattle.sched.proofs.list.ScheduledOperations.outside_in.Tie as tie
 
 add-t8 : tie.Need-add-t8
-add-t8 c = record { fits = rw (c .before .before .before .self2 .given .1) at (c .before .before .before .before .before .pre) }
+add-t8 c =
+    let at-self2 = c .before .before .before in
+    let start = at-self2 .before .before in
+    record { fits = rw (at-self2 .self2 .given .1) at (start .pre) }
 
 returns-2 : tie.Need-returns-2
 returns-2 c = rw (c .before .self .given .1, zero-add)

@@ -4,7 +4,10 @@ use Rattle.sched.proofs.list.ScheduledOperations.total_in.Statement.{st
 use Rattle.sched.proofs.list.ScheduledOperations.total_in.Tie as tie
 
 add-result : tie.Need-add-result
-add-result c = record { fits = rw (c .before .before .before .self2 .given .1) at (c .before .before .before .before .before .pre) }
+add-result c =
+    let at-self2 = c .before .before .before in
+    let start = at-self2 .before .before in
+    record { fits = rw (at-self2 .self2 .given .1) at (start .pre) }
 
 returns-3 : tie.Need-returns-3
 returns-3 c = rw (c .before .before .before .self2 .given .1)

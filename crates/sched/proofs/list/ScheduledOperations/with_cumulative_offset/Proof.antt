@@ -5,7 +5,10 @@ use Rattle.sched.proofs.list.ScheduledOperations.with_cumulative_offset
 use Rattle.sched.proofs.list.ScheduledOperations.with_cumulative_offset.Tie as tie
 
 returns : tie.Need-returns
-returns c = rw (← (sym (c .before .before .list .given .1) ∙ c .before .before .before .before .try-new .ensures), c .cumulative-in .ensures)
+returns c =
+    let at-list = c .before .before in
+    let at-try-new = at-list .before .before in
+    rw (← (sym (at-list .list .given .1) ∙ at-try-new .try-new .ensures), c .cumulative-in .ensures)
 
 returns-2 : tie.Need-returns-2
 returns-2 c = rw (← (sym (c .before .e .given .1) ∙ c .before .before .before .try-new .ensures))

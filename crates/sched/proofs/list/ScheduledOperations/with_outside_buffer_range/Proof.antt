@@ -6,10 +6,16 @@ use Rattle.sched.proofs.list.ScheduledOperations.with_outside_buffer_ra
 use Rattle.sched.proofs.list.ScheduledOperations.with_outside_buffer_range.Tie as tie
 
 outside-in-requires : tie.Need-outside-in-requires
-outside-in-requires c κs = summed _ (c .before .before .before .before .args .self) (sym (c .before .list .given .1) ∙ c .before .before .before .try-new .ensures)
+outside-in-requires c κs =
+    let at-try-new = c .before .before .before in
+    let start = at-try-new .before in
+    summed _ (start .args .self) (sym (c .before .list .given .1) ∙ at-try-new .try-new .ensures)
 
 returns : tie.Need-returns
-returns c = rw (← (sym (c .before .before .list .given .1) ∙ c .before .before .before .before .try-new .ensures), c .outside-in .ensures)
+returns c =
+    let at-list = c .before .before in
+    let at-try-new = at-list .before .before in
+    rw (← (sym (at-list .list .given .1) ∙ at-try-new .try-new .ensures), c .outside-in .ensures)
 
 returns-2 : tie.Need-returns-2
 returns-2 c = rw (← (sym (c .before .e .given .1) ∙ c .before .before .before .try-new .ensures))

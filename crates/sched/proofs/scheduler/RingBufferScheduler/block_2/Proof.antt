@@ -5,7 +5,10 @@ use Rattle.sched.proofs.scheduler.RingBufferScheduler.block_2.Statement
 use Rattle.sched.proofs.scheduler.RingBufferScheduler.block_2.Tie as tie
 
 returns : tie.Need-returns
-returns c = rw (← (sym (c .before .before .b .given .1) ∙ c .before .before .before .before .blocks2 .ensures))
+returns c =
+    let at-b = c .before .before in
+    let at-blocks2 = at-b .before .before in
+    rw (← (sym (at-b .b .given .1) ∙ at-blocks2 .blocks2 .ensures))
 
 returns-2 : tie.Need-returns-2
 returns-2 c = rw (← (sym (c .before .e .given .1) ∙ c .before .before .before .blocks2 .ensures))

@@ -11,10 +11,22 @@ sub-last : tie.Need-sub-last
 sub-last c = omega (arith, offset-lt _ (c .before .before .before .pre) Read, offset-lt _ (c .before .before .before .pre) Write)
 
 returns : tie.Need-returns
-returns c = rw (c .before .before .new .ensures, c .before .new2 .ensures, c .new3 .ensures, c .before .before .before .before .before .before .before .before .low-in .ensures, c .before .before .before .before .before .before .before .high-in .ensures, ← (sym (c .before .before .before .enum-told .given .1) ∙ c .before .before .before .before .before .layout-in .ensures))
+returns c =
+    let at-new = c .before .before in
+    let at-enum-told = at-new .before in
+    let at-layout-in = at-enum-told .before .before in
+    let at-high-in = at-layout-in .before .before in
+    let at-low-in = at-high-in .before in
+    rw (at-new .new .ensures, c .before .new2 .ensures, c .new3 .ensures, at-low-in .low-in .ensures, at-high-in .high-in .ensures, ← (sym (at-enum-told .enum-told .given .1) ∙ at-layout-in .layout-in .ensures))
 
 returns-2 : tie.Need-returns-2
-returns-2 c = rw (c .before .before .new4 .ensures, c .before .new5 .ensures, c .new6 .ensures, c .before .before .before .before .before .before .before .before .low-in .ensures, c .before .before .before .before .before .before .before .high-in .ensures, ← (sym (c .before .before .before .enum-told2 .given .1) ∙ c .before .before .before .before .before .layout-in .ensures))
+returns-2 c =
+    let at-new4 = c .before .before in
+    let at-enum-told2 = at-new4 .before in
+    let at-layout-in = at-enum-told2 .before .before in
+    let at-high-in = at-layout-in .before .before in
+    let at-low-in = at-high-in .before in
+    rw (at-new4 .new4 .ensures, c .before .new5 .ensures, c .new6 .ensures, at-low-in .low-in .ensures, at-high-in .high-in .ensures, ← (sym (at-enum-told2 .enum-told2 .given .1) ∙ at-layout-in .layout-in .ensures))
 
 pub blocks-in-spec : {M : Type 1} → statement M
 blocks-in-spec =

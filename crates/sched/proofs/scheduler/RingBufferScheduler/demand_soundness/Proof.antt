@@ -14,23 +14,52 @@ returns c = simp (eq-eqb (c .before .before .before .args .self .«buf_len») 0 
 
 returns-2 : tie.Need-returns-2
 unfolding soundOf
-returns-2 c = simp (ne-eqb _ _ (c .before .if1 .left), lt-ltb (2 ^ 63) (c .before .before .before .before .args .self .«buf_len») (omega arith))
+returns-2 c =
+    let at-before = c .before .before .before in
+    let start = at-before .before in
+    simp (ne-eqb _ _ (c .before .if1 .left), lt-ltb (2 ^ 63) (start .args .self .«buf_len») (omega arith))
 
 returns-3 : tie.Need-returns-3
 unfolding soundOf
-returns-3 c = simp (ne-eqb _ _ (c .before .before .before .before .if1 .left), le-ltb _ _ (c .before .before .before .if2 .left), outside _ _ _ _ (c .before .before .double-modulus .ensures) (c .before .contains .ensures) (c .if3 .taken))
+returns-3 c =
+    let at-double-modulus = c .before .before in
+    let at-if2 = at-double-modulus .before in
+    let at-if1 = at-if2 .before in
+    simp (ne-eqb _ _ (at-if1 .if1 .left), le-ltb _ _ (at-if2 .if2 .left), outside _ _ _ _ (at-double-modulus .double-modulus .ensures) (c .before .contains .ensures) (c .if3 .taken))
 
 returns-4 : tie.Need-returns-4
 unfolding soundOf
-returns-4 c = simp (ne-eqb _ _ (c .before .before .before .before .before .before .if1 .left), le-ltb _ _ (c .before .before .before .before .before .if2 .left), inside _ _ _ _ (c .before .before .before .before .double-modulus .ensures) (c .before .before .before .contains .ensures) (c .before .before .if3 .left), outside _ _ _ _ (c .before .before .before .before .double-modulus .ensures) (c .before .contains2 .ensures) (c .if4 .taken))
+returns-4 c =
+    let at-if3 = c .before .before in
+    let at-contains = at-if3 .before in
+    let at-double-modulus = at-contains .before in
+    let at-if2 = at-double-modulus .before in
+    let at-if1 = at-if2 .before in
+    simp (ne-eqb _ _ (at-if1 .if1 .left), le-ltb _ _ (at-if2 .if2 .left), inside _ _ _ _ (at-double-modulus .double-modulus .ensures) (at-contains .contains .ensures) (at-if3 .if3 .left), outside _ _ _ _ (at-double-modulus .double-modulus .ensures) (c .before .contains2 .ensures) (c .if4 .taken))
 
 returns-5 : tie.Need-returns-5
 unfolding soundOf
-returns-5 c = simp (ne-eqb _ _ (c .before .before .before .before .before .before .before .before .if1 .left), le-ltb _ _ (c .before .before .before .before .before .before .before .if2 .left), inside _ _ _ _ (c .before .before .before .before .before .before .double-modulus .ensures) (c .before .before .before .before .before .contains .ensures) (c .before .before .before .before .if3 .left), inside _ _ _ _ (c .before .before .before .before .before .before .double-modulus .ensures) (c .before .before .before .contains2 .ensures) (c .before .before .if4 .left), ← c .before .before .before .before .before .before .double-modulus .ensures, ← c .before .sub .ensures, lt-ltb _ _ (c .if5 .taken))
+returns-5 c =
+    let at-if4 = c .before .before in
+    let at-contains2 = at-if4 .before in
+    let at-if3 = at-contains2 .before in
+    let at-contains = at-if3 .before in
+    let at-double-modulus = at-contains .before in
+    let at-if2 = at-double-modulus .before in
+    let at-if1 = at-if2 .before in
+    simp (ne-eqb _ _ (at-if1 .if1 .left), le-ltb _ _ (at-if2 .if2 .left), inside _ _ _ _ (at-double-modulus .double-modulus .ensures) (at-contains .contains .ensures) (at-if3 .if3 .left), inside _ _ _ _ (at-double-modulus .double-modulus .ensures) (at-contains2 .contains2 .ensures) (at-if4 .if4 .left), ← at-double-modulus .double-modulus .ensures, ← c .before .sub .ensures, lt-ltb _ _ (c .if5 .taken))
 
 returns-6 : tie.Need-returns-6
 unfolding soundOf
-returns-6 c = simp (ne-eqb _ _ (c .before .before .before .before .before .before .before .before .if1 .left), le-ltb _ _ (c .before .before .before .before .before .before .before .if2 .left), inside _ _ _ _ (c .before .before .before .before .before .before .double-modulus .ensures) (c .before .before .before .before .before .contains .ensures) (c .before .before .before .before .if3 .left), inside _ _ _ _ (c .before .before .before .before .before .before .double-modulus .ensures) (c .before .before .before .contains2 .ensures) (c .before .before .if4 .left), ← c .before .before .before .before .before .before .double-modulus .ensures, ← c .before .sub .ensures, le-ltb _ _ (c .if5 .left))
+returns-6 c =
+    let at-if4 = c .before .before in
+    let at-contains2 = at-if4 .before in
+    let at-if3 = at-contains2 .before in
+    let at-contains = at-if3 .before in
+    let at-double-modulus = at-contains .before in
+    let at-if2 = at-double-modulus .before in
+    let at-if1 = at-if2 .before in
+    simp (ne-eqb _ _ (at-if1 .if1 .left), le-ltb _ _ (at-if2 .if2 .left), inside _ _ _ _ (at-double-modulus .double-modulus .ensures) (at-contains .contains .ensures) (at-if3 .if3 .left), inside _ _ _ _ (at-double-modulus .double-modulus .ensures) (at-contains2 .contains2 .ensures) (at-if4 .if4 .left), ← at-double-modulus .double-modulus .ensures, ← c .before .sub .ensures, le-ltb _ _ (c .if5 .left))
 
 pub demand-soundness-spec : {M : Type 1} → statement M
 demand-soundness-spec =

@@ -9,7 +9,10 @@ layout-in-requires : tie.Need-layout-in-requires
 layout-in-requires c κs = sound _ _ (sym (c .before .s .given .1) ∙ c .before .before .before .demand-soundness .ensures)
 
 returns : tie.Need-returns
-returns c = rw (← (sym (c .before .before .s .given .1) ∙ c .before .before .before .before .demand-soundness .ensures), c .layout-in .ensures)
+returns c =
+    let at-s = c .before .before in
+    let at-demand-soundness = at-s .before .before in
+    rw (← (sym (at-s .s .given .1) ∙ at-demand-soundness .demand-soundness .ensures), c .layout-in .ensures)
 
 returns-2 : tie.Need-returns-2
 returns-2 c = rw (← (sym (c .before .e .given .1) ∙ c .before .before .before .demand-soundness .ensures))

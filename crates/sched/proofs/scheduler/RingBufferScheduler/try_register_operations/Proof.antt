@@ -6,13 +6,26 @@ use Rattle.sched.proofs.scheduler.RingBufferScheduler.try_register_oper
 use Rattle.sched.proofs.scheduler.RingBufferScheduler.try_register_operations.Tie as tie
 
 register-list-in-requires : tie.Need-register-list-in-requires
-register-list-in-requires c κs = sound _ _ (sym (c .before .before .before .before .before .s .given .1) ∙ c .before .before .before .before .before .before .before .demand-soundness .ensures)
+register-list-in-requires c κs =
+    let at-before = c .before .before .before .before in
+    let at-s = at-before .before in
+    let at-demand-soundness = at-s .before .before in
+    sound _ _ (sym (at-s .s .given .1) ∙ at-demand-soundness .demand-soundness .ensures)
 
 returns : tie.Need-returns
-returns c = rw (← (sym (c .before .before .before .before .before .before .s .given .1) ∙ c .before .before .before .before .before .before .before .before .demand-soundness .ensures), ← (sym (c .before .before .ops .given .1) ∙ c .before .before .before .before .try-new .ensures), c .register-list-in .ensures)
+returns c =
+    let at-ops = c .before .before in
+    let at-try-new = at-ops .before .before in
+    let at-s = at-try-new .before .before in
+    let at-demand-soundness = at-s .before .before in
+    rw (← (sym (at-s .s .given .1) ∙ at-demand-soundness .demand-soundness .ensures), ← (sym (at-ops .ops .given .1) ∙ at-try-new .try-new .ensures), c .register-list-in .ensures)
 
 returns-2 : tie.Need-returns-2
-returns-2 c = rw (← (sym (c .before .before .before .before .before .s .given .1) ∙ c .before .before .before .before .before .before .before .demand-soundness .ensures), ← (sym (c .before .e .given .1) ∙ c .before .before .before .try-new .ensures))
+returns-2 c =
+    let at-try-new = c .before .before .before in
+    let at-s = at-try-new .before .before in
+    let at-demand-soundness = at-s .before .before in
+    rw (← (sym (at-s .s .given .1) ∙ at-demand-soundness .demand-soundness .ensures), ← (sym (c .before .e .given .1) ∙ at-try-new .try-new .ensures))
 
 returns-3 : tie.Need-returns-3
 returns-3 c = rw (← (sym (c .before .e2 .given .1) ∙ c .before .before .before .demand-soundness .ensures))

@@ -1,7 +1,7 @@
 //! Write a chunk to a ring, then read it.
 
 use crate::best::best_turns;
-use crate::stripring::{self, Scheduler};
+use crate::stripring::{self, End, Scheduler};
 use oracle::rosenpass::sched::RingBufferScheduler;
 use std::cell::RefCell;
 use std::ffi::c_void;
@@ -12,10 +12,12 @@ const TURN: usize = 1 << 20;
 
 pub fn print_table() {
     println!(
-        "\nRings: GB/s, and this library's time as a multiple of that of two memcpy and of JACK\n"
+        "\nRings: GB/s, and this library's times as multiples; an end's pass sends both counters too\n"
     );
-    println!("| chunk | two memcpy | this library | JACK | SPA | Rust | of memcpy | of JACK |");
-    println!("|---|---|---|---|---|---|---|---|");
+    println!(
+        "| chunk | two memcpy | copies | ends, by value | ends, in place | JACK | SPA | Rust | copies of memcpy | copies of JACK | in place of by value |"
+    );
+    println!("|---|---|---|---|---|---|---|---|---|---|---|");
     print_row("64 B", 64);
     print_row("4 KiB", 4 << 10);
     print_row("64 KiB", 64 << 10);
@@ -29,6 +31,8 @@ fn print_row(name: &str, chunk: usize) {
     let turns = best_turns([
         &mut turn(Memcpy::new(chunk), &src, dst),
         &mut turn(Stripring::new(len), &src, dst),
+        &mut turn(ByValue(Ends::new(len)), &src, dst),
+        &mut turn(InPlace(Ends::new(len)), &src, dst),
         &mut turn(Jack::new(len), &src, dst),
         &mut turn(Spa::new(len), &src, dst),
         &mut turn(Rust::new(len), &src, dst),
@@ -36,11 +40,12 @@ fn print_row(name: &str, chunk: usize) {
     let speeds = turns
         .map(|ns| format!("{:.2}", TURN as f64 / ns))
         .join(" | ");
-    let [memcpy, ours, jack, ..] = turns;
+    let [memcpy, copies, by_value, in_place, jack, ..] = turns;
     println!(
-        "| {name} | {speeds} | {:.2} | {:.2} |",
-        ours / memcpy,
-        ours / jack
+        "| {name} | {speeds} | {:.2} | {:.2} | {:.2} |",
+        copies / memcpy,
+        copies / jack,
+        in_place / by_value
     );
 }
 
@@ -122,6 +127,72 @@ impl Ring for Stripring {
         let copied = stripring::read(self.scheduler, &self.memory, dst).of;
         self.scheduler = copied.scheduler;
         copied.n as usize
+    }
+}
+
+/// A writing and a reading end over one memory. Whoever has moved bytes sends its counter, and the other takes it.
+struct Ends {
+    writing: End,
+    reading: End,
+    memory: Vec<u8>,
+}
+
+impl Ends {
+    fn new(len: usize) -> Self {
+        let end = End {
+            scheduler: Scheduler {
+                buf_len: len as u64,
+                items_written: 0,
+                items_read: 0,
+            },
+        };
+        Self {
+            writing: end,
+            reading: end,
+            memory: vec![0; len],
+        }
+    }
+}
+
+struct ByValue(Ends);
+
+impl Ring for ByValue {
+    fn write(&mut self, src: &[u8]) -> usize {
+        let ends = &mut self.0;
+        let wrote = stripring::end_write(ends.writing, &mut ends.memory, src).of;
+        ends.writing = wrote.end;
+        let sent = stripring::send_written(ends.writing).of;
+        ends.reading = stripring::take_written(ends.reading, sent).of;
+        wrote.n as usize
+    }
+
+    fn read(&mut self, dst: &mut [u8]) -> usize {
+        let ends = &mut self.0;
+        let got = stripring::end_read(ends.reading, &ends.memory, dst).of;
+        ends.reading = got.end;
+        let sent = stripring::send_read(ends.reading).of;
+        ends.writing = stripring::take_read(ends.writing, sent).of;
+        got.n as usize
+    }
+}
+
+struct InPlace(Ends);
+
+impl Ring for InPlace {
+    fn write(&mut self, src: &[u8]) -> usize {
+        let ends = &mut self.0;
+        let n = stripring::end_write_in_place(&mut ends.writing, &mut ends.memory, src).of;
+        let sent = stripring::send_written(ends.writing).of;
+        stripring::take_written_in_place(&mut ends.reading, sent);
+        n as usize
+    }
+
+    fn read(&mut self, dst: &mut [u8]) -> usize {
+        let ends = &mut self.0;
+        let n = stripring::end_read_in_place(&mut ends.reading, &ends.memory, dst).of;
+        let sent = stripring::send_read(ends.reading).of;
+        stripring::take_read_in_place(&mut ends.writing, sent);
+        n as usize
     }
 }
 

@@ -45,8 +45,68 @@ pub struct Copied {
     pub n: u64,
 }
 
+#[repr(C)]
+#[derive(Clone, Copy)]
+pub struct End {
+    pub scheduler: Scheduler,
+}
+
+#[repr(C)]
+#[derive(Clone, Copy)]
+pub struct Counter {
+    pub value: u64,
+}
+
+#[repr(C)]
+pub struct Moved {
+    pub end: End,
+    pub n: u64,
+}
+
 #[link(name = "stripring", kind = "static")]
 unsafe extern "C" {
+    #[link_name = "stripring_writing_end_send"]
+    pub safe fn send_written(e: End) -> Answer<Counter>;
+    #[link_name = "stripring_reading_end_send"]
+    pub safe fn send_read(e: End) -> Answer<Counter>;
+    #[link_name = "stripring_writing_end_take"]
+    pub safe fn take_read(e: End, counter: Counter) -> Answer<End>;
+    #[link_name = "stripring_reading_end_take"]
+    pub safe fn take_written(e: End, counter: Counter) -> Answer<End>;
+    #[link_name = "stripring_writing_end_take_in_place"]
+    pub safe fn take_read_in_place(e: &mut End, counter: Counter) -> Refusal;
+    #[link_name = "stripring_reading_end_take_in_place"]
+    pub safe fn take_written_in_place(e: &mut End, counter: Counter) -> Refusal;
+
+    fn stripring_writing_end_write(
+        e: End,
+        ring: *mut u8,
+        ring_len: usize,
+        src: *const u8,
+        src_len: usize,
+    ) -> Answer<Moved>;
+    fn stripring_reading_end_read(
+        e: End,
+        ring: *const u8,
+        ring_len: usize,
+        dst: *mut u8,
+        dst_len: usize,
+    ) -> Answer<Moved>;
+    fn stripring_writing_end_write_in_place(
+        e: &mut End,
+        ring: *mut u8,
+        ring_len: usize,
+        src: *const u8,
+        src_len: usize,
+    ) -> Answer<u64>;
+    fn stripring_reading_end_read_in_place(
+        e: &mut End,
+        ring: *const u8,
+        ring_len: usize,
+        dst: *mut u8,
+        dst_len: usize,
+    ) -> Answer<u64>;
+
     #[link_name = "stripring_scheduler_data_avail"]
     pub safe fn data_avail(s: Scheduler) -> Answer<u64>;
     #[link_name = "stripring_scheduler_schedule_contiguous_operations"]
@@ -78,4 +138,23 @@ pub fn write(s: Scheduler, ring: &mut [u8], src: &[u8]) -> Answer<Copied> {
 pub fn read(s: Scheduler, ring: &[u8], dst: &mut [u8]) -> Answer<Copied> {
     // Sound: as above.
     unsafe { stripring_copies_read(s, ring.as_ptr(), ring.len(), dst.as_mut_ptr(), dst.len()) }
+}
+
+// Sound, all four: as above.
+pub fn end_write(e: End, ring: &mut [u8], src: &[u8]) -> Answer<Moved> {
+    unsafe { stripring_writing_end_write(e, ring.as_mut_ptr(), ring.len(), src.as_ptr(), src.len()) }
+}
+
+pub fn end_read(e: End, ring: &[u8], dst: &mut [u8]) -> Answer<Moved> {
+    unsafe { stripring_reading_end_read(e, ring.as_ptr(), ring.len(), dst.as_mut_ptr(), dst.len()) }
+}
+
+pub fn end_write_in_place(e: &mut End, ring: &mut [u8], src: &[u8]) -> Answer<u64> {
+    let (to, len) = (ring.as_mut_ptr(), ring.len());
+    unsafe { stripring_writing_end_write_in_place(e, to, len, src.as_ptr(), src.len()) }
+}
+
+pub fn end_read_in_place(e: &mut End, ring: &[u8], dst: &mut [u8]) -> Answer<u64> {
+    let (from, len) = (ring.as_ptr(), ring.len());
+    unsafe { stripring_reading_end_read_in_place(e, from, len, dst.as_mut_ptr(), dst.len()) }
 }

@@ -6,10 +6,10 @@ use Rattle.receiver.proofs.sound.moved.Statement.{statement}
 use Rattle.receiver.proofs.sound.moved.Tie as tie
 
 returns : tie.Need-returns
-returns c = move-is _ (c .before .before .before .before .pre) _ _ _ (sym (c .before .m .given .1) ∙ c .before .before .before .schedule-and-register .ensures)
+returns c = move-is _ (c .before .before .before .before .pre) (c .before .before .before .before .args .op) _ _ (sym (c .before .m .given .1) ∙ c .before .before .before .schedule-and-register .ensures)
 
 returns-2 : tie.Need-returns-2
-returns-2 c = absurd (move-told _ (c .before .before .before .pre) _ _ _ (sym (c .enum-told .given .1) ∙ c .before .before .schedule-and-register .ensures))
+returns-2 c = absurd (move-told _ (c .before .before .before .pre) (c .before .before .before .args .op) (c .before .before .before .args .max-len) _ (sym (c .enum-told .given .1) ∙ c .before .before .schedule-and-register .ensures))
 
 pub moved-spec : {M : Type 1} → statement M
 moved-spec = tie.close (tie.spec (search needs) (search needs) (search needs) returns returns-2)

@@ -1,3 +1,4 @@
+mod Turns
 pub mod DriveLaws
 pub mod Thin
 pub mod Begun

@@ -35,7 +35,7 @@ pub fn fetch(answers: &[Answer], i: u64) -> Fetched
 }
 
 // Over a run a refusal throws the whole call away, so one that is refused waits for nothing more.
-fn is_over(step: Step) -> bool
+pub(crate) fn is_over(step: Step) -> bool
     ensures { λ r. ⌜ r ≡ overIn step ⌝ }
 {
     match step {
@@ -44,7 +44,7 @@ fn is_over(step: Step) -> bool
     }
 }
 
-fn retries(step: Step, answer: Answer) -> bool
+pub(crate) fn retries(step: Step, answer: Answer) -> bool
     ensures { λ r. ⌜ r ≡ retriesIn step answer ⌝ }
 {
     match step {
@@ -53,7 +53,7 @@ fn retries(step: Step, answer: Answer) -> bool
     }
 }
 
-fn answered(step: Step, ring: &[u8], answer: Answer, place: u64) -> Step
+pub(crate) fn answered(step: Step, ring: &[u8], answer: Answer, place: u64) -> Step
     ensures { λ r. ⌜ r ≡ answeredIn step (now (ring .entry)) answer place ⌝ }
 {
     match step {

@@ -1,4 +1,4 @@
--- The two cases of the definition.
+-- The block's length; a refusal stays.
 use borrow.Author.Needs.{needs}
 use Rattle.sched.proofs.layout.len_from.Statement.{statement}
 use Rattle.sched.proofs.layout.len_from.Tie as tie

@@ -1,4 +1,4 @@
--- The two cases of the definition.
+-- The block's offset; a refusal stays.
 use borrow.Author.Needs.{needs}
 use Rattle.sched.proofs.layout.off_from.Statement.{statement}
 use Rattle.sched.proofs.layout.off_from.Tie as tie

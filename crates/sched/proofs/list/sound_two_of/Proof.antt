@@ -1,4 +1,4 @@
--- The three cases of the definition; the compare before the sum is the compare of the sum.
+-- The compare before the sum is the compare of the sum.
 use mathlib.Core.Path.{refl, sym, _∙_}
 use native.Mathlib.Omega.{arith}
 use Rattle.sched.proofs.ListLaws.{two-long, two-fits-same, two-fits-mixed}

@@ -1,4 +1,4 @@
--- The two cases of the definition.
+-- No operation of 0 items.
 use borrow.Author.Tests.{eq-eqb, ne-eqb}
 use Rattle.sched.specs.Scheduler.{someOf}
 use borrow.Author.Needs.{needs}

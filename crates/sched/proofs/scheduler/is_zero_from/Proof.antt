@@ -1,4 +1,4 @@
--- The two cases of the definition.
+-- Whether the amount is 0; a refusal stays.
 use borrow.Author.Needs.{needs}
 use Rattle.sched.proofs.scheduler.is_zero_from.Statement.{statement}
 use Rattle.sched.proofs.scheduler.is_zero_from.Tie as tie

@@ -1,4 +1,4 @@
--- The three cases of the definition.
+-- Each operation starts where the lengths before it end.
 use borrow.Author.Needs.{needs}
 use Rattle.sched.proofs.list.ScheduledOperations.cumulative_in.Statement.{statement}
 use Rattle.sched.proofs.list.ScheduledOperations.cumulative_in.Tie as tie

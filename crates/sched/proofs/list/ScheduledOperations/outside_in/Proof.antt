@@ -1,4 +1,4 @@
--- The three cases of the definition; the sum fits.
+-- Each range starts where the one before it ends; the sum fits.
 use native.Mathlib.Nat.{zero-add}
 use borrow.Author.Needs.{needs}
 use Rattle.sched.proofs.list.ScheduledOperations.outside_in.Statement.{statement}

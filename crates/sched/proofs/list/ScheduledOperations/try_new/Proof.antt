@@ -1,4 +1,4 @@
--- The three cases of the definition.
+-- None and one are taken as they are, two are tested.
 use borrow.Author.Needs.{needs}
 use Rattle.sched.proofs.list.ScheduledOperations.try_new.Statement.{statement}
 use Rattle.sched.proofs.list.ScheduledOperations.try_new.Tie as tie

@@ -1,4 +1,4 @@
--- The two cases of the definition.
+-- 6 above the greatest length; else the scheduler after it.
 use borrow.Author.Tests.{lt-ltb, le-ltb}
 use Rattle.sched.specs.Scheduler.{registerIn}
 use borrow.Author.Needs.{needs}

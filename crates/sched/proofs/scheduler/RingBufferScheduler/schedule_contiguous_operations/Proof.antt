@@ -9,10 +9,7 @@ schedule-in-requires : tie.Need-schedule-in-requires
 schedule-in-requires c κs = sound _ _ (sym (c .before .s .given .1) ∙ c .before .before .before .demand-soundness .ensures)
 
 returns : tie.Need-returns
-returns c =
-    let at-s = c .before .before in
-    let at-demand-soundness = at-s .before .before in
-    rw (← (sym (at-s .s .given .1) ∙ at-demand-soundness .demand-soundness .ensures), c .schedule-in .ensures)
+returns c = rw (← (sym (c .before .before .s .given .1) ∙ c .before .before .before .before .demand-soundness .ensures), c .schedule-in .ensures)
 
 returns-2 : tie.Need-returns-2
 returns-2 c = rw (← (sym (c .before .e .given .1) ∙ c .before .before .before .demand-soundness .ensures))

@@ -357,7 +357,7 @@ stripring_moved_answer stripring_writing_end_write_in_place(stripring_writing_en
 /* The counter to send to the reading end. */
 stripring_written_counter_answer stripring_writing_end_send(stripring_writing_end e);
 
-/* Takes a counter of the reading end's; 10 if the space would be smaller than before. 3 to 5 are tested with it too. */
+/* Takes a counter of the reading end's; 10 if the space would be smaller than before. Before that 4 and 5 are tested with it. */
 stripring_writing_end_answer stripring_writing_end_take(stripring_writing_end e, stripring_read_counter counter);
 
 /* The same, and the end with the counter is stored in *end. 10. */
@@ -384,7 +384,7 @@ stripring_moved_answer stripring_reading_end_read_in_place(stripring_reading_end
 /* The counter to send to the writing end. */
 stripring_read_counter_answer stripring_reading_end_send(stripring_reading_end e);
 
-/* Takes a counter of the writing end's; 10 if the data would be less than before. 3 to 5 are tested with it too. */
+/* Takes a counter of the writing end's; 10 if the data would be less than before. Before that 3 and 5 are tested with it. */
 stripring_reading_end_answer stripring_reading_end_take(stripring_reading_end e, stripring_written_counter counter);
 
 /* The same, and the end with the counter is stored in *end. 10. */

@@ -21,7 +21,7 @@ use Rattle.sched.proofs.RegisterLaws.{move-of, move-refused}
 use Rattle.copies.specs.declared.Copied.{Copied}
 use Rattle.copies.specs.declared.lent.Told.{Told}
 use Rattle.copies.specs.declared.Ready.the-variants as ready
-use Rattle.copies.specs.declared.Refusal.the-variants.{Scheduler, RingMemory}
+use Rattle.copies.specs.declared.refusal.Refusal.the-variants.{Scheduler, RingMemory}
 use Rattle.copies.specs.Ring.{put, get}
 use Rattle.copies.specs.Copies.{part, pasted, readyFrom, readyOf, movedBy, Left, left, writeOf, readOf}
 use Rattle.copies.specs.Lent.{toldOf, recordAfter, LentLeaves}

@@ -29,8 +29,8 @@ use Rattle.copies.specs.declared.Copied.{Copied}
 use Rattle.copies.specs.declared.Copied.the-variants as copied
 use Rattle.copies.specs.declared.Ready.{Ready}
 use Rattle.copies.specs.declared.Ready.the-variants as ready
-use Rattle.copies.specs.declared.Refusal.the-variants.{Scheduler, RingMemory}
-use Rattle.copies.specs.declared.Refusal.{Refusal}
+use Rattle.copies.specs.declared.refusal.Refusal.the-variants.{Scheduler, RingMemory}
+use Rattle.copies.specs.declared.refusal.Refusal.{Refusal}
 use Rattle.copies.specs.declared.lent.Told.{Told}
 use Rattle.copies.specs.declared.lent.Told.the-variants as told
 use Rattle.copies.specs.Ring.{get}

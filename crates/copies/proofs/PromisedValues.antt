@@ -6,14 +6,14 @@ use Rattle.modular.proofs.Saying.{Keeps}
 use Rattle.sched.specs.Refusal.{packed, unpacked}
 use Rattle.sched.proofs.Given as given
 use Rattle.sched.proofs.PromisedValues as sched
-use Rattle.copies.specs.declared.Refusal.{Refusal}
-use Rattle.copies.specs.declared.Refusal.the-variants.{Scheduler, RingMemory}
-use Rattle.copies.specs.Copies.{numberOf, valuesOf}
+use Rattle.copies.specs.declared.refusal.Refusal.{Refusal}
+use Rattle.copies.specs.declared.refusal.Refusal.the-variants.{Scheduler, RingMemory}
+use Rattle.copies.specs.Refusal.{numberOf, valuesOf}
 use Rattle.copies.proofs.Says.{Refusal-number-says, values-says}
-use Rattle.copies.proofs.Refusal.number.Kinds as Refusal-number-kinds
-use Rattle.copies.proofs.Refusal.number.Reads as Refusal-number
-use Rattle.copies.proofs.Refusal.values.Kinds as values-kinds
-use Rattle.copies.proofs.Refusal.values.Reads as values
+use Rattle.copies.proofs.refusal.Refusal.number.Kinds as Refusal-number-kinds
+use Rattle.copies.proofs.refusal.Refusal.number.Reads as Refusal-number
+use Rattle.copies.proofs.refusal.Refusal.values.Kinds as values-kinds
+use Rattle.copies.proofs.refusal.Refusal.values.Reads as values
 
 pub number-some : (e : Refusal) → 0 < numberOf e
 number-some (Scheduler e) = given.number-some e

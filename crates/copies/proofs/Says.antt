@@ -7,7 +7,8 @@ use Rattle.modular.proofs.Saying.{Says, Leaves}
 use Rattle.sched.specs.declared.scheduler.RingBufferScheduler.{RingBufferScheduler}
 use Rattle.sched.specs.Refusal.{packed}
 use Rattle.copies.specs.declared.lent.Told.{Told}
-use Rattle.copies.specs.Copies.{numberOf, valuesOf, Left, readyOf, writeOf, readOf}
+use Rattle.copies.specs.Refusal.{numberOf, valuesOf}
+use Rattle.copies.specs.Copies.{Left, readyOf, writeOf, readOf}
 use Rattle.copies.specs.Lent.{toldOf, recordAfter, WriteLeaves, ReadLeaves}
 use Rattle.copies.specs.Number.{bigEndianOf}
 use Rattle.copies.proofs.number.big_endian.Kinds as big-endian-kinds
@@ -18,10 +19,10 @@ use Rattle.copies.proofs.write.Kinds as write-kinds
 use Rattle.copies.proofs.write.Reads as write
 use Rattle.copies.proofs.read.Kinds as read-kinds
 use Rattle.copies.proofs.read.Reads as read
-use Rattle.copies.proofs.Refusal.number.Kinds as Refusal-number-kinds
-use Rattle.copies.proofs.Refusal.number.Reads as Refusal-number
-use Rattle.copies.proofs.Refusal.values.Kinds as values-kinds
-use Rattle.copies.proofs.Refusal.values.Reads as values
+use Rattle.copies.proofs.refusal.Refusal.number.Kinds as Refusal-number-kinds
+use Rattle.copies.proofs.refusal.Refusal.number.Reads as Refusal-number
+use Rattle.copies.proofs.refusal.Refusal.values.Kinds as values-kinds
+use Rattle.copies.proofs.refusal.Refusal.values.Reads as values
 
 pub demand-ring-memory-says : Says 0 demand-ring-memory-kinds.ps demand-ring-memory-kinds.r demand-ring-memory.Learnt (λ κs a. readyOf (a .0) (a .1 .0))
 demand-ring-memory-says κs a z ws p = p

@@ -1,7 +1,7 @@
 -- What a copy answers, and what it leaves in the lent memory.
 use Prim.Native.Nat.{ℕ, _+_, min}
 use mathlib.Core.Bool.{cond}
-use mathlib.Core.List.{List, [], _++_}
+use mathlib.Core.List.{List, _++_}
 use lib.Dec.{eqb}
 use lib.ListN.{length, take, drop}
 use Rattle.sched.specs.declared.operation.OperationType.the-variants.{Read, Write}
@@ -9,24 +9,13 @@ use Rattle.sched.specs.declared.scheduler.Checked.{Checked}
 use Rattle.sched.specs.declared.scheduler.Checked.the-variants as checked
 use Rattle.sched.specs.declared.register.Move.{Move}
 use Rattle.sched.specs.declared.scheduler.RingBufferScheduler.{RingBufferScheduler}
-use Rattle.sched.specs.Refusal as sched
 use Rattle.sched.specs.Scheduler.{soundOf, dataIn, spaceIn, offsetIn, advancedIn}
 use Rattle.copies.specs.declared.Copied.{Copied}
 use Rattle.copies.specs.declared.Copied.the-variants as copied
 use Rattle.copies.specs.declared.Ready.{Ready}
 use Rattle.copies.specs.declared.Ready.the-variants as ready
-use Rattle.copies.specs.declared.Refusal.{Refusal}
-use Rattle.copies.specs.declared.Refusal.the-variants.{Scheduler, RingMemory}
+use Rattle.copies.specs.declared.refusal.Refusal.the-variants.{Scheduler, RingMemory}
 use Rattle.copies.specs.Ring.{put, get}
-
--- the paper's number of a refusal, and its values
-abbrev pub numberOf : Refusal → ℕ
-numberOf (Scheduler e) = sched.numberOf e
-numberOf RingMemory = 9
-
-abbrev pub valuesOf : Refusal → List ℕ
-valuesOf (Scheduler e) = sched.valuesOf e
-valuesOf RingMemory = []
 
 -- 1 to 5, then 9 where the lent ring memory is not L bytes
 unfoldable pub readyFrom : ℕ → Checked → Ready

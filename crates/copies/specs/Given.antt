@@ -16,7 +16,7 @@ use Rattle.copies.specs.declared.lent.Told.{Told}
 use Rattle.copies.specs.declared.lent.Told.the-variants as told
 use Rattle.copies.specs.declared.Ready.{Ready}
 use Rattle.copies.specs.declared.Ready.the-variants as ready
-use Rattle.copies.specs.Copies.{numberOf, valuesOf}
+use Rattle.copies.specs.Refusal.{numberOf, valuesOf}
 
 -- ---- what a caller is told: a number and its values, 0 and none where nothing is refused
 pub record Verdict : Type 0 where

@@ -1,3 +1,4 @@
+pub mod Refusal
 pub mod Ring
 pub mod Number
 pub mod Copies

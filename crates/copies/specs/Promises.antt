@@ -8,7 +8,7 @@ use Rattle.sched.specs.declared.operation.OperationType.the-variants.{Read, Wri
 use Rattle.sched.specs.declared.register.Registered.the-variants as registered
 use Rattle.sched.specs.declared.scheduler.RingBufferScheduler.{RingBufferScheduler}
 use Rattle.sched.specs.Scheduler.{greatestIn, offsetIn, registerOf}
-use Rattle.copies.specs.declared.Refusal.{Refusal}
+use Rattle.copies.specs.declared.refusal.Refusal.{Refusal}
 use Rattle.copies.specs.declared.lent.Told.{Told}
 use Rattle.copies.specs.declared.lent.Told.the-variants as told
 use Rattle.copies.specs.Ring.{get}

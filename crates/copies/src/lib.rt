@@ -5,49 +5,23 @@ ghost use mathlib.Core.Path.{_≡_};
 ghost use mathlib.Core.List.{_++_};
 ghost use Prim.Native.Nat.{_+_, _≤_, _<_};
 ghost use lib.ListN.{length, take, drop};
-ghost use Rattle.sched.specs.Refusal.{packed};
 ghost use Rattle.copies.specs.Ring.{put, get};
-ghost use Rattle.copies.specs.Copies.{numberOf, valuesOf, pasted, part, left, readyOf, movedBy, writeOf, readOf};
+ghost use Rattle.copies.specs.Copies.{pasted, part, left, readyOf, movedBy, writeOf, readOf};
 use sched::Checked;
 use sched::Move;
 use sched::MoveAnswer;
 use sched::OperationType;
 use sched::RingBufferScheduler;
-use sched::Values;
 
 mod lent;
 mod number;
+mod refusal;
 
 pub use lent::Told;
 pub use lent::read_lent;
 pub use lent::write_lent;
 pub use number::big_endian;
-
-// Why a copy refuses: what the scheduler refuses, or 9.
-pub enum Refusal {
-    Scheduler(sched::Refusal),
-    RingMemory,
-}
-
-impl Refusal {
-    pub fn number(self) -> u64
-        ensures { λ r. ⌜ r ≡ numberOf self ⌝ }
-    {
-        match self {
-            Refusal::Scheduler(e) => e.number(),
-            Refusal::RingMemory => 9,
-        }
-    }
-
-    pub fn values(self) -> Values
-        ensures { λ r. ⌜ r ≡ packed (valuesOf self) ⌝ }
-    {
-        match self {
-            Refusal::Scheduler(e) => e.values(),
-            Refusal::RingMemory => Values::none(),
-        }
-    }
-}
+pub use refusal::Refusal;
 
 // A sound scheduler over ring memory of its length, or why it is none.
 pub enum Ready {

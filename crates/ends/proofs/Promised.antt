@@ -24,7 +24,7 @@ use Rattle.sched.proofs.Given.{number-some}
 use Rattle.sched.specs.Given as given
 use Rattle.copies.specs.declared.Copied.{Copied}
 use Rattle.copies.specs.declared.Copied.the-variants as copied
-use Rattle.copies.specs.declared.Refusal.the-variants.{Scheduler}
+use Rattle.copies.specs.declared.refusal.Refusal.the-variants.{Scheduler}
 use Rattle.copies.specs.Copies.{writeOf, readOf}
 use Rattle.copies.specs.Lent.{toldOf, recordAfter}
 use Rattle.copies.specs.Given.{Verdict, verdict, Exactly, GivenCopy, ofChecked, ofCopied}

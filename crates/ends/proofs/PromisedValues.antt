@@ -7,7 +7,7 @@ use Rattle.sched.specs.Refusal.{packed, unpacked}
 use Rattle.copies.proofs.PromisedValues as copies
 use Rattle.ends.specs.declared.refusal.Refusal.{Refusal}
 use Rattle.ends.specs.declared.refusal.Refusal.the-variants.{Copy, RanBack}
-use Rattle.ends.specs.Ends.{numberOf, valuesOf}
+use Rattle.ends.specs.Refusal.{numberOf, valuesOf}
 use Rattle.ends.proofs.Says.{Refusal-number-says, values-says}
 use Rattle.ends.proofs.refusal.Refusal.number.Kinds as Refusal-number-kinds
 use Rattle.ends.proofs.refusal.Refusal.number.Reads as Refusal-number

@@ -13,7 +13,8 @@ use Rattle.ends.specs.declared.refusal.Taken.{Taken}
 use Rattle.ends.specs.declared.writing_end.WrittenCounter.{WrittenCounter}
 use Rattle.ends.specs.declared.writing_end.WritingEnd.{WritingEnd}
 use Rattle.ends.specs.Lent.{toldWrote, writerAfter, WriteLeaves, toldGot, readerAfter, ReadLeaves, takenOfWriting, writerTook, TakeReadLeaves, takenOfReading, readerTook, TakeWrittenLeaves}
-use Rattle.ends.specs.Ends.{numberOf, valuesOf, writingEndOf, readingEndOf, WroteLeft, wroteOf, GotLeft, gotOf, writtenSentOf, readSentOf, takeReadOf, takeWrittenOf}
+use Rattle.ends.specs.Refusal.{numberOf, valuesOf}
+use Rattle.ends.specs.Ends.{writingEndOf, readingEndOf, WroteLeft, wroteOf, GotLeft, gotOf, writtenSentOf, readSentOf, takeReadOf, takeWrittenOf}
 use Rattle.ends.proofs.writing_end.WritingEnd.new.Kinds as WritingEnd-new-kinds
 use Rattle.ends.proofs.writing_end.WritingEnd.new.Reads as WritingEnd-new
 use Rattle.ends.proofs.writing_end.WritingEnd.from_counters.Kinds as WritingEnd-from-counters-kinds

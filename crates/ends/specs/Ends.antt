@@ -1,7 +1,7 @@
 -- What the calls of the two ends answer.
 use Prim.Native.Nat.{ℕ}
 use mathlib.Core.Bool.{cond}
-use mathlib.Core.List.{List, []}
+use mathlib.Core.List.{List}
 use lib.Dec.{ltb}
 use Rattle.sched.specs.declared.counter.AmountAnswer.{AmountAnswer}
 use Rattle.sched.specs.declared.counter.AmountAnswer.the-variants as amount
@@ -14,10 +14,8 @@ use Rattle.sched.specs.declared.scheduler.RingBufferScheduler.{RingBufferSchedu
 use Rattle.sched.specs.Scheduler.{schedulerOf, soundOf, counterAnswerOf, greatestOf}
 use Rattle.copies.specs.declared.Copied.{Copied}
 use Rattle.copies.specs.declared.Copied.the-variants as copied
-use Rattle.copies.specs.declared.Refusal.the-variants.{Scheduler}
-use Rattle.copies.specs.Copies as copies
+use Rattle.copies.specs.declared.refusal.Refusal.the-variants.{Scheduler}
 use Rattle.copies.specs.Copies.{writeOf, readOf}
-use Rattle.ends.specs.declared.refusal.Refusal.{Refusal}
 use Rattle.ends.specs.declared.refusal.Refusal.the-variants.{Copy, RanBack}
 use Rattle.ends.specs.declared.refusal.Taken.{Taken}
 use Rattle.ends.specs.declared.refusal.Taken.the-variants as taken
@@ -37,15 +35,6 @@ use Rattle.ends.specs.declared.reading_end.ReadingEndAnswer.{ReadingEndA
 use Rattle.ends.specs.declared.reading_end.ReadingEndAnswer.the-variants as reading
 use Rattle.ends.specs.declared.reading_end.Got.{Got}
 use Rattle.ends.specs.declared.reading_end.Got.the-variants as got
-
--- the paper's number of a refusal, and its values
-abbrev pub numberOf : Refusal → ℕ
-numberOf (Copy e) = copies.numberOf e
-numberOf RanBack = 10
-
-abbrev pub valuesOf : Refusal → List ℕ
-valuesOf (Copy e) = copies.valuesOf e
-valuesOf RanBack = []
 
 abbrev pub writingEnd : RingBufferScheduler → WritingEnd
 writingEnd s = record { scheduler = s }

@@ -1,3 +1,4 @@
+pub mod Refusal
 pub mod Ends
 pub mod Lent
 pub mod World

@@ -22,7 +22,8 @@ use Rattle.ends.specs.declared.reading_end.ReadingEndAnswer.{ReadingEndA
 use Rattle.ends.specs.declared.reading_end.ReadingEndAnswer.the-variants as reading
 use Rattle.ends.specs.declared.reading_end.Got.{Got}
 use Rattle.ends.specs.declared.reading_end.Got.the-variants as got
-use Rattle.ends.specs.Ends.{numberOf, writingEnd, readingEnd, WroteLeft, wroteOf, GotLeft, gotOf, writtenSentOf, readSentOf, takeReadOf, takeWrittenOf}
+use Rattle.ends.specs.Refusal.{numberOf}
+use Rattle.ends.specs.Ends.{writingEnd, readingEnd, WroteLeft, wroteOf, GotLeft, gotOf, writtenSentOf, readSentOf, takeReadOf, takeWrittenOf}
 use Rattle.ends.specs.World.{Kind, Copied, Taken, Sent, sent, unsent, done, refused, HoldsFrom}
 
 -- an answer of a call as one of the world's; a refused call leaves the caller's record as it was

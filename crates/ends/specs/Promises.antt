@@ -32,7 +32,7 @@ use Rattle.ends.specs.declared.reading_end.ReadingEndAnswer.{ReadingEndA
 use Rattle.ends.specs.declared.reading_end.ReadingEndAnswer.the-variants as reading
 use Rattle.ends.specs.declared.reading_end.Got.{Got}
 use Rattle.ends.specs.declared.reading_end.Got.the-variants as got
-use Rattle.ends.specs.Ends.{numberOf, valuesOf}
+use Rattle.ends.specs.Refusal.{numberOf, valuesOf}
 
 -- ---- taking a counter: s is the end's own record, u the one with the new counter, and the end does t. The own record is tested,
 -- then the new one, and then whether the space of a writing end, or the data of a reading end, would shrink

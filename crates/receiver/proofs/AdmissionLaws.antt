@@ -11,7 +11,7 @@ use Rattle.sched.specs.declared.scheduler.RingBufferScheduler.{RingBufferSchedu
 use Rattle.sched.specs.Scheduler.{IsSound, soundOf}
 use Rattle.copies.specs.declared.Ready.{Ready}
 use Rattle.copies.specs.declared.Ready.the-variants as ready
-use Rattle.copies.specs.declared.Refusal.the-variants.{RingMemory}
+use Rattle.copies.specs.declared.refusal.Refusal.the-variants.{RingMemory}
 use Rattle.copies.specs.Copies.{readyFrom, readyOf}
 use Rattle.receiver.proofs.AnsweredLaws.{ready-sound}
 use Rattle.receiver.specs.Admission.{soundReady, readyWith, admissionFrom, admissionOf}

@@ -14,7 +14,7 @@ use Rattle.sched.specs.declared.scheduler.Checked.the-variants as checked
 use Rattle.sched.specs.declared.scheduler.RingBufferScheduler.{RingBufferScheduler}
 use Rattle.sched.specs.Scheduler.{IsSound, soundOf, dataIn, spaceIn, offsetIn}
 use Rattle.copies.specs.declared.Ready.the-variants as ready
-use Rattle.copies.specs.declared.Refusal.the-variants.{RingMemory}
+use Rattle.copies.specs.declared.refusal.Refusal.the-variants.{RingMemory}
 use Rattle.copies.specs.Copies.{readyFrom, readyOf}
 use Rattle.copies.specs.Ring.{get}
 use Rattle.receiver.proofs.ChunkLaws.{announced, held}

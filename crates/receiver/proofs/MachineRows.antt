@@ -9,7 +9,7 @@ use Rattle.modular.specs.Modulus.{subMod, addMod}
 use Rattle.sched.specs.declared.refusal.Refusal.the-variants.{DataAvailOutOfBounds}
 use Rattle.sched.specs.declared.scheduler.RingBufferScheduler.{RingBufferScheduler}
 use Rattle.sched.specs.Scheduler.{schedulerOf, soundOf}
-use Rattle.copies.specs.declared.Refusal.the-variants.{Scheduler, RingMemory}
+use Rattle.copies.specs.declared.refusal.Refusal.the-variants.{Scheduler, RingMemory}
 use Rattle.copies.specs.Copies.{readyFrom}
 use Rattle.states.specs.declared.answer.Answer.{Answer}
 use Rattle.receiver.specs.declared.call.Call.{Call}

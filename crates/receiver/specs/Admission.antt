@@ -7,7 +7,7 @@ use Rattle.sched.specs.declared.scheduler.RingBufferScheduler.{RingBufferSchedu
 use Rattle.sched.specs.Scheduler.{soundOf}
 use Rattle.copies.specs.declared.Ready.{Ready}
 use Rattle.copies.specs.declared.Ready.the-variants as ready
-use Rattle.copies.specs.declared.Refusal.the-variants.{Scheduler}
+use Rattle.copies.specs.declared.refusal.Refusal.the-variants.{Scheduler}
 use Rattle.copies.specs.Copies.{readyOf}
 use Rattle.states.specs.State.{fitsState}
 use Rattle.receiver.specs.declared.admission.Admission.{Admission}

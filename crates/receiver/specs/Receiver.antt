@@ -9,7 +9,7 @@ use Rattle.sched.specs.declared.scheduler.Checked.the-variants as checked
 use Rattle.sched.specs.declared.scheduler.RingBufferScheduler.{RingBufferScheduler}
 use Rattle.sched.specs.Chunk.{bodyFits}
 use Rattle.sched.specs.Scheduler.{soundOf, dataIn, spaceIn, offsetIn, advancedIn}
-use Rattle.copies.specs.declared.Refusal.the-variants.{Scheduler}
+use Rattle.copies.specs.declared.refusal.Refusal.the-variants.{Scheduler}
 use Rattle.copies.specs.Number.{numberFrom}
 use Rattle.copies.specs.Ring.{get}
 use Rattle.receiver.specs.declared.announcement.Announced.{Announced}

@@ -14,6 +14,11 @@ use sched::RingBufferScheduler;
 use states::Failure;
 use states::Violation;
 
+// A header is 2 bits of format, 14 of the strip's tag and 48 of the body's length: 2^62 and 2^48.
+const FORMATS: u64 = 4611686018427387904;
+
+const LENGTHS: u64 = 281474976710656;
+
 // The scheduler with the chunk written, and the count of descriptors; or what is wrong.
 pub enum Announced {
     Chunk {
@@ -36,10 +41,10 @@ fn write_chunk(s: RingBufferScheduler, fds: u64, header: u64) -> Announced
     requires { ⌜ IsSound s × (8 ≤ spaceIn s) ⌝ }
     ensures { λ r. ⌜ r ≡ headerIn s fds header ⌝ }
 {
-    if header / 4611686018427387904 != 0 {
+    if header / FORMATS != 0 {
         return Announced::Failed(Failure::Protocol(Violation::UnknownHeader));
     }
-    let len = header % 281474976710656;
+    let len = header % LENGTHS;
     if len == 0 {
         return Announced::Failed(Failure::Protocol(Violation::InvalidChunkLength));
     }

@@ -159,7 +159,7 @@ fn read_live(receiver: ReceiverState, max_new_fds: u64, dst_len: u64) -> Step
     if dst_len == 0 {
         return Step::Of(dropping(receiver, source, Outcome::read(0, 0)).finish());
     }
-    if receiver.pending_ack_count == 18446744073709551615 {
+    if receiver.pending_ack_count == ReceiverState::MOST_PENDING {
         return Step::Refused(Refusal::PendingFull);
     }
     if max_operation_len(source, OperationType::Read) == 0 {

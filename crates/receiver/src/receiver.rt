@@ -74,6 +74,8 @@ impl Outcome {
 impl ReceiverState {
     const GREATEST_BATCH: u64 = 128;
 
+    pub(crate) const MOST_PENDING: u64 = 18446744073709551615;
+
     pub(crate) fn with_scheduler(self, scheduler: RingBufferScheduler) -> ReceiverState
         ensures { λ r. ⌜ r ≡ withScheduler self scheduler ⌝ }
     {

@@ -1,7 +1,7 @@
 -- The paper's number of a refusal, and its values.
 use Prim.Native.Nat.{ℕ}
 use mathlib.Core.List.{List, [], _∷_}
-use Rattle.copies.specs.Copies as copies
+use Rattle.copies.specs.Refusal as copies
 use Rattle.states.specs.declared.refusal.Refusal.{Refusal}
 use Rattle.states.specs.declared.refusal.Refusal.the-variants.{Copy, AnswerMissing, Misfit, PendingFull}
 

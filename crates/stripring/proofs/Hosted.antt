@@ -12,8 +12,9 @@ use borrow.Fn.Kinds.{endedOf}
 use Rattle.modular.proofs.Saying.{Says, Leaves}
 use Rattle.sched.specs.declared.refusal.Refusal as sched
 use Rattle.sched.specs.declared.refusal.Refusal.the-variants.{ZeroBufferLength, BufferTooLarge, ItemsWrittenOutOfBounds, ItemsReadOutofBounds, DataAvailOutOfBounds, OperationTooLarge, OperationTooLong, InconsistentOperationType}
-use Rattle.copies.specs.declared.Refusal.the-variants.{Scheduler, RingMemory}
-use Rattle.ends.specs.Ends.{numberOf, WroteLeft, wroteLeft, GotLeft, gotLeft}
+use Rattle.copies.specs.declared.refusal.Refusal.the-variants.{Scheduler, RingMemory}
+use Rattle.ends.specs.Refusal.{numberOf}
+use Rattle.ends.specs.Ends.{WroteLeft, wroteLeft, GotLeft, gotLeft}
 use Rattle.ends.specs.Plain.{definitions, Demand3-of}
 use Rattle.ends.proofs.Plain.{demand3-plain}
 use Rattle.ends.proofs.PromisedValues.{number-some as end-refusal-some}

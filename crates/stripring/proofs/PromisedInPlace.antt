@@ -7,7 +7,7 @@ use native.Mathlib.Omega.{arith}
 use Rattle.copies.proofs.Promised.{KeepsLeft}
 use Rattle.modular.proofs.Saying.{Keeps}
 use Rattle.sched.proofs.Given.{number-some}
-use Rattle.copies.specs.declared.Refusal.the-variants as copies
+use Rattle.copies.specs.declared.refusal.Refusal.the-variants as copies
 use Rattle.ends.specs.declared.reading_end.Got.{Got}
 use Rattle.ends.specs.declared.reading_end.Got.the-variants as got
 use Rattle.ends.specs.declared.reading_end.ReadingEndAnswer as ends-reading
@@ -18,7 +18,8 @@ use Rattle.ends.specs.declared.writing_end.WritingEndAnswer as ends-writing
 use Rattle.ends.specs.declared.writing_end.WritingEndAnswer.the-variants as writing
 use Rattle.ends.specs.declared.writing_end.Wrote.{Wrote}
 use Rattle.ends.specs.declared.writing_end.Wrote.the-variants as wrote
-use Rattle.ends.specs.Ends.{wroteOf, gotOf, takeReadOf, takeWrittenOf, numberOf}
+use Rattle.ends.specs.Refusal.{numberOf}
+use Rattle.ends.specs.Ends.{wroteOf, gotOf, takeReadOf, takeWrittenOf}
 use Rattle.stripring.specs.declared.flat.MovedAnswer.{MovedAnswer}
 use Rattle.stripring.specs.declared.flat.ReadingEnd.{ReadingEnd}
 use Rattle.stripring.specs.declared.flat.Refusal.{Refusal}

@@ -4,10 +4,10 @@ use Rattle.sched.specs.declared.refusal.Refusal as sched
 use Rattle.sched.specs.declared.values.Values.{Values}
 use Rattle.sched.specs.Refusal as of-sched
 use Rattle.sched.specs.Refusal.{packed}
-use Rattle.copies.specs.declared.Refusal as copies
-use Rattle.copies.specs.Copies as of-copies
+use Rattle.copies.specs.declared.refusal.Refusal as copies
+use Rattle.copies.specs.Refusal as of-copies
 use Rattle.ends.specs.declared.refusal.Refusal as ends
-use Rattle.ends.specs.Ends as of-ends
+use Rattle.ends.specs.Refusal as of-ends
 use Rattle.states.specs.declared.refusal.Refusal as receiver
 use Rattle.states.specs.Refusal as of-receiver
 use Rattle.stripring.specs.declared.flat.Refusal.{Refusal}

@@ -3,7 +3,7 @@ use Prim.Native.Nat.{ℕ}
 use mathlib.Core.Bool.{cond}
 use mathlib.Core.List.{List}
 use lib.Dec.{eqb}
-use Rattle.copies.specs.declared.Refusal.the-variants.{Scheduler, RingMemory}
+use Rattle.copies.specs.declared.refusal.Refusal.the-variants.{Scheduler, RingMemory}
 use Rattle.ends.specs.Ends.{WroteLeft, GotLeft}
 use Rattle.ends.specs.Plain.{Calls}
 use Rattle.ends.specs.declared.reading_end.Got.{Got}

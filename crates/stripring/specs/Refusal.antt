@@ -3,7 +3,7 @@ use mathlib.Core.Bool.{cond}
 use lib.Dec.{eqb}
 use Rattle.sched.specs.declared.refusal.Refusal as sched
 use Rattle.sched.specs.declared.refusal.Refusal.the-variants.{ZeroBufferLength, BufferTooLarge, ItemsWrittenOutOfBounds, ItemsReadOutofBounds, DataAvailOutOfBounds, OperationTooLarge, OperationTooLong, InconsistentOperationType}
-use Rattle.copies.specs.declared.Refusal.the-variants.{Scheduler, RingMemory}
+use Rattle.copies.specs.declared.refusal.Refusal.the-variants.{Scheduler, RingMemory}
 use Rattle.states.specs.declared.refusal.Refusal as receiver
 use Rattle.states.specs.declared.refusal.Refusal.the-variants.{Copy, AnswerMissing, Misfit, PendingFull}
 use Rattle.stripring.specs.declared.flat.Refusal.{Refusal}

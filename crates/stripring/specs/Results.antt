@@ -42,11 +42,11 @@ use Rattle.sched.specs.declared.scheduler.Checked.{Checked}
 use Rattle.sched.specs.declared.register.Registered.the-variants as registered
 use Rattle.sched.specs.declared.register.Registered.{Registered}
 use Rattle.sched.specs.declared.scheduler.RingBufferScheduler.{RingBufferScheduler}
-use Rattle.copies.specs.Copies as of-copies
+use Rattle.copies.specs.Refusal as of-copies
 use Rattle.copies.specs.declared.Copied.the-variants as copied
 use Rattle.copies.specs.declared.Copied.{Copied}
-use Rattle.copies.specs.declared.Refusal as copies
-use Rattle.ends.specs.Ends as of-ends
+use Rattle.copies.specs.declared.refusal.Refusal as copies
+use Rattle.ends.specs.Refusal as of-ends
 use Rattle.ends.specs.declared.reading_end.Got.the-variants as got
 use Rattle.ends.specs.declared.reading_end.Got.{Got}
 use Rattle.ends.specs.declared.reading_end.ReadCounter.{ReadCounter}

@@ -1,7 +1,7 @@
 -- The scheduler's refusal has its own values; 9 has none.
 use borrow.Author.Needs.{needs}
-use Rattle.copies.proofs.Refusal.values.Statement.{statement}
-use Rattle.copies.proofs.Refusal.values.Tie as tie
+use Rattle.copies.proofs.refusal.Refusal.values.Statement.{statement}
+use Rattle.copies.proofs.refusal.Refusal.values.Tie as tie
 
 returns : tie.Need-returns
 returns c = rw (c .before .before .self .given .1, c .values .ensures)

@@ -26,19 +26,19 @@ use Rattle.receiver.specs.Receiver.{withScheduler, headerIn, byteIn}
 use Rattle.receiver.specs.declared.announcement.Announced.{Announced}
 use Rattle.receiver.specs.declared.announcement.Announced.the-variants as announced
 use Rattle.states.specs.declared.answer.Received.{Received}
-use Rattle.states.specs.declared.answer.Received.the-variants as received
+use Rattle.receiver.specs.declared.receiver.Beside.{Beside}
 use Rattle.receiver.specs.declared.receiver.ReceiverState.{ReceiverState}
 
 -- a chunk can be handed out
-pub announces-chunk : (a : Announced) (q : ReceiverState) (u : RingBufferScheduler) (fds : ℕ) → a ≡ announced.Chunk u fds → Announces a q → Handing (withScheduler q u)
-announces-chunk (announced.Chunk v f) q u fds e h =
+pub announces-chunk : (a : Announced) (q : ReceiverState) (u : RingBufferScheduler) (b : Beside) → a ≡ announced.Chunk u b → Announces a q → Handing (withScheduler q u)
+announces-chunk (announced.Chunk v f) q u b e h =
     let same : v ≡ u = cc in
     record { sound = rw (sym same) (h .0); counted = h .1 }
-announces-chunk (announced.Failed f) q u fds e h = let z : _≡_ {A = ℕ} 0 1 = cc in absurd (omega arith)
+announces-chunk (announced.Failed f) q u b e h = let z : _≡_ {A = ℕ} 0 1 = cc in absurd (omega arith)
 
 -- what is announced of a sound scheduler is sound, of its length, and holds data behind the header
 abbrev pub Chunked : RingBufferScheduler → Announced → Type 0
-Chunked s (announced.Chunk u fds) = IsSound u × (u .«buf_len» ≡ s .«buf_len») × (1 ≤ dataIn u) × (offsetIn u Read .0 ≡ (offsetIn s Read .0 + 8) % s .«buf_len»)
+Chunked s (announced.Chunk u b) = IsSound u × (u .«buf_len» ≡ s .«buf_len») × (1 ≤ dataIn u) × (offsetIn u Read .0 ≡ (offsetIn s Read .0 + 8) % s .«buf_len»)
 Chunked s (announced.Failed f) = Unit {0}
 
 by-test : (s : RingBufferScheduler) (x y : Announced) (b : Bool) → (b ≡ true → Chunked s x) → (b ≡ false → Chunked s y) → Chunked s (cond b x y)
@@ -49,8 +49,8 @@ some : (n d : ℕ) → eqb n 0 ≡ false → n ≤ d → 1 ≤ d
 some zero d z l = let y : _≡_ {A = ℕ} 0 1 = cc in absurd (omega arith)
 some (suc n) d z l = omega (arith, l)
 
-module _ (s : RingBufferScheduler) (h : IsSound s) (fds : ℕ) where
-  header-chunked : (n : ℕ) → 8 ≤ spaceIn s → Chunked s (headerIn s fds n)
+module _ (s : RingBufferScheduler) (h : IsSound s) (b : Beside) where
+  header-chunked : (n : ℕ) → 8 ≤ spaceIn s → Chunked s (headerIn s b n)
   header-chunked n g =
       by-test s _ _ (eqb (n / 2 ^ 62) 0)
       (λ e. by-test s _ _ (eqb (n % 2 ^ 48) 0) (λ e. tt)
@@ -58,19 +58,19 @@ module _ (s : RingBufferScheduler) (h : IsSound s) (fds : ℕ) where
       (λ e. (announced s h g (n % 2 ^ 48) (fits-by _ _ e), refl, some (n % 2 ^ 48) _ z (held s h g (n % 2 ^ 48) (fits-by _ _ e)), advanced-offset s h 8 Read)) (λ e. tt)))
       (λ e. tt)
 
-  pub byte-chunked : (ring : List ℕ) (b : ℕ) → Chunked s (byteIn ring s b fds)
-  byte-chunked ring b =
-      by-test s _ _ (eqb b 0)
+  pub byte-chunked : (ring : List ℕ) (byte : ℕ) → Chunked s (byteIn ring s byte b)
+  byte-chunked ring byte =
+      by-test s _ _ (eqb byte 0)
       (λ e. by-test s _ _ (ltb (spaceIn s) 8) (λ e. tt)
       (λ e. header-chunked (numberFrom 0 (get (s .«buf_len») ring (offsetIn s Read .0) 8)) (ltb-false _ _ e)))
       (λ e. tt)
 
 chunk-announces : (s : RingBufferScheduler) (q : ReceiverState) → q .«pending_ack_count» < 2 ^ 64 - 1 → (r : Announced) → Chunked s r → Announces r q
-chunk-announces s q p (announced.Chunk u fds) k = (k .0, p)
+chunk-announces s q p (announced.Chunk u b) k = (k .0, p)
 chunk-announces s q p (announced.Failed f) k = tt
 
-pub byte-announces : (q : ReceiverState) (s : RingBufferScheduler) → IsSound s → q .«pending_ack_count» < 2 ^ 64 - 1 → (fds : ℕ) (ring : List ℕ) (b : ℕ) (r : Announced) → r ≡ byteIn ring s b fds → Announces r q
-byte-announces q s h p fds ring b r e = chunk-announces s q p r (rw e (byte-chunked s h fds ring b))
+pub byte-announces : (q : ReceiverState) (s : RingBufferScheduler) → IsSound s → q .«pending_ack_count» < 2 ^ 64 - 1 → (b : Beside) (ring : List ℕ) (byte : ℕ) (r : Announced) → r ≡ byteIn ring s byte b → Announces r q
+byte-announces q s h p b ring byte r e = chunk-announces s q p r (rw e (byte-chunked s h b ring byte))
 
 -- a ready record is sound, over memory of its length
 pub ready-sound : (s u : RingBufferScheduler) (n : ℕ) → ready.Sound u ≡ readyOf s n → IsSound s × (n ≡ s .«buf_len»)
@@ -92,6 +92,6 @@ below n t f = by (ltb n (2 ^ 64 - 1)) refl
     by true e = ltb-true _ _ e
     by false e = absurd (f (omega (arith, t, ltb-false n (2 ^ 64 - 1) e)))
 
--- a byte that was received
-pub byte-sized : (x : Received) (q : ReceiverState) (n b fds : ℕ) → x ≡ received.Byte b fds → ByteSized x n q → n ≡ q .scheduler .«buf_len»
-byte-sized x q n b fds e h = subst (λ (y : Received). ByteSized y n q) e h
+-- what was received is known
+pub byte-sized : (x y : Received) (q : ReceiverState) (n : ℕ) → x ≡ y → ByteSized x n q → ByteSized y n q
+byte-sized x y q n e h = subst (λ (z : Received). ByteSized z n q) e h

@@ -10,12 +10,15 @@ use Rattle.receiver.specs.Receiver.{failedOutcome}
 use Rattle.receiver.specs.Call.{outcomeIn}
 use Rattle.receiver.specs.Cases.{Chunk, BeginsRead, is-terminated, none-asked, awaits, holds-data, TakesIn}
 use Rattle.receiver.specs.Handed.{comingTo}
+use Rattle.receiver.specs.Promise.{nothing-more}
 use Rattle.states.specs.declared.answer.Answer.{Answer}
 use Rattle.receiver.specs.declared.call.Call.{Call}
 use Rattle.receiver.specs.declared.call.Ending.{Ending}
 use Rattle.receiver.specs.declared.call.Ending.the-variants.{Dropped}
 use Rattle.receiver.specs.declared.call.Phase.{Phase}
 use Rattle.receiver.specs.declared.call.Phase.the-variants as phase
+use Rattle.receiver.specs.declared.call.Wanted.{Wanted}
+use Rattle.receiver.specs.declared.receiver.Beside.{Beside}
 use Rattle.receiver.specs.declared.receiver.Came.{Came}
 use Rattle.receiver.specs.declared.receiver.Came.the-variants as came
 use Rattle.receiver.specs.declared.receiver.Outcome.{Outcome}
@@ -45,7 +48,7 @@ module _ (asked : ℕ) (t : RingBufferScheduler) where
 
   -- one that waits for its announcement is still as it was begun
   abbrev AwaitsIn : Phase → Call → Type 0
-  AwaitsIn (phase.Receive top n) c = (n ≡ asked) × (asked ≢ 0) × (c .receiver .scheduler ≡ t) × (dataIn t ≡ 0)
+  AwaitsIn (phase.Receive w) c = (w .«dst_len» ≡ asked) × (asked ≢ 0) × (c .receiver .scheduler ≡ t) × (dataIn t ≡ 0)
   AwaitsIn (phase.Send batch e) c = Unit {0}
   AwaitsIn (phase.Shutdown e) c = Unit {0}
   AwaitsIn (phase.Finished o) c = Unit {0}
@@ -58,7 +61,7 @@ module _ (asked : ℕ) (t : RingBufferScheduler) where
 -- ---- what a step keeps of that
 module _ (asked : ℕ) (t : RingBufferScheduler) where
   settled-awaits : (c : Call) (ph : Phase) → Settled ph → AwaitsIn asked t ph c
-  settled-awaits c (phase.Receive top n) h = absurd h
+  settled-awaits c (phase.Receive w) h = absurd h
   settled-awaits c (phase.Send batch e) h = tt
   settled-awaits c (phase.Shutdown e) h = tt
   settled-awaits c (phase.Finished o) h = tt
@@ -75,8 +78,8 @@ module _ (asked : ℕ) (t : RingBufferScheduler) where
         awaits = settled-awaits c (c .phase) (h .settled);
       }
 
-  hands-on : (r : ReceiverState) (fds : ℕ) (c : Call) → Hands r asked fds c → Source asked t (r .scheduler) → OnTheWay asked t c
-  hands-on r fds c h k =
+  hands-on : (r : ReceiverState) (b : Beside) (c : Call) → Hands r asked b c → Source asked t (r .scheduler) → OnTheWay asked t c
+  hands-on r b c h k =
       record {
         copies = subst (λ (o : Outcome). Copies asked t o (c .source)) (sym (h .comes)) (subst (λ (s : RingBufferScheduler). (h .bytes ≡ min asked (dataIn s)) × Source asked t s) (sym (h .source)) (h .amount, k));
         awaits = settled-awaits c (c .phase) (h .settled);
@@ -84,7 +87,7 @@ module _ (asked : ℕ) (t : RingBufferScheduler) where
 
   module _ (c : Call) (ring : List ℕ) (a : Answer) (d : Call) (on : OnTheWay asked t c) where
     took-on : (n : ℕ) → n ≡ asked → c .receiver .scheduler ≡ t → dataIn t ≡ 0 → Took (c .receiver) (c .source) n d → OnTheWay asked t d
-    took-on n e s z (handed r m fds k l h) = hands-on r fds d (subst (λ (x : ℕ). Hands r x fds d) e h) (chunk z (subst (λ (x : RingBufferScheduler). Chunk x m (r .scheduler)) s k))
+    took-on n e s z (handed r m b k l h) = hands-on r b d (subst (λ (x : ℕ). Hands r x b d) e h) (chunk z (subst (λ (x : RingBufferScheduler). Chunk x m (r .scheduler)) s k))
     took-on n e s z (failed f h) = spends-on (c .receiver) (c .source) (Dropped (failedOutcome f)) 0 d h tt
 
     still : d ≡ c → OnTheWay asked t d
@@ -94,21 +97,21 @@ module _ (asked : ℕ) (t : RingBufferScheduler) where
     copies-as ph p = subst (λ (x : Phase). Copies asked t (comingTo x) (c .source)) p (on .copies)
 
     pub step-on : (ph : Phase) → c .phase ≡ ph → TakesIn ph c ring a d → OnTheWay asked t d
-    step-on (phase.Receive top n) p (inl (i, e)) = still e
-    step-on (phase.Receive top n) p (inr (i, (x, says, h))) =
-        let w : AwaitsIn asked t (phase.Receive top n) c = subst (λ (y : Phase). AwaitsIn asked t y c) p (on .awaits) in
-        took-on n (w .0) (w .2) (w .3) (took (c .receiver) (c .source) ring n (λ z. w .1 (sym (w .0) ∙ z)) x d h .1)
+    step-on (phase.Receive w) p (inl (i, e)) = still e
+    step-on (phase.Receive w) p (inr (i, (x, says, h))) =
+        let k : AwaitsIn asked t (phase.Receive w) c = subst (λ (y : Phase). AwaitsIn asked t y c) p (on .awaits) in
+        took-on (w .«dst_len») (k .0) (k .2) (k .3) (took (c .receiver) (c .source) ring w (λ z. k .1 (sym (k .0) ∙ z)) x d h .1)
     step-on (phase.Send batch e) p (inl (i, k)) = still k
     step-on (phase.Send batch e) p (inr (i, (x, says, h))) = spends-on (c .receiver) (c .source) e (sentIn x) d (sent-spends (c .receiver) (c .source) e x d h) (copies-as (phase.Send batch e) p)
     step-on (phase.Shutdown e) p (x, says, h) = spends-on (c .receiver) (c .source) e 0 d (shut-spends (c .receiver) (c .source) e x d h) (copies-as (phase.Shutdown e) p)
     step-on (phase.Finished o) p h = still h
 
 -- ---- the beginning
-pub read-on : (q : ReceiverState) (top asked : ℕ) (c : Call) → BeginsRead q top asked c → OnTheWay asked (q .scheduler) c
-read-on q top asked _ (is-terminated p) = record { copies = tt; awaits = tt }
-read-on q top asked _ (none-asked l z) = record { copies = (omega (arith, z), unasked z); awaits = tt }
-read-on q top asked _ (awaits r z) = record { copies = tt; awaits = (refl, r .some, refl, z) }
-read-on q top asked c (holds-data r l h) = hands-on asked (q .scheduler) q 0 c (hands q asked 0 (r .some) l c h) (own (λ z. omega (arith, l, z)))
+pub read-on : (q : ReceiverState) (w : Wanted) (c : Call) → BeginsRead q w c → OnTheWay (w .«dst_len») (q .scheduler) c
+read-on q w _ (is-terminated p) = record { copies = tt; awaits = tt }
+read-on q w _ (none-asked l z) = record { copies = (omega (arith, z), unasked z); awaits = tt }
+read-on q w _ (awaits r z) = record { copies = tt; awaits = (refl, r .some, refl, z) }
+read-on q w c (holds-data r l h) = hands-on (w .«dst_len») (q .scheduler) q nothing-more c (hands q (w .«dst_len») nothing-more (r .some) l c h) (own (λ z. omega (arith, l, z)))
 
 -- ---- the scheduler that is copied by is sound and of the record's length
 module _ (asked : ℕ) (t : RingBufferScheduler) (h : IsSound t) where

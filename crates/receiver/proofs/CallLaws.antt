@@ -9,6 +9,7 @@ use Rattle.sched.specs.Scheduler.{dataIn}
 use Rattle.sched.specs.declared.scheduler.RingBufferScheduler.{RingBufferScheduler}
 use Rattle.receiver.specs.declared.call.Ending.{Ending}
 use Rattle.receiver.specs.declared.call.Phase.{Phase}
+use Rattle.receiver.specs.declared.call.Wanted.{Wanted}
 use Rattle.receiver.specs.declared.receiver.ReceiverState.{ReceiverState}
 use Rattle.states.specs.declared.state.OperationalState.{OperationalState}
 use Rattle.states.specs.declared.answer.Answer.{Answer}
@@ -29,8 +30,8 @@ module _ (q : ReceiverState) (s : RingBufferScheduler) (e : Ending) where
 pub blocked-by : (q : ReceiverState) (s : RingBufferScheduler) (st : OperationalState) → q .state ≡ st → blockedBy st q s ≡ blockedCall q s
 blocked-by q s st h = ap (λ (x : OperationalState). blockedBy x q s) (sym h)
 
-pub read-by : (q : ReceiverState) (top asked : ℕ) (st : OperationalState) → q .state ≡ st → readBy st q top asked ≡ readCall q top asked
-read-by q top asked st h = ap (λ (x : OperationalState). readBy x q top asked) (sym h)
+pub read-by : (q : ReceiverState) (w : Wanted) (st : OperationalState) → q .state ≡ st → readBy st q w ≡ readCall q w
+read-by q w st h = ap (λ (x : OperationalState). readBy x q w) (sym h)
 
 -- the test of the data, where it was asked for as `m`
 module _ (s : RingBufferScheduler) (m : ℕ) (e : m ≡ dataIn s) where

@@ -22,11 +22,10 @@ use Rattle.receiver.specs.Cases as cases
 use Rattle.states.specs.Promise.{violation-1}
 use Rattle.receiver.specs.Cases.{Meets, is-told, is-dropped, none-met, ComesTo, told-so, dropped-to, Closes, is-normal, shut-before, asks, Flushes, none-pending, sends, Serves, failed-before, flushes, Advances, TakesSent, none-went, some-went, send-blocks, send-fails, HandsOut, a-part, all-of-it, Fails, Blocks, goes-on, is-drained, Chunk, Header, TakesReceived, announces, header-violates, receive-blocks, receive-fails, Reading, BeginsRead, is-terminated, none-asked, awaits, holds-data, Goes}
 use Rattle.states.specs.Promise.{Holds}
-use Rattle.receiver.specs.Promise.{body}
 use Rattle.sched.specs.Chunk.{bodyFits}
 use Rattle.sched.proofs.ChunkLaws.{fits-by}
 use Rattle.copies.specs.Number.{numberFrom}
-use Rattle.receiver.specs.Receiver.{readOutcome, failedOutcome, withScheduler, withState, withPending, batchIn, headerIn, announcedIn, byteIn, handedOut}
+use Rattle.receiver.specs.Receiver.{noneBeside, besideByte, readOutcome, failedOutcome, withScheduler, withState, withPending, batchIn, headerIn, announcedIn, byteIn, handedOut}
 use Rattle.states.specs.State.{failureIn, advanceIn}
 use Rattle.receiver.specs.declared.announcement.Announced.{Announced}
 use Rattle.receiver.specs.declared.announcement.Announced.the-variants as announced
@@ -37,6 +36,8 @@ use Rattle.receiver.specs.declared.call.Ending.{Ending}
 use Rattle.receiver.specs.declared.call.Ending.the-variants.{Dropped, Told}
 use Rattle.receiver.specs.declared.call.Phase.the-variants as phase
 use Rattle.receiver.specs.declared.call.Step.{Step}
+use Rattle.receiver.specs.declared.call.Wanted.{Wanted}
+use Rattle.receiver.specs.declared.receiver.Beside.{Beside}
 use Rattle.receiver.specs.declared.receiver.ReceiverState.{ReceiverState}
 use Rattle.states.specs.declared.state.Failure.{Failure}
 use Rattle.states.specs.declared.state.Failure.the-variants.{Io, Protocol}
@@ -123,7 +124,7 @@ module _ (q : ReceiverState) (s : RingBufferScheduler) (e : Ending) where
       by false z = send-fails (eqb-false n 11 z) (drains-with (Io n))
 
 -- ---- reading
-module _ (q : ReceiverState) (sound : IsSound (q .scheduler)) (asked fds : ℕ) where
+module _ (q : ReceiverState) (sound : IsSound (q .scheduler)) (asked : ℕ) (beside : Beside) where
   abbrev d : ℕ
   d = dataIn (q .scheduler)
 
@@ -141,21 +142,21 @@ module _ (q : ReceiverState) (sound : IsSound (q .scheduler)) (asked fds : ℕ) 
     handed-part : n < d → handedOut q n ≡ withScheduler q u
     handed-part e = ap (λ (b : Bool). cond b (withPending (withScheduler q u) (q .«pending_ack_count» + 1)) (withScheduler q u)) (ne-eqb (dataIn u) 0 (λ z. omega (arith, reads .fill, e, z)))
 
-  pub hands-out : HandsOut q asked fds (handOutCall asked fds q)
+  pub hands-out : HandsOut q asked beside (handOutCall asked beside q)
   hands-out = by (ltb asked d) refl
     where
-      by : (b : Bool) → ltb asked d ≡ b → HandsOut q asked fds (handOutCall asked fds q)
+      by : (b : Bool) → ltb asked d ≡ b → HandsOut q asked beside (handOutCall asked beside q)
       by true z =
           let l : asked < d = ltb-true asked d z in
           let m : asked ≡ min asked d = omega (arith, l) in
-          subst (λ (n : ℕ). HandsOut q asked fds (serviceCall (handedOut q n) (q .scheduler) (Dropped (readOutcome n fds)))) m
-          (subst (λ (r : ReceiverState). HandsOut q asked fds (serviceCall r (q .scheduler) (Dropped (readOutcome asked fds)))) (sym (handed-part asked (omega (arith, l)) l))
+          subst (λ (n : ℕ). HandsOut q asked beside (serviceCall (handedOut q n) (q .scheduler) (Dropped (readOutcome n beside)))) m
+          (subst (λ (r : ReceiverState). HandsOut q asked beside (serviceCall r (q .scheduler) (Dropped (readOutcome asked beside)))) (sym (handed-part asked (omega (arith, l)) l))
           (a-part l (reads asked (omega (arith, l))) (serves _ _ _)))
       by false z =
           let l : d ≤ asked = ltb-false asked d z in
           let m : d ≡ min asked d = omega (arith, l) in
-          subst (λ (n : ℕ). HandsOut q asked fds (serviceCall (handedOut q n) (q .scheduler) (Dropped (readOutcome n fds)))) m
-          (subst (λ (r : ReceiverState). HandsOut q asked fds (serviceCall r (q .scheduler) (Dropped (readOutcome d fds)))) (sym (handed-all d (omega arith) refl))
+          subst (λ (n : ℕ). HandsOut q asked beside (serviceCall (handedOut q n) (q .scheduler) (Dropped (readOutcome n beside)))) m
+          (subst (λ (r : ReceiverState). HandsOut q asked beside (serviceCall r (q .scheduler) (Dropped (readOutcome d beside)))) (sym (handed-all d (omega arith) refl))
           (all-of-it l (reads d (omega arith)) (serves _ _ _)))
 
 module _ (q : ReceiverState) (s : RingBufferScheduler) where
@@ -172,22 +173,21 @@ module _ (q : ReceiverState) (s : RingBufferScheduler) where
 
 -- ---- an announcement
 
--- what is announced of a scheduler: a chunk of it, with these descriptors, or a violation
-module _ (s : RingBufferScheduler) (sound : IsSound s) (fds : ℕ) where
+-- what is announced of a scheduler: a chunk of it, with this beside, or a violation
+module _ (s : RingBufferScheduler) (sound : IsSound s) (b : Beside) where
   abbrev Tells : Announced → Type 0
-  Tells (announced.Chunk u f) = (f ≡ fds) × Chunk s (dataIn u) u × IsSound u
+  Tells (announced.Chunk u _) = Chunk s (dataIn u) u × IsSound u
   Tells (announced.Failed (Protocol v)) = Unit {0}
   Tells (announced.Failed (Io e)) = ⊥
 
-  by-test : (x y : Announced) (b : Bool) → (b ≡ true → Tells x) → (b ≡ false → Tells y) → Tells (cond b x y)
+  by-test : (x y : Announced) (t : Bool) → (t ≡ true → Tells x) → (t ≡ false → Tells y) → Tells (cond t x y)
   by-test x y true f g = f refl
   by-test x y false f g = g refl
 
   module _ (empty : dataIn s ≡ 0) where
-    a-chunk : (n : ℕ) → 8 ≤ spaceIn s → n + 8 ≤ spaceIn s → Tells (announced.Chunk (advancedIn (advancedIn (advancedIn s Write 8) Read 8) Write n) fds)
+    a-chunk : (n : ℕ) → 8 ≤ spaceIn s → n + 8 ≤ spaceIn s → Tells (announced.Chunk (advancedIn (advancedIn (advancedIn s Write 8) Read 8) Write n) b)
     a-chunk n g l =
         let e : dataIn (advancedIn (advancedIn (advancedIn s Write 8) Read 8) Write n) ≡ n = omega (arith, chunk.holds s sound g n l, empty) in (
-          refl,
           rw e (record {
             headed = advancedIn s Write 8;
             heading = moved s sound 8 Write g;
@@ -198,70 +198,68 @@ module _ (s : RingBufferScheduler) (sound : IsSound s) (fds : ℕ) where
           chunk.announced s sound g n l,
         )
 
-    header-tells : (h : ℕ) → 8 ≤ spaceIn s → Tells (headerIn s fds h)
+    header-tells : (h : ℕ) → 8 ≤ spaceIn s → Tells (headerIn s b h)
     header-tells h g =
         by-test _ _ (eqb (h / 2 ^ 62) 0)
         (λ e. by-test _ _ (eqb (h % 2 ^ 48) 0) (λ e. tt)
         (λ z. by-test _ _ (bodyFits (spaceIn s) (h % 2 ^ 48)) (λ e. a-chunk (h % 2 ^ 48) g (fits-by _ _ e)) (λ e. tt)))
         (λ e. tt)
 
-    announced-tells : (ring : List ℕ) → Tells (announcedIn ring s fds)
+    announced-tells : (ring : List ℕ) → Tells (announcedIn ring s b)
     announced-tells ring = by-test _ _ (ltb (spaceIn s) 8) (λ e. tt) (λ e. header-tells (numberFrom 0 (get (s .«buf_len») ring (offsetIn s Read .0) 8)) (ltb-false _ _ e))
 
 -- a record that waits for an announcement
-module _ (q : ReceiverState) (s : RingBufferScheduler) (sound : IsSound (q .scheduler)) (empty : dataIn (q .scheduler) ≡ 0) (ring : List ℕ) (asked : ℕ) where
-  hears : (fds : ℕ) (x : Announced) → Tells (q .scheduler) sound fds x → Header q s ring asked fds (saidBy x) → TakesReceived q s ring asked (received.Byte 0 fds) (announcedCall x asked q s)
-  hears fds (announced.Chunk v f) t h =
-      subst (λ (k : ℕ). TakesReceived q s ring asked (received.Byte 0 fds) (handOutCall asked k (withScheduler q v))) (sym (t .0))
-      (announces (subst (λ (k : ℕ). Header q s ring asked fds (body (dataIn v) k)) (t .0) h) (t .1) (hands-out (withScheduler q v) (t .2) asked fds))
+module _ (q : ReceiverState) (s : RingBufferScheduler) (sound : IsSound (q .scheduler)) (empty : dataIn (q .scheduler) ≡ 0) (ring : List ℕ) (w : Wanted) where
+  hears : (fds : ℕ) (x : Announced) → Tells (q .scheduler) sound (besideByte fds) x → Header q s ring w (besideByte fds) (saidBy x) → TakesReceived q s ring w (received.Byte 0 fds) (announcedCall x w q s)
+  hears fds (announced.Chunk v b) t h = announces h (t .0) (hands-out (withScheduler q v) (t .1) (w .«dst_len») b)
   hears fds (announced.Failed (Protocol v)) t h = header-violates h (numbered v) (fails q s (Protocol v))
   hears fds (announced.Failed (Io e)) t h = absurd t
 
-  takes-byte : (fds b : ℕ) → TakesReceived q s ring asked (received.Byte b fds) (announcedCall (byteIn ring (q .scheduler) b fds) asked q s)
-  takes-byte fds b = by (eqb b 0) refl
+  takes-byte : (fds byte : ℕ) → TakesReceived q s ring w (received.Byte byte fds) (announcedCall (byteIn ring (q .scheduler) byte (besideByte fds)) w q s)
+  takes-byte fds byte = by (eqb byte 0) refl
     where
-      by : (x : Bool) → eqb b 0 ≡ x → TakesReceived q s ring asked (received.Byte b fds) (announcedCall (cond x (announcedIn ring (q .scheduler) fds) (announced.Failed (Protocol InvalidChunkAnnouncement))) asked q s)
+      by : (x : Bool) → eqb byte 0 ≡ x → TakesReceived q s ring w (received.Byte byte fds) (announcedCall (cond x (announcedIn ring (q .scheduler) (besideByte fds)) (announced.Failed (Protocol InvalidChunkAnnouncement))) w q s)
       by true z =
-          let x = announcedIn ring (q .scheduler) fds in
-          subst (λ (k : ℕ). TakesReceived q s ring asked (received.Byte k fds) (announcedCall x asked q s)) (sym (eqb-true b 0 z))
-          (hears fds x (announced-tells (q .scheduler) sound fds empty ring) (announcement-says (q .scheduler) sound empty fds ring))
-      by false z = cases.byte-violates (eqb-false b 0 z) violation-1 (fails q s (Protocol InvalidChunkAnnouncement))
+          let x = announcedIn ring (q .scheduler) (besideByte fds) in
+          subst (λ (k : ℕ). TakesReceived q s ring w (received.Byte k fds) (announcedCall x w q s)) (sym (eqb-true byte 0 z))
+          (hears fds x (announced-tells (q .scheduler) sound (besideByte fds) empty ring) (announcement-says (q .scheduler) sound empty (besideByte fds) ring))
+      by false z = cases.byte-violates (eqb-false byte 0 z) violation-1 (fails q s (Protocol InvalidChunkAnnouncement))
 
   module _ (live : (f : Failure) → q .state ≢ Terminated f) where
-    takes-failed : (n : ℕ) → TakesReceived q s ring asked (received.Failed n) (announcedCall (announced.Failed (Io n)) asked q s)
+    takes-failed : (n : ℕ) → TakesReceived q s ring w (received.Failed n) (announcedCall (announced.Failed (Io n)) w q s)
     takes-failed n = by (eqb n 11) refl
       where
-        by : (x : Bool) → eqb n 11 ≡ x → TakesReceived q s ring asked (received.Failed n) (cond x (blockedBy (q .state) q s) (failedCall (Io n) q s))
-        by true z = subst (λ (k : ℕ). TakesReceived q s ring asked (received.Failed k) (blockedBy (q .state) q s)) (sym (eqb-true n 11 z)) (receive-blocks (blocks q s live))
+        by : (x : Bool) → eqb n 11 ≡ x → TakesReceived q s ring w (received.Failed n) (cond x (blockedBy (q .state) q s) (failedCall (Io n) q s))
+        by true z = subst (λ (k : ℕ). TakesReceived q s ring w (received.Failed k) (blockedBy (q .state) q s)) (sym (eqb-true n 11 z)) (receive-blocks (blocks q s live))
         by false z = receive-fails (eqb-false n 11 z) (fails q s (Io n))
 
-    pub takes-received : (place : ℕ) (x : Received) → Goes (TakesReceived q s ring asked x) (afterReceive q s ring x asked place)
-    takes-received place (received.Byte b fds) = takes-byte fds b
+    pub takes-received : (place : ℕ) (x : Received) → Goes (TakesReceived q s ring w x) (afterReceive q s ring x w place)
+    takes-received place (received.Byte byte fds) = takes-byte fds byte
     takes-received place (received.Failed n) = takes-failed n
     takes-received place received.Misfit = tt
 
 -- ---- the beginning of a read
-module _ (q : ReceiverState) (sound : IsSound (q .scheduler)) (top asked : ℕ) where
+module _ (q : ReceiverState) (sound : IsSound (q .scheduler)) (w : Wanted) where
   abbrev Begins : Step → Type 0
-  Begins = Goes (BeginsRead q top asked)
+  Begins = Goes (BeginsRead q w)
 
   either : (b : Bool) (x y : Step) → (b ≡ true → Begins x) → (b ≡ false → Begins y) → Begins (cond b x y)
   either true x y f g = f refl
   either false x y f g = g refl
 
-  begins-live : ((f : Failure) → q .state ≢ Terminated f) → Begins (liveCall q top asked)
+  begins-live : ((f : Failure) → q .state ≢ Terminated f) → Begins (liveCall q w)
   begins-live live =
-      either (eqb asked 0) _ _ (λ z. none-asked live (eqb-true _ _ z))
+      either (eqb (w .«dst_len») 0) _ _ (λ z. none-asked live (eqb-true _ _ z))
       (λ some. either (eqb (q .«pending_ack_count») (2 ^ 64 - 1)) _ _ (λ z. tt)
       (λ counts.
-      let r : Reading q asked = record { live = live; some = eqb-false _ _ some; counts = eqb-false _ _ counts } in
+      let r : Reading q (w .«dst_len») = record { live = live; some = eqb-false _ _ some; counts = eqb-false _ _ counts } in
       either (eqb (dataIn (q .scheduler)) 0) _ _ (λ z. awaits r (eqb-true _ _ z))
-      (λ z. holds-data r (omega (arith, eqb-false (dataIn (q .scheduler)) 0 z)) (hands-out q sound asked 0))))
+      (λ z. holds-data r (omega (arith, eqb-false (dataIn (q .scheduler)) 0 z)) (hands-out q sound (w .«dst_len») noneBeside))))
 
-  begins-by : (st : OperationalState) → q .state ≡ st → Begins (readBy st q top asked)
+  begins-by : (st : OperationalState) → q .state ≡ st → Begins (readBy st q w)
   begins-by Normal p = begins-live (λ f e. live-other f (sym p ∙ e))
   begins-by (Draining c) p = begins-live (λ f e. drains-other c f (sym p ∙ e))
   begins-by (Terminated f) p = is-terminated p
 
-  pub begins-read : Begins (readCall q top asked)
+  pub begins-read : Begins (readCall q w)
   begins-read = begins-by (q .state) refl

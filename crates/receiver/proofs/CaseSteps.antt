@@ -14,10 +14,10 @@ use Rattle.receiver.proofs.CaseLaws.{comes, meets, closes-by, serves, a
 use Rattle.receiver.proofs.Made.{Made}
 use Rattle.receiver.specs.Admission.{admissionOf}
 use Rattle.states.specs.Answer.{interruptedOf, receivedOf, sentOf, shutOf}
-use Rattle.receiver.specs.Call.{serviceCall, advanceCall, sentCall, unsentCall, afterSend, afterShut, afterReceive, readCall, admittedStep, beginReadOf, beginServiceOf, beginShutdownOf, looksBy, looksAt, resumedBy, resumedOf, steppedBy, answeredFrom, answeredOf}
-use Rattle.receiver.specs.Cases.{none-met, Closes, is-normal, shut-before, asks, Flushes, none-pending, sends, Serves, failed-before, flushes, TakesSent, TakesReceived, TakesShut, is-shut, is-not, HandsOut, a-part, all-of-it, BeginsRead, is-terminated, none-asked, awaits, holds-data, BeginsService, BeginsShutdown, Looks, at-a-byte, at-no-byte, at-a-send, at-a-shutdown, at-the-end, ResumesIn, Resumes, Interrupts, TakesIn, Takes, Answered, Goes}
+use Rattle.receiver.specs.Call.{serviceCall, advanceCall, sentCall, unsentCall, afterSend, afterShut, afterReceive, readCall, admittedStep, wanted, beginReadOf, beginServiceOf, beginShutdownOf, looksBy, looksAt, resumedBy, resumedOf, steppedBy, answeredFrom, answeredOf}
+use Rattle.receiver.specs.Cases.{none-met, Closes, is-normal, shut-before, asks, Flushes, none-pending, sends, Serves, failed-before, flushes, TakesSent, TakesReceived, TakesShut, is-shut, is-not, HandsOut, a-part, all-of-it, a-want, BeginsRead, is-terminated, none-asked, awaits, holds-data, BeginsService, BeginsShutdown, Looks, at-a-byte, at-no-byte, at-a-send, at-a-shutdown, at-the-end, ResumesIn, Resumes, Interrupts, TakesIn, Takes, Answered, Goes}
 use Rattle.states.specs.Promise.{AByte, SaysReceived, a-byte, closed, receive-failed, no-receive, SaysSent, so-many}
-use Rattle.receiver.specs.Promise.{Batch, all, most}
+use Rattle.receiver.specs.Promise.{Batch, all, most, nothing-more}
 use Rattle.receiver.specs.Receiver.{doneOutcome, batchIn, bySent}
 use Rattle.receiver.specs.declared.admission.Admission.{Admission}
 use Rattle.receiver.specs.declared.admission.Admission.the-variants as admission
@@ -33,6 +33,8 @@ use Rattle.receiver.specs.declared.call.Phase.{Phase}
 use Rattle.receiver.specs.declared.call.Phase.the-variants as phase
 use Rattle.receiver.specs.declared.call.Step.{Step}
 use Rattle.receiver.specs.declared.call.Step.the-variants.{Of, Refused}
+use Rattle.receiver.specs.declared.call.Wanted.{Wanted}
+use Rattle.receiver.specs.declared.receiver.Beside.{Beside}
 use Rattle.receiver.specs.declared.receiver.ReceiverState.{ReceiverState}
 use Rattle.states.specs.declared.refusal.Refusal.the-variants.{Misfit}
 use Rattle.states.specs.declared.state.Failure.{Failure}
@@ -53,7 +55,7 @@ then-goes P Q (Refused r) f h = tt
 
 -- ---- what a call waits for that the rules made
 abbrev WaitsIn : Phase → ReceiverState → Type 0
-WaitsIn (phase.Receive top asked) q = IsSound (q .scheduler) × (dataIn (q .scheduler) ≡ 0) × ((f : Failure) → q .state ≡ Terminated f → ⊥)
+WaitsIn (phase.Receive w) q = IsSound (q .scheduler) × (dataIn (q .scheduler) ≡ 0) × ((f : Failure) → q .state ≡ Terminated f → ⊥)
 WaitsIn (phase.Send batch e) q = Batch (q .«pending_ack_count») batch
 WaitsIn (phase.Shutdown e) q = Unit {0}
 WaitsIn (phase.Finished o) q = Unit {0}
@@ -75,26 +77,26 @@ module _ (q : ReceiverState) (s : RingBufferScheduler) (e : Ending) where
   shutdown-waits _ (shut-before p t) = tt
   shutdown-waits _ (asks n p) = tt
 
-hand-out-waits : (q : ReceiverState) (asked fds : ℕ) (c : Call) → HandsOut q asked fds c → Waits c
-hand-out-waits q asked fds c (a-part l r h) = service-waits _ _ _ c h
-hand-out-waits q asked fds c (all-of-it l r h) = service-waits _ _ _ c h
+hand-out-waits : (q : ReceiverState) (asked : ℕ) (b : Beside) (c : Call) → HandsOut q asked b c → Waits c
+hand-out-waits q asked b c (a-part l r h) = service-waits _ _ _ c h
+hand-out-waits q asked b c (all-of-it l r h) = service-waits _ _ _ c h
 
-read-waits : (q : ReceiverState) → IsSound (q .scheduler) → (top asked : ℕ) (c : Call) → BeginsRead q top asked c → Waits c
-read-waits q sound top asked _ (is-terminated p) = tt
-read-waits q sound top asked _ (none-asked l z) = tt
-read-waits q sound top asked _ (awaits r z) = (sound, z, r .live)
-read-waits q sound top asked c (holds-data r l h) = hand-out-waits q asked 0 c h
+read-waits : (q : ReceiverState) → IsSound (q .scheduler) → (w : Wanted) (c : Call) → BeginsRead q w c → Waits c
+read-waits q sound w _ (is-terminated p) = tt
+read-waits q sound w _ (none-asked l z) = tt
+read-waits q sound w _ (awaits r z) = (sound, z, r .live)
+read-waits q sound w c (holds-data r l h) = hand-out-waits q (w .«dst_len») nothing-more c h
 
 -- ---- what the rules make of a call, and of an answer to it
 module _ (c : Call) (sound : IsSound (c .receiver .scheduler)) where
   resumes-by : (ph : Phase) → Goes (ResumesIn ph c) (resumedBy ph c)
-  resumes-by (phase.Receive top asked) = begins-read (c .receiver) sound top asked
+  resumes-by (phase.Receive w) = begins-read (c .receiver) sound w
   resumes-by (phase.Send batch e) = serves (c .receiver) (c .source) e
   resumes-by (phase.Shutdown e) = closes-by (c .receiver) (c .source) e (c .receiver .state) refl
   resumes-by (phase.Finished o) = refl
 
   resumed-waits : (ph : Phase) → c .phase ≡ ph → (d : Call) → ResumesIn ph c d → Waits d
-  resumed-waits (phase.Receive top asked) p d h = read-waits (c .receiver) sound top asked d h
+  resumed-waits (phase.Receive w) p d h = read-waits (c .receiver) sound w d h
   resumed-waits (phase.Send batch e) p d h = service-waits (c .receiver) (c .source) e d h
   resumed-waits (phase.Shutdown e) p d h = shutdown-waits (c .receiver) (c .source) e d h
   resumed-waits (phase.Finished o) p d h = subst Waits (sym h) (subst (λ (ph : Phase). WaitsIn ph (c .receiver)) (sym p) tt)
@@ -130,10 +132,11 @@ module _ (d : Call) (ring : List ℕ) (a : Answer) (place : ℕ) where
   takes-shuts e shut.Misfit = tt
 
   takes-by : (ph : Phase) → WaitsIn ph (d .receiver) → Goes (TakesIn ph d ring a) (steppedBy ph d ring a place)
-  takes-by (phase.Receive top asked) (sound, empty, live) =
-      waited-out (phase.Receive top asked) _ inl
-      (λ no. then-goes (TakesReceived (d .receiver) (d .source) ring asked (receivedOf top a)) (TakesIn (phase.Receive top asked) d ring a) (afterReceive (d .receiver) (d .source) ring (receivedOf top a) asked place) (λ c h. inr (no, (receivedOf top a, received-says a top, h)))
-      (takes-received (d .receiver) (d .source) sound empty ring asked live place (receivedOf top a)))
+  takes-by (phase.Receive w) (sound, empty, live) =
+      let x = receivedOf (w .«max_new_fds») a in
+      waited-out (phase.Receive w) _ inl
+      (λ no. then-goes (TakesReceived (d .receiver) (d .source) ring w x) (TakesIn (phase.Receive w) d ring a) (afterReceive (d .receiver) (d .source) ring x w place) (λ c h. inr (no, (x, received-says a (w .«max_new_fds»), h)))
+      (takes-received (d .receiver) (d .source) sound empty ring w live place x))
   takes-by (phase.Send batch e) b =
       let same : batch ≡ batchIn (d .receiver) = batch-is (d .receiver .«pending_ack_count») batch b in
       let x = sentOf (batchIn (d .receiver)) a in
@@ -164,22 +167,22 @@ module _ (c : Call) (h : Made c) where
       (λ p. subst (λ (x : Step). Goes (Takes c ring a) (answeredFrom x ring a place)) (sym (h .resumes)) (takes-by c ring a place (c .phase) made-waits))
 
 -- where the ring is looked at, which the table of the numbers cites
-looks-by : (a : Answer) (n top asked : ℕ) (x : Received) → SaysReceived a top x → Looks a n (phase.Receive top asked) (looksBy x n)
-looks-by a n top asked _ (a-byte h) = at-a-byte h
-looks-by a n top asked _ (closed k) = at-no-byte (λ (h : AByte a top). omega (arith, k, h .0))
-looks-by a n top asked _ (receive-failed k) = at-no-byte (λ (h : AByte a top). omega (arith, k .0, h .0))
-looks-by a n top asked _ (no-receive f g h) = at-no-byte f
+looks-by : (a : Answer) (n : ℕ) (w : Wanted) (x : Received) → SaysReceived a (w .«max_new_fds») x → Looks a n (phase.Receive w) (looksBy x n)
+looks-by a n w _ (a-byte h) = at-a-byte h
+looks-by a n w _ (closed k) = at-no-byte (λ (h : AByte a (w .«max_new_fds»)). omega (arith, k, h .0))
+looks-by a n w _ (receive-failed k) = at-no-byte (λ (h : AByte a (w .«max_new_fds»)). omega (arith, k .0, h .0))
+looks-by a n w _ (no-receive f g h) = at-no-byte f
 
 pub looks-rule : (a : Answer) (n : ℕ) (ph : Phase) → Looks a n ph (looksAt ph a n)
-looks-rule a n (phase.Receive top asked) = looks-by a n top asked (receivedOf top a) (received-says a top)
+looks-rule a n (phase.Receive w) = looks-by a n w (receivedOf (w .«max_new_fds») a) (received-says a (w .«max_new_fds»))
 looks-rule a n (phase.Send batch e) = at-a-send
 looks-rule a n (phase.Shutdown e) = at-a-shutdown
 looks-rule a n (phase.Finished o) = at-the-end
 
 -- ---- the beginnings
 module _ (q : ReceiverState) where
-  pub begins-at : (n top asked : ℕ) → Goes (BeginsRead q top asked) (beginReadOf q n top asked)
-  begins-at n top asked = passing _ (admissionOf q (memory.Of n)) (readCall q top asked) (λ k. begins-read q (passed-sound q (memory.Of n) k) top asked)
+  pub begins-at : (n top asked : ℕ) → Goes (BeginsRead q (a-want top asked)) (beginReadOf q n top asked)
+  begins-at n top asked = passing _ (admissionOf q (memory.Of n)) (readCall q (wanted top asked)) (λ k. begins-read q (passed-sound q (memory.Of n) k) (wanted top asked))
 
   pub serves-at : Goes (BeginsService q) (beginServiceOf q)
   serves-at = passing _ (admissionOf q memory.None) (Of (serviceCall q (q .scheduler) (Told doneOutcome))) (λ k. serves q (q .scheduler) (Told doneOutcome))
@@ -193,6 +196,6 @@ module _ (q : ReceiverState) where
   pub read-admitted : (n top asked : ℕ) (c : Call) → beginReadOf q n top asked ≡ Of c → IsSound (q .scheduler) × (n ≡ q .scheduler .«buf_len»)
   read-admitted n top asked c e = by (admissionOf q (memory.Of n)) refl e
     where
-      by : (x : Admission) → admissionOf q (memory.Of n) ≡ x → admittedStep x (readCall q top asked) ≡ Of c → IsSound (q .scheduler) × (n ≡ q .scheduler .«buf_len»)
+      by : (x : Admission) → admissionOf q (memory.Of n) ≡ x → admittedStep x (readCall q (wanted top asked)) ≡ Of c → IsSound (q .scheduler) × (n ≡ q .scheduler .«buf_len»)
       by admission.Passed a h = (passed-sound q (memory.Of n) (sym a), passed-sized q n (sym a))
       by (admission.Refused r) a h = let z : _≡_ {A = ℕ} 0 1 = cc in absurd (omega arith)

@@ -19,6 +19,7 @@ use Rattle.receiver.specs.declared.announcement.Announced.the-variants a
 use Rattle.states.specs.declared.answer.Answer.{Answer}
 use Rattle.states.specs.declared.answer.Received.the-variants as received
 use Rattle.states.specs.declared.answer.Sent.the-variants as sent
+use Rattle.receiver.specs.declared.receiver.Beside.{Beside}
 use Rattle.states.specs.declared.state.Failure.{Failure}
 use Rattle.states.specs.declared.state.OperationalState.{OperationalState}
 use Rattle.states.specs.declared.state.OperationalState.the-variants.{Normal, Draining, Terminated}
@@ -68,21 +69,21 @@ end-fits = refl
 
 -- ---- announcements: a violation has no errno
 abbrev pub FitsIn : Announced → Type 0
-FitsIn (announced.Chunk u fds) = Unit {0}
+FitsIn (announced.Chunk u b) = Unit {0}
 FitsIn (announced.Failed f) = fitsFailure f ≡ true
 
 either : (b : Bool) (x y : Announced) → FitsIn x → FitsIn y → FitsIn (cond b x y)
 either true x y h k = h
 either false x y h k = k
 
-module _ (s : RingBufferScheduler) (fds : ℕ) where
-  header-fits : (n : ℕ) → FitsIn (headerIn s fds n)
+module _ (s : RingBufferScheduler) (b : Beside) where
+  header-fits : (n : ℕ) → FitsIn (headerIn s b n)
   header-fits n =
       either (eqb (n / 2 ^ 62) 0) _ _ (either (eqb (n % 2 ^ 48) 0) _ _ refl (either (bodyFits (spaceIn s) (n % 2 ^ 48)) _ _ tt refl)) refl
 
-  pub byte-fits : (ring : List ℕ) (b : ℕ) → FitsIn (byteIn ring s b fds)
-  byte-fits ring b =
-      either (eqb b 0) _ _ (either (ltb (spaceIn s) 8) _ _ refl (header-fits (numberFrom 0 (get (s .«buf_len») ring (offsetIn s Read .0) 8)))) refl
+  pub byte-fits : (ring : List ℕ) (byte : ℕ) → FitsIn (byteIn ring s byte b)
+  byte-fits ring byte =
+      either (eqb byte 0) _ _ (either (ltb (spaceIn s) 8) _ _ refl (header-fits (numberFrom 0 (get (s .«buf_len») ring (offsetIn s Read .0) 8)))) refl
 
 -- ---- answers
 module _ (a : Answer) (n : ℕ) where

@@ -21,7 +21,7 @@ use Rattle.copies.proofs.Promised.{checks, checked-given, ready-given}
 use Rattle.states.proofs.AnswerSays.{state-fits}
 use Rattle.receiver.proofs.Says.{begin-read-says, begin-service-says, begin-shutdown-says}
 use Rattle.receiver.specs.Admission.{soundReady, readyWith, admissionFrom, admissionOf}
-use Rattle.receiver.specs.Call.{call, liveCall, readBy, readCall, admittedStep}
+use Rattle.receiver.specs.Call.{call, liveCall, readBy, readCall, admittedStep, wanted}
 use Rattle.receiver.specs.Given.{GivenRing, GivenAdmission, admits, by-ring, given-12-stored, Live, Full, GivenRead, begins, by-admission, given-13, ofAdmission, ofStep}
 use Rattle.states.specs.Refusal.{numberOf, valuesOf}
 use Rattle.states.specs.State.{fitsState}
@@ -32,6 +32,7 @@ use Rattle.receiver.specs.declared.admission.Memory.the-variants as memo
 use Rattle.receiver.specs.declared.call.Call.{Call}
 use Rattle.receiver.specs.declared.call.Step.{Step}
 use Rattle.receiver.specs.declared.call.Step.the-variants as step
+use Rattle.receiver.specs.declared.call.Wanted.{Wanted}
 use Rattle.receiver.specs.declared.receiver.ReceiverState.{ReceiverState}
 use Rattle.states.specs.declared.refusal.Refusal.{Refusal}
 use Rattle.states.specs.declared.refusal.Refusal.the-variants.{Copy}
@@ -108,21 +109,24 @@ module _ (q : ReceiverState) (m : Memory) where
   begun-exactly c = subst (Exactly (GivenAdmission q m)) (told c (admissionOf q m)) admission-exactly
 
 -- ---- a read
-module _ (q : ReceiverState) (n top asked : ℕ) where
+module _ (q : ReceiverState) (n : ℕ) (w : Wanted) where
+  abbrev asked : ℕ
+  asked = w .«dst_len»
+
   -- the rules refuse with 13 where the count is full, and with nothing else
   abbrev pub Rules : Step → Type 0
   Rules x = (Full q asked × (ofStep x ≡ verdict 13 [])) ⊎ ((Full q asked → ⊥) × (ofStep x ≡ verdict 0 []))
 
-  live-told : Live (q .state) → Rules (liveCall q top asked)
+  live-told : Live (q .state) → Rules (liveCall q w)
   live-told l = by (eqb asked 0) refl (eqb (q .«pending_ack_count») (2 ^ 64 - 1)) refl (eqb (dataIn (q .scheduler)) 0) refl
     where
-      by : (b : Bool) → eqb asked 0 ≡ b → (c : Bool) → eqb (q .«pending_ack_count») (2 ^ 64 - 1) ≡ c → (d : Bool) → eqb (dataIn (q .scheduler)) 0 ≡ d → Rules (liveCall q top asked)
+      by : (b : Bool) → eqb asked 0 ≡ b → (c : Bool) → eqb (q .«pending_ack_count») (2 ^ 64 - 1) ≡ c → (d : Bool) → eqb (dataIn (q .scheduler)) 0 ≡ d → Rules (liveCall q w)
       by true e c f d g = rw e (inr ((λ h. h .1 (eqb-true _ _ e)), refl))
       by false e true f d g = rw (e, f) (inl ((l, (eqb-false _ _ e), eqb-true _ _ f), refl))
       by false e false f true g = rw (e, f, g) (inr ((λ h. eqb-false _ _ f (h .2)), refl))
       by false e false f false g = rw (e, f, g) (inr ((λ h. eqb-false _ _ f (h .2)), refl))
 
-  pub read-told : (st : OperationalState) → q .state ≡ st → Rules (readBy st q top asked)
+  pub read-told : (st : OperationalState) → q .state ≡ st → Rules (readBy st q w)
   read-told Normal e = live-told (subst Live (sym e) tt)
   read-told (Draining f) e = live-told (subst Live (sym e) tt)
   read-told (Terminated f) e = inr ((λ h. subst Live e (h .0)), refl)
@@ -146,10 +150,10 @@ module _ (q : ReceiverState) (n top asked : ℕ) where
       so {k} {vs} (by-admission p g) = absurd (omega (arith, ap (λ (x : Verdict). x .number) (sym (admission-exactly q m .always k vs g) ∙ admission-exactly q m .always 0 [] a)))
       so (given-13 b h) = absurd (room h)
 
-  read-by : (x : Admission) → admissionOf q m ≡ x → Exactly (GivenRead q n asked) (ofStep (admittedStep x (readCall q top asked)))
+  read-by : (x : Admission) → admissionOf q m ≡ x → Exactly (GivenRead q n asked) (ofStep (admittedStep x (readCall q w)))
   read-by admission.Passed e = by (read-told (q .state) refl)
     where
-      by : Rules (readCall q top asked) → Exactly (GivenRead q n asked) (ofStep (readCall q top asked))
+      by : Rules (readCall q w) → Exactly (GivenRead q n asked) (ofStep (readCall q w))
       by (inl h) = subst (Exactly (GivenRead q n asked)) (sym (h .1)) (read-full (passed q m e) (h .0))
       by (inr h) = subst (Exactly (GivenRead q n asked)) (sym (h .1)) (read-begins (passed q m e) (h .0))
   read-by (admission.Refused r) e = record { only = by-admission (number-of r) (refused q m r e); always = λ k vs g. so g }
@@ -169,4 +173,4 @@ begin-shutdown-given κs a z p = subst (λ (x : Step). Exactly (GivenAdmission (
 pub begin-read-given : Keeps 0 begin-read-kinds.ps begin-read-kinds.r begin-read.Learnt (λ κs a z. Exactly (GivenRead (a .0) (a .1 .0) (a .1 .1 .1 .0)) (ofStep z))
 begin-read-given κs a z p =
     subst (λ (x : Step). Exactly (GivenRead (a .0) (a .1 .0) (a .1 .1 .1 .0)) (ofStep x)) (sym (begin-read-says κs a z (p .0) (p .1)))
-    (read-by (a .0) (a .1 .0) (a .1 .1 .0) (a .1 .1 .1 .0) (admissionOf (a .0) (memory.Of (a .1 .0))) refl)
+    (read-by (a .0) (a .1 .0) (wanted (a .1 .1 .0) (a .1 .1 .1 .0)) (admissionOf (a .0) (memory.Of (a .1 .0))) refl)

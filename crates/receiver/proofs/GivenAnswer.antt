@@ -31,6 +31,7 @@ use Rattle.receiver.specs.declared.call.Call.{Call}
 use Rattle.receiver.specs.declared.call.Phase.{Phase}
 use Rattle.receiver.specs.declared.call.Phase.the-variants as phase
 use Rattle.receiver.specs.declared.call.Step.{Step}
+use Rattle.receiver.specs.declared.call.Wanted.{Wanted}
 use Rattle.receiver.specs.declared.call.Step.the-variants as step
 use Rattle.states.specs.declared.refusal.Refusal.the-variants.{Misfit}
 use Rattle.receiver.proofs.call.Call.answered.Kinds as answered-kinds
@@ -58,10 +59,10 @@ module _ (a : Answer) where
     either ph true x y f g = f refl
     either ph false x y f g = g
 
-    by-received : (top asked : ℕ) (x : Received) → receivedOf top a ≡ x → Taken (phase.Receive top asked) (afterReceive (d .receiver) (d .source) ring x asked place)
-    by-received top asked (received.Byte b fds) e = inr ((λ m. let k = received-only a top m in let z : _≡_ {A = ℕ} 0 1 = cc in omega arith), refl)
-    by-received top asked (received.Failed n) e = inr ((λ m. let k = received-only a top m in let z : _≡_ {A = ℕ} 0 1 = cc in omega arith), refl)
-    by-received top asked received.Misfit e = inl (subst (SaysReceived a top) e (received-says a top), refl)
+    by-received : (w : Wanted) (x : Received) → receivedOf (w .«max_new_fds») a ≡ x → Taken (phase.Receive w) (afterReceive (d .receiver) (d .source) ring x w place)
+    by-received w (received.Byte byte _) e = inr ((λ m. let k = received-only a (w .«max_new_fds») m in let z : _≡_ {A = ℕ} 0 1 = cc in omega arith), refl)
+    by-received w (received.Failed n) e = inr ((λ m. let k = received-only a (w .«max_new_fds») m in let z : _≡_ {A = ℕ} 0 1 = cc in omega arith), refl)
+    by-received w received.Misfit e = inl (subst (SaysReceived a (w .«max_new_fds»)) e (received-says a (w .«max_new_fds»)), refl)
 
     by-sent : (batch : ℕ) (e : Ending) (x : Sent) → sentOf (batchIn (d .receiver)) a ≡ x →
         Taken (phase.Send batch e) (bySent x (λ n. step.Of (sentCall n (d .receiver) (d .source) e)) (λ n. step.Of (unsentCall n (d .receiver) (d .source) e)) (step.Refused (Misfit place)))
@@ -75,7 +76,7 @@ module _ (a : Answer) where
     by-shut e shut.Misfit k = inl (subst (SaysShut a) k (shut-says a), refl)
 
     stepped-told : (ph : Phase) → Taken ph (steppedBy ph d ring a place)
-    stepped-told (phase.Receive top asked) = either (phase.Receive top asked) (interruptedOf a) _ _ (λ i. inr (no-misfit-received top i, refl)) (by-received top asked (receivedOf top a) refl)
+    stepped-told (phase.Receive w) = either (phase.Receive w) (interruptedOf a) _ _ (λ i. inr (no-misfit-received (w .«max_new_fds») i, refl)) (by-received w (receivedOf (w .«max_new_fds») a) refl)
     stepped-told (phase.Send batch e) = either (phase.Send batch e) (interruptedOf a) _ _ (λ i. inr (no-misfit-sent (batchIn (d .receiver)) i, refl)) (by-sent batch e (sentOf (batchIn (d .receiver)) a) refl)
     stepped-told (phase.Shutdown e) = by-shut e (shutOf a) refl
     stepped-told (phase.Finished o) = inr ((λ m. m), refl)
@@ -83,26 +84,26 @@ module _ (a : Answer) where
 -- what the rules make of the call: 13 where it waits for a receive with a full count, and else a call
 module _ (c : Call) where
   abbrev Resumes : Phase → Step → Type 0
-  Resumes ph (step.Of d) = (top asked : ℕ) → ph ≡ phase.Receive top asked → Full (c .receiver) asked → ⊥
-  Resumes ph (step.Refused r) = (top : ℕ) × ((asked : ℕ) × (ph ≡ phase.Receive top asked) × Full (c .receiver) asked × (verdict (numberOf r) (valuesOf r) ≡ verdict 13 []))
+  Resumes ph (step.Of d) = (w : Wanted) → ph ≡ phase.Receive w → Full (c .receiver) (w .«dst_len») → ⊥
+  Resumes ph (step.Refused r) = (w : Wanted) × (ph ≡ phase.Receive w) × Full (c .receiver) (w .«dst_len») × (verdict (numberOf r) (valuesOf r) ≡ verdict 13 [])
 
-  asked-same : (top asked top′ asked′ : ℕ) → phase.Receive top asked ≡ phase.Receive top′ asked′ → Full (c .receiver) asked′ → Full (c .receiver) asked
-  asked-same top asked top′ asked′ e h = let k : asked ≡ asked′ = cc in subst (Full (c .receiver)) (sym k) h
+  asked-same : (w v : Wanted) → phase.Receive w ≡ phase.Receive v → Full (c .receiver) (v .«dst_len») → Full (c .receiver) (w .«dst_len»)
+  asked-same w v e h = let k : w ≡ v = cc in subst (λ (x : Wanted). Full (c .receiver) (x .«dst_len»)) (sym k) h
 
-  by-rules : (top asked : ℕ) (x : Step) → Rules (c .receiver) 0 top asked x → Resumes (phase.Receive top asked) x
-  by-rules top asked (step.Of d) (inl h) = λ top′ asked′ e f. let z : _≡_ {A = ℕ} 0 13 = ap (λ (v : Verdict). v .number) (h .1) in omega arith
-  by-rules top asked (step.Of d) (inr h) = λ top′ asked′ e f. h .0 (asked-same top asked top′ asked′ e f)
-  by-rules top asked (step.Refused r) (inl h) = (top, (asked, refl, h .0, h .1))
-  by-rules top asked (step.Refused r) (inr h) = absurd (omega (arith, number-of r, ap (λ (v : Verdict). v .number) (h .1)))
+  by-rules : (w : Wanted) (x : Step) → Rules (c .receiver) 0 w x → Resumes (phase.Receive w) x
+  by-rules w (step.Of d) (inl h) = λ v e f. let z : _≡_ {A = ℕ} 0 13 = ap (λ (v : Verdict). v .number) (h .1) in omega arith
+  by-rules w (step.Of d) (inr h) = λ v e f. h .0 (asked-same w v e f)
+  by-rules w (step.Refused r) (inl h) = (w, refl, h .0, h .1)
+  by-rules w (step.Refused r) (inr h) = absurd (omega (arith, number-of r, ap (λ (v : Verdict). v .number) (h .1)))
 
-  other : (ph : Phase) (d : Call) → ((top asked : ℕ) → ph ≡ phase.Receive top asked → ⊥) → Resumes ph (step.Of d)
-  other ph d f top asked e h = f top asked e
+  other : (ph : Phase) (d : Call) → ((w : Wanted) → ph ≡ phase.Receive w → ⊥) → Resumes ph (step.Of d)
+  other ph d f w e h = f w e
 
   resumed-told : (ph : Phase) → Resumes ph (resumedBy ph c)
-  resumed-told (phase.Receive top asked) = by-rules top asked (readCall (c .receiver) top asked) (read-told (c .receiver) 0 top asked (c .receiver .state) refl)
-  resumed-told (phase.Send batch e) = other (phase.Send batch e) c (λ top asked k. let z : _≡_ {A = ℕ} 0 1 = cc in omega arith)
-  resumed-told (phase.Shutdown e) = other (phase.Shutdown e) c (λ top asked k. let z : _≡_ {A = ℕ} 0 1 = cc in omega arith)
-  resumed-told (phase.Finished o) = other (phase.Finished o) c (λ top asked k. let z : _≡_ {A = ℕ} 0 1 = cc in omega arith)
+  resumed-told (phase.Receive w) = by-rules w (readCall (c .receiver) w) (read-told (c .receiver) 0 w (c .receiver .state) refl)
+  resumed-told (phase.Send batch e) = other (phase.Send batch e) c (λ w k. let z : _≡_ {A = ℕ} 0 1 = cc in omega arith)
+  resumed-told (phase.Shutdown e) = other (phase.Shutdown e) c (λ w k. let z : _≡_ {A = ℕ} 0 1 = cc in omega arith)
+  resumed-told (phase.Finished o) = other (phase.Finished o) c (λ w k. let z : _≡_ {A = ℕ} 0 1 = cc in omega arith)
 
 -- ---- an answer
 module _ (c : Call) (ring : List ℕ) (a : Answer) (place : ℕ) where
@@ -131,19 +132,19 @@ module _ (c : Call) (ring : List ℕ) (a : Answer) (place : ℕ) where
         so : {n : ℕ} {vs : List ℕ} → Answers n vs → verdict 12 (place ∷ []) ≡ verdict n vs
         so (takes d′ q l fit) = absurd (fit (same-misfit d′ d l k (h .0)))
         so {n} {vs} (at-the-tests l g) = no-test n vs l g
-        so (still-full top asked q l g) = absurd (f top asked l g)
+        so (still-full w q l g) = absurd (f w l g)
         so (given-12 d′ q l g) = refl
     took d k f (inr h) = subst (Exactly Answers) (sym (h .1)) (record { only = takes d p k (h .0); always = λ n vs g. so g })
       where
         so : {n : ℕ} {vs : List ℕ} → Answers n vs → verdict 0 [] ≡ verdict n vs
         so (takes d′ q l fit) = refl
         so {n} {vs} (at-the-tests l g) = no-test n vs l g
-        so (still-full top asked q l g) = absurd (f top asked l g)
+        so (still-full w q l g) = absurd (f w l g)
         so (given-12 d′ q l g) = absurd (h .0 (same-misfit d d′ k l g))
 
     by-resumed : (x : Step) → resumedOf c ≡ x → Resumes c (c .phase) x → Exactly Answers (ofStep (answeredFrom x ring a place))
     by-resumed (step.Of d) k f = took d k f (stepped-told a ring place d (d .phase))
-    by-resumed (step.Refused r) k f = subst (Exactly Answers) (sym (f .1 .3)) (record { only = still-full (f .0) (f .1 .0) p (f .1 .1) (f .1 .2); always = λ n vs g. so g })
+    by-resumed (step.Refused r) k f = subst (Exactly Answers) (sym (f .3)) (record { only = still-full (f .0) p (f .1) (f .2); always = λ n vs g. so g })
       where
         never : {X : Type 0} (d : Call) → resumedOf c ≡ step.Of d → X
         never d l = let y : step.Refused r ≡ step.Of d = sym k ∙ l in let z : _≡_ {A = ℕ} 0 1 = cc in absurd (omega arith)
@@ -151,7 +152,7 @@ module _ (c : Call) (ring : List ℕ) (a : Answer) (place : ℕ) where
         so : {n : ℕ} {vs : List ℕ} → Answers n vs → verdict 13 [] ≡ verdict n vs
         so (takes d′ q l fit) = never d′ l
         so {n} {vs} (at-the-tests l g) = no-test n vs l g
-        so (still-full top asked q l g) = refl
+        so (still-full w q l g) = refl
         so (given-12 d′ q l g) = never d′ l
 
   by-admitted : (x : Admission) → admissionOf (c .receiver) m ≡ x → Exactly Answers (ofStep (admittedStep x (answeredFrom (resumedOf c) ring a place)))
@@ -161,7 +162,7 @@ module _ (c : Call) (ring : List ℕ) (a : Answer) (place : ℕ) where
       so : {n : ℕ} {vs : List ℕ} → Answers n vs → verdict (numberOf r) (valuesOf r) ≡ verdict n vs
       so (takes d q l fit) = absurd (refused-not-0 (c .receiver) m r e q)
       so {n} {vs} (at-the-tests l g) = refused-always (c .receiver) m r e n vs g
-      so (still-full top asked q l g) = absurd (refused-not-0 (c .receiver) m r e q)
+      so (still-full w q l g) = absurd (refused-not-0 (c .receiver) m r e q)
       so (given-12 d q l g) = absurd (refused-not-0 (c .receiver) m r e q)
 
 -- of the call

@@ -22,8 +22,8 @@ use Rattle.receiver.proofs.Spent.{interrupted-sends, sent-sends, failed
 use Rattle.receiver.specs.Admission.{admissionOf}
 use Rattle.states.specs.Answer.{interruptedOf, receivedOf, sentOf, shutOf}
 use Rattle.states.specs.State.{fitsFailure, fitsState, failureIn, isErrno, advanceIn}
-use Rattle.receiver.specs.Receiver.{readOutcome, failedOutcome, doneOutcome, withScheduler, withState, withPending, withShutdown, batchIn, bySent, byteIn, handedOut}
-use Rattle.receiver.specs.Call.{call, finishedCall, outcomeIn, toldIn, advanceCall, flushCall, serviceCallBy, serviceCall, sentCall, unsentCall, afterShut, handOutCall, failedCall, blockedBy, announcedCall, afterReceive, liveCall, readBy, admittedStep, beginReadOf, beginServiceOf, beginShutdownOf, retriesIn, retriesOf, looksBy, looksAt, resumedBy, resumedOf, steppedBy, answeredFrom, answeredOf}
+use Rattle.receiver.specs.Receiver.{noneBeside, besideByte, readOutcome, failedOutcome, doneOutcome, withScheduler, withState, withPending, withShutdown, batchIn, bySent, byteIn, handedOut}
+use Rattle.receiver.specs.Call.{call, finishedCall, outcomeIn, toldIn, advanceCall, flushCall, serviceCallBy, serviceCall, sentCall, unsentCall, afterShut, handOutCall, failedCall, blockedBy, announcedCall, afterReceive, liveCall, readBy, readCall, admittedStep, wanted, beginReadOf, beginServiceOf, beginShutdownOf, retriesIn, retriesOf, looksBy, looksAt, resumedBy, resumedOf, steppedBy, answeredFrom, answeredOf}
 use Rattle.states.specs.Promise.{SaysReceived, a-byte, closed, receive-failed, no-receive}
 use Rattle.receiver.specs.Handed.{Handed, wholeIn, stepOf, keptBy, handedTo, sentAt, allSentTo, comingTo, wholeAt, allWholeTo}
 use Rattle.receiver.specs.declared.admission.Admission.{Admission}
@@ -47,6 +47,8 @@ use Rattle.receiver.specs.declared.call.Phase.the-variants as phase
 use Rattle.receiver.specs.declared.call.Step.{Step}
 use Rattle.receiver.specs.declared.call.Step.the-variants.{Of, Refused}
 use Rattle.receiver.specs.declared.receiver.Outcome.{Outcome}
+use Rattle.receiver.specs.declared.call.Wanted.{Wanted}
+use Rattle.receiver.specs.declared.receiver.Beside.{Beside}
 use Rattle.receiver.specs.declared.receiver.ReceiverState.{ReceiverState}
 use Rattle.states.specs.declared.refusal.Refusal.the-variants.{Misfit}
 use Rattle.states.specs.declared.state.Failure.{Failure}
@@ -72,12 +74,12 @@ either ph c a true x y f g = f refl
 either ph c a false x y f g = g refl
 
 -- an answer to a receive
-module _ (c : Call) (h : Made c) (top asked : ℕ) (a : Answer) where
+module _ (c : Call) (h : Made c) (w : Wanted) (a : Answer) where
   abbrev q : ReceiverState
   q = c .receiver
 
   abbrev Ok : Call → Type 0
-  Ok d = Good (phase.Receive top asked) c a (Of d)
+  Ok d = Good (phase.Receive w) c a (Of d)
 
   fails : (f : Failure) → fitsFailure f ≡ true → Ok (failedCall f q (c .source))
   fails f k =
@@ -89,15 +91,15 @@ module _ (c : Call) (h : Made c) (top asked : ℕ) (a : Answer) where
   blocks (Draining f) k = fails f k
   blocks (Terminated f) k = fails (Io 11) blocked-fits
 
-  module _ (some : eqb asked 0 ≡ false) (u : RingBufferScheduler) (t : Tested (withScheduler q u)) (holds : 1 ≤ dataIn u) (fds : ℕ) where
+  module _ (some : eqb (w .«dst_len») 0 ≡ false) (u : RingBufferScheduler) (t : Tested (withScheduler q u)) (holds : 1 ≤ dataIn u) (b : Beside) where
     abbrev n : ℕ
-    n = min asked (dataIn u)
+    n = min (w .«dst_len») (dataIn u)
 
     abbrev left : RingBufferScheduler
     left = advancedIn u Read n
 
     moved : n ≡ 0 → ⊥
-    moved z = by asked some (omega (arith, z, holds))
+    moved z = by (w .«dst_len») some (omega (arith, z, holds))
       where
         by : (m : ℕ) → eqb m 0 ≡ false → m ≡ 0 → ⊥
         by zero k y = let x : _≡_ {A = ℕ} 0 1 = cc in omega arith
@@ -111,27 +113,27 @@ module _ (c : Call) (h : Made c) (top asked : ℕ) (a : Answer) where
     handed-counts true = refl
     handed-counts false = omega arith
 
-    whole : (r : ReceiverState) → r .scheduler ≡ left → wholeIn r (readOutcome n fds) ≡ cond (eqb (dataIn left) 0) 1 0
+    whole : (r : ReceiverState) → r .scheduler ≡ left → wholeIn r (readOutcome n b) ≡ cond (eqb (dataIn left) 0) 1 0
     whole r e = rw (ne-eqb n 0 moved, ap (λ (x : RingBufferScheduler). eqb (dataIn x) 0) e)
 
-    hands-out : Ok (handOutCall asked fds (withScheduler q u))
+    hands-out : Ok (handOutCall (w .«dst_len») b (withScheduler q u))
     hands-out =
-        let d = service-keeps u (handedOut (withScheduler q u) n) (handed-tested (withScheduler q u) n t (omega arith)) (Dropped (readOutcome n fds)) in
-        let w = whole (handOutCall asked fds (withScheduler q u) .receiver) (d .same ∙ handed-left (eqb (dataIn left) 0)) in
-        let o = ap (wholeIn (handOutCall asked fds (withScheduler q u) .receiver)) (service-coming (handedOut (withScheduler q u) n) u (readOutcome n fds) (failureIn (handedOut (withScheduler q u) n .state))) in
-        (d .made, omega (arith, d .counts, handed-counts (eqb (dataIn left) 0), w, o))
+        let d = service-keeps u (handedOut (withScheduler q u) n) (handed-tested (withScheduler q u) n t (omega arith)) (Dropped (readOutcome n b)) in
+        let e = whole (handOutCall (w .«dst_len») b (withScheduler q u) .receiver) (d .same ∙ handed-left (eqb (dataIn left) 0)) in
+        let o = ap (wholeIn (handOutCall (w .«dst_len») b (withScheduler q u) .receiver)) (service-coming (handedOut (withScheduler q u) n) u (readOutcome n b) (failureIn (handedOut (withScheduler q u) n .state))) in
+        (d .made, omega (arith, d .counts, handed-counts (eqb (dataIn left) 0), e, o))
 
-  announces : eqb asked 0 ≡ false → (x : Announced) → Chunked (q .scheduler) x → FitsIn x → Ok (announcedCall x asked q (c .source))
-  announces some (announced.Chunk u fds) k l = hands-out some u (record { sound = k .0; fits = h .tested .fits }) (k .2) fds
+  announces : eqb (w .«dst_len») 0 ≡ false → (x : Announced) → Chunked (q .scheduler) x → FitsIn x → Ok (announcedCall x w q (c .source))
+  announces some (announced.Chunk u b) k l = hands-out some u (record { sound = k .0; fits = h .tested .fits }) (k .2) b
   announces some (announced.Failed f) k l = by (isErrno f 11)
     where
       by : (b : Bool) → Ok (cond b (blockedBy (q .state) q (c .source)) (failedCall f q (c .source)))
       by true = blocks (q .state) (h .tested .fits)
       by false = fails f l
 
-  receives : eqb asked 0 ≡ false → (ring : List ℕ) (place : ℕ) (x : Received) → receivedOf top a ≡ x → Good (phase.Receive top asked) c a (afterReceive q (c .source) ring x asked place)
-  receives some ring place (received.Byte b fds) e = announces some (byteIn ring (q .scheduler) b fds) (byte-chunked (q .scheduler) (h .tested .sound) fds ring b) (byte-fits (q .scheduler) fds ring b)
-  receives some ring place (received.Failed m) e = announces some (announced.Failed (Io m)) tt (received-fits a m top e)
+  receives : eqb (w .«dst_len») 0 ≡ false → (ring : List ℕ) (place : ℕ) (x : Received) → receivedOf (w .«max_new_fds») a ≡ x → Good (phase.Receive w) c a (afterReceive q (c .source) ring x w place)
+  receives some ring place (received.Byte byte fds) e = announces some (byteIn ring (q .scheduler) byte (besideByte fds)) (byte-chunked (q .scheduler) (h .tested .sound) (besideByte fds) ring byte) (byte-fits (q .scheduler) (besideByte fds) ring byte)
+  receives some ring place (received.Failed m) e = announces some (announced.Failed (Io m)) tt (received-fits a m (w .«max_new_fds») e)
   receives some ring place received.Misfit e = tt
 
 -- an answer to a send
@@ -170,9 +172,9 @@ shuts c h e a place shut.Misfit = tt
 phases : (c d : Call) → Of c ≡ Of d → c .phase ≡ d .phase
 phases c d e = let k : c ≡ d = cc in ap (λ (x : Call). x .phase) k
 
-finished-waits : (o : Outcome) (ph : Phase) (X : Type 0) → phase.Finished o ≡ ph → ((top asked : ℕ) → ph ≡ phase.Receive top asked → X) × ((batch : ℕ) (e : Ending) → ph ≡ phase.Send batch e → X)
+finished-waits : (o : Outcome) (ph : Phase) (X : Type 0) → phase.Finished o ≡ ph → ((w : Wanted) → ph ≡ phase.Receive w → X) × ((batch : ℕ) (e : Ending) → ph ≡ phase.Send batch e → X)
 finished-waits o ph X p = (
-  (λ top asked k. let z : _≡_ {A = ℕ} 0 1 = cc in absurd (omega arith)),
+  (λ w k. let z : _≡_ {A = ℕ} 0 1 = cc in absurd (omega arith)),
   (λ batch e k. let z : _≡_ {A = ℕ} 0 1 = cc in absurd (omega arith)),
 )
 
@@ -182,16 +184,16 @@ taken false x y z e w = let k : _≡_ {A = ℕ} 0 1 = cc in absurd (omega arith)
 
 module _ (c : Call) where
   -- one that waits for a receive was asked for some bytes
-  asked-some : (top asked : ℕ) → c .phase ≡ phase.Receive top asked → (st : OperationalState) → readBy st (c .receiver) top asked ≡ Of c → eqb asked 0 ≡ false
-  asked-some top asked p st w = by (eqb asked 0) refl st w
+  asked-some : (w : Wanted) → c .phase ≡ phase.Receive w → (st : OperationalState) → readBy st (c .receiver) w ≡ Of c → eqb (w .«dst_len») 0 ≡ false
+  asked-some w p st k = by (eqb (w .«dst_len») 0) refl st k
     where
-      by : (b : Bool) → eqb asked 0 ≡ b → (st : OperationalState) → readBy st (c .receiver) top asked ≡ Of c → eqb asked 0 ≡ false
-      by false e st w = e
-      by true e Normal w =
-          finished-waits _ (c .phase) (eqb asked 0 ≡ false) (phases _ c (taken (eqb asked 0) _ _ (Of c) e w)) .0 top asked p
-      by true e (Draining f) w =
-          finished-waits _ (c .phase) (eqb asked 0 ≡ false) (phases _ c (taken (eqb asked 0) _ _ (Of c) e w)) .0 top asked p
-      by true e (Terminated f) w = finished-waits _ (c .phase) (eqb asked 0 ≡ false) (phases _ c w) .0 top asked p
+      by : (b : Bool) → eqb (w .«dst_len») 0 ≡ b → (st : OperationalState) → readBy st (c .receiver) w ≡ Of c → eqb (w .«dst_len») 0 ≡ false
+      by false e st k = e
+      by true e Normal k =
+          finished-waits _ (c .phase) (eqb (w .«dst_len») 0 ≡ false) (phases _ c (taken (eqb (w .«dst_len») 0) _ _ (Of c) e k)) .0 w p
+      by true e (Draining f) k =
+          finished-waits _ (c .phase) (eqb (w .«dst_len») 0 ≡ false) (phases _ c (taken (eqb (w .«dst_len») 0) _ _ (Of c) e k)) .0 w p
+      by true e (Terminated f) k = finished-waits _ (c .phase) (eqb (w .«dst_len») 0 ≡ false) (phases _ c k) .0 w p
 
   -- one that waits to send has no failure stored
   sends-none : (batch : ℕ) (e : Ending) → c .phase ≡ phase.Send batch e → (x : PotentialFailure) → failureIn (c .receiver .state) ≡ x → Of (serviceCallBy x (c .receiver) (c .source) e) ≡ Of c → failureIn (c .receiver .state) ≡ None
@@ -206,10 +208,10 @@ module _ (c : Call) (h : Made c) (ring : List ℕ) (a : Answer) (place : ℕ) wh
   resumes-as ph p = ap (λ (x : Phase). resumedBy x c) (sym p) ∙ h .resumes
 
   stepped : (ph : Phase) → c .phase ≡ ph → Good ph c a (steppedBy ph c ring a place)
-  stepped (phase.Receive top asked) p =
-      either (phase.Receive top asked) c a (interruptedOf a) _ _
+  stepped (phase.Receive w) p =
+      either (phase.Receive w) c a (interruptedOf a) _ _
       (λ i. (h, omega (arith, ap (λ (x : Phase). wholeIn (c .receiver) (comingTo x)) p)))
-      (λ i. receives c h top asked a (asked-some c top asked p (c .receiver .state) (resumes-as (phase.Receive top asked) p)) ring place (receivedOf top a) refl)
+      (λ i. receives c h w a (asked-some c w p (c .receiver .state) (resumes-as (phase.Receive w) p)) ring place (receivedOf (w .«max_new_fds») a) refl)
   stepped (phase.Send batch e) p =
       either (phase.Send batch e) c a (interruptedOf a) _ _
       (λ i. (h, omega (arith, interrupted-sends a i)))
@@ -239,7 +241,7 @@ module _ (c : Call) (h : Made c) (ring : List ℕ) (a : Answer) (place : ℕ) wh
   no-byte top k _ (no-receive f g i) = refl
 
   looks-at-none : (ph : Phase) → retriesIn ph a ≡ true → memory.None ≡ looksAt ph a (length ring)
-  looks-at-none (phase.Receive top asked) e = no-byte top (interrupted-says a .0 e .0) (receivedOf top a) (received-says a top)
+  looks-at-none (phase.Receive w) e = no-byte (w .«max_new_fds») (interrupted-says a .0 e .0) (receivedOf (w .«max_new_fds») a) (received-says a (w .«max_new_fds»))
   looks-at-none (phase.Send batch x) e = refl
   looks-at-none (phase.Shutdown x) e = refl
   looks-at-none (phase.Finished o) e = refl
@@ -251,7 +253,7 @@ module _ (c : Call) (h : Made c) (ring : List ℕ) (a : Answer) (place : ℕ) wh
 -- taken or not, the call that the host goes on with is made by the machine, and keeps the sum
 kept : (ph : Phase) (c : Call) (a : Answer) (x : Step) → Made c → Good ph c a x → Made (keptBy c x) × (keptBy c x .receiver .«pending_ack_count» + sentAt ph x a ≡ c .receiver .«pending_ack_count» + wholeAt ph x)
 kept ph c a (Of d) h g = g
-kept (phase.Receive top asked) c a (Refused r) h g = (h, refl)
+kept (phase.Receive w) c a (Refused r) h g = (h, refl)
 kept (phase.Send batch e) c a (Refused r) h g = (h, refl)
 kept (phase.Shutdown e) c a (Refused r) h g = (h, refl)
 kept (phase.Finished o) c a (Refused r) h g = (h, refl)
@@ -286,20 +288,22 @@ module _ (q : ReceiverState) where
       begun memory.None (Of (advanceCall (Draining (Io 32)) q (q .scheduler) (Told doneOutcome)))
       (λ h. advance-keeps (q .scheduler) (Draining (Io 32)) end-fits q h (Told doneOutcome) .made) (admissionOf q memory.None) refl
 
-  module _ (top asked : ℕ) (h : Tested q) where
-    live-made : (st : OperationalState) → liveCall q top asked ≡ readBy st q top asked → readBy st q top asked ≡ readBy (q .state) q top asked → MadeBy (liveCall q top asked)
-    live-made st l w =
-        either-made (eqb asked 0) _ _ (λ e. finished-keeps (q .scheduler) q h (Told doneOutcome) (readOutcome 0 0) .made)
+  module _ (w : Wanted) (h : Tested q) where
+    live-made : (st : OperationalState) → liveCall q w ≡ readBy st q w → readBy st q w ≡ readBy (q .state) q w → MadeBy (liveCall q w)
+    live-made st l k =
+        either-made (eqb (w .«dst_len») 0) _ _ (λ e. finished-keeps (q .scheduler) q h (Told doneOutcome) (readOutcome 0 noneBeside) .made)
         (λ e. either-made (eqb (q .«pending_ack_count») (2 ^ 64 - 1)) _ _ (λ f. tt)
         (λ f. either-made (eqb (dataIn (q .scheduler)) 0) _ _
-        (λ z. record { tested = h; resumes = sym (live-waits q top asked e f z ∙ l ∙ w) })
-        (λ z. service-keeps (q .scheduler) (handedOut q (min asked (dataIn (q .scheduler)))) (handed-tested q (min asked (dataIn (q .scheduler))) h (omega arith)) (Dropped (readOutcome (min asked (dataIn (q .scheduler))) 0)) .made)))
+        (λ z. record { tested = h; resumes = sym (live-waits q w e f z ∙ l ∙ k) })
+        (λ z.
+        let n = min (w .«dst_len») (dataIn (q .scheduler)) in
+        service-keeps (q .scheduler) (handedOut q n) (handed-tested q n h (omega arith)) (Dropped (readOutcome n noneBeside)) .made)))
 
-    read-made : (st : OperationalState) → readBy st q top asked ≡ readBy (q .state) q top asked → MadeBy (readBy st q top asked)
-    read-made Normal w = live-made Normal refl w
-    read-made (Draining f) w = live-made (Draining f) refl w
-    read-made (Terminated f) w = finished-keeps (q .scheduler) q h (Told doneOutcome) (failedOutcome f) .made
+    read-made : (st : OperationalState) → readBy st q w ≡ readBy (q .state) q w → MadeBy (readBy st q w)
+    read-made Normal k = live-made Normal refl k
+    read-made (Draining f) k = live-made (Draining f) refl k
+    read-made (Terminated f) k = finished-keeps (q .scheduler) q h (Told doneOutcome) (failedOutcome f) .made
 
   pub begin-read-made : (ring-len top asked : ℕ) → MadeBy (beginReadOf q ring-len top asked)
   begin-read-made ring-len top asked =
-      begun (memory.Of ring-len) (readBy (q .state) q top asked) (λ h. read-made top asked h (q .state) refl) (admissionOf q (memory.Of ring-len)) refl
+      begun (memory.Of ring-len) (readCall q (wanted top asked)) (λ h. read-made (wanted top asked) h (q .state) refl) (admissionOf q (memory.Of ring-len)) refl

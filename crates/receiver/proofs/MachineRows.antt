@@ -23,8 +23,8 @@ use Rattle.states.specs.declared.state.OperationalState.{OperationalState}
 use Rattle.states.specs.declared.state.OperationalState.the-variants.{Normal, Draining, Terminated}
 use Rattle.states.specs.Answer.{interruptedOf, receivedOf, sentOf, shutOf}
 use Rattle.states.specs.State.{fitsErrno}
-use Rattle.receiver.specs.Receiver.{readOutcome, failedOutcome, doneOutcome, receiver}
-use Rattle.receiver.specs.Call.{call, finishedCall, flushCall, beginReadOf, answeredOf}
+use Rattle.receiver.specs.Receiver.{noneBeside, readOutcome, failedOutcome, doneOutcome, receiver}
+use Rattle.receiver.specs.Call.{call, finishedCall, flushCall, wanted, beginReadOf, answeredOf}
 
 abbrev answer : ℕ → ℕ → Answer
 answer kind value = record { kind = kind; value = value; descriptors = 0 }
@@ -50,7 +50,7 @@ waits s st pending ph = call (receiver s st pending false) s ph
 
 -- three bytes were read to the end of their chunk, and are copied by (10, 3, 0)
 abbrev reading : ℕ → Call
-reading pending = call (receiver (ring 10 3 3) Normal pending false) (ring 10 3 0) (Send 128 (Dropped (readOutcome 3 0)))
+reading pending = call (receiver (ring 10 3 3) Normal pending false) (ring 10 3 0) (Send 128 (Dropped (readOutcome 3 noneBeside)))
 
 -- the second answer does not fit: the call still waits to send, with pending 173, and goes on from there
 a-refused-answer-leaves-the-call :
@@ -58,7 +58,7 @@ a-refused-answer-leaves-the-call :
     (answeredOf (reading 301) [] (sends 128) 1 ≡ Of (reading 173)) ×
     (answeredOf (reading 173) [] done 2 ≡ Refused (Misfit 2)) ×
     (answeredOf (reading 173) [] (sends 129) 2 ≡ Refused (Misfit 2)) ×
-    (answeredOf (reading 173) [] (sends 100) 3 ≡ Of (call (receiver (ring 10 3 3) Normal 73 false) (ring 10 3 0) (Send 73 (Dropped (readOutcome 3 0)))))
+    (answeredOf (reading 173) [] (sends 100) 3 ≡ Of (call (receiver (ring 10 3 3) Normal 73 false) (ring 10 3 0) (Send 73 (Dropped (readOutcome 3 noneBeside)))))
 unfolding flushCall readyFrom soundOf subMod addMod fitsErrno interruptedOf sentOf
 a-refused-answer-leaves-the-call = (refl, refl, refl, refl, refl)
 
@@ -75,16 +75,16 @@ an-answer-tests-the-record-anew = (refl, refl, refl, refl)
 
 -- 9 where a byte was received and the ring is another, and only there; before 12 with place 0
 the-ring-is-looked-at-where-a-byte-was-received :
-    (answeredOf (waits (ring 10 0 0) Normal 0 (Receive 0 9)) [] (fails 11) 1 ≡ Of (finishedCall (receiver (ring 10 0 0) Normal 0 false) (ring 10 0 0) (failedOutcome (Io 11)))) ×
-    (answeredOf (waits (ring 10 0 0) Normal 0 (Receive 0 9)) [] byte 1 ≡ Refused (Copy RingMemory)) ×
-    (answeredOf (waits (ring 10 0 0) (Draining (Io 5000)) 0 (Receive 0 9)) [] byte 1 ≡ Refused (Copy RingMemory)) ×
-    (answeredOf (waits (ring 10 0 0) (Draining (Io 5000)) 0 (Receive 0 9)) [] (fails 11) 1 ≡ Refused (Misfit 0))
+    (answeredOf (waits (ring 10 0 0) Normal 0 (Receive (wanted 0 9))) [] (fails 11) 1 ≡ Of (finishedCall (receiver (ring 10 0 0) Normal 0 false) (ring 10 0 0) (failedOutcome (Io 11)))) ×
+    (answeredOf (waits (ring 10 0 0) Normal 0 (Receive (wanted 0 9))) [] byte 1 ≡ Refused (Copy RingMemory)) ×
+    (answeredOf (waits (ring 10 0 0) (Draining (Io 5000)) 0 (Receive (wanted 0 9))) [] byte 1 ≡ Refused (Copy RingMemory)) ×
+    (answeredOf (waits (ring 10 0 0) (Draining (Io 5000)) 0 (Receive (wanted 0 9))) [] (fails 11) 1 ≡ Refused (Misfit 0))
 unfolding readyFrom soundOf subMod fitsErrno interruptedOf receivedOf
 the-ring-is-looked-at-where-a-byte-was-received = (refl, refl, refl, refl)
 
 -- a phase that the record cannot be in is answered by the rules of the record
 a-made-up-phase :
-    (answeredOf (waits (ring 10 0 0) (Terminated (Io 9)) 0 (Receive 0 9)) (replicate 10 0) byte 1 ≡
+    (answeredOf (waits (ring 10 0 0) (Terminated (Io 9)) 0 (Receive (wanted 0 9))) (replicate 10 0) byte 1 ≡
     Of (finishedCall (receiver (ring 10 0 0) (Terminated (Io 9)) 0 false) (ring 10 0 0) (failedOutcome (Io 9)))) ×
     (answeredOf (waits (ring 10 0 0) (Draining (Io 5)) 3 (Send 3 (Told doneOutcome))) [] (sends 3) 1 ≡
     Of (finishedCall (receiver (ring 10 0 0) (Draining (Io 5)) 3 false) (ring 10 0 0) (failedOutcome (Io 5)))) ×

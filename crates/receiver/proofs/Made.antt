@@ -18,6 +18,7 @@ use Rattle.receiver.specs.declared.call.Call.{Call}
 use Rattle.receiver.specs.declared.call.Ending.{Ending}
 use Rattle.receiver.specs.declared.call.Phase.the-variants.{Receive, Send}
 use Rattle.receiver.specs.declared.call.Step.the-variants.{Of}
+use Rattle.receiver.specs.declared.call.Wanted.{Wanted}
 use Rattle.receiver.specs.declared.receiver.ReceiverState.{ReceiverState}
 use Rattle.states.specs.declared.state.PotentialFailure.{PotentialFailure}
 use Rattle.states.specs.declared.state.PotentialFailure.the-variants.{None}
@@ -42,8 +43,8 @@ module _ (q : ReceiverState) (h : Tested q) where
 -- ---- what waits is what the rules say
 module _ (q : ReceiverState) where
   -- a receive: no data, and one more can be counted
-  pub live-waits : (top asked : ℕ) → eqb asked 0 ≡ false → eqb (q .«pending_ack_count») (2 ^ 64 - 1) ≡ false → eqb (dataIn (q .scheduler)) 0 ≡ true → Of (call q (q .scheduler) (Receive top asked)) ≡ liveCall q top asked
-  live-waits top asked some counts empty = rw (some, counts, empty)
+  pub live-waits : (w : Wanted) → eqb (w .«dst_len») 0 ≡ false → eqb (q .«pending_ack_count») (2 ^ 64 - 1) ≡ false → eqb (dataIn (q .scheduler)) 0 ≡ true → Of (call q (q .scheduler) (Receive w)) ≡ liveCall q w
+  live-waits w some counts empty = rw (some, counts, empty)
 
   module _ (s : RingBufferScheduler) (e : Ending) where
     -- a send: no failure is stored, and something is pending

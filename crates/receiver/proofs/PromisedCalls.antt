@@ -34,7 +34,7 @@ use Rattle.receiver.proofs.call.Call.retries.Reads as retries
 -- ---- a call that is over is finished; what an interruption is waited out by
 finished-only : (ph : Phase) → isOver ph ≡ true → (o : Outcome) × (ph ≡ phase.Finished o)
 finished-only (phase.Finished o) e = (o, refl)
-finished-only (phase.Receive top asked) e = let z : _≡_ {A = ℕ} 0 1 = cc in absurd (omega arith)
+finished-only (phase.Receive w) e = let z : _≡_ {A = ℕ} 0 1 = cc in absurd (omega arith)
 finished-only (phase.Send batch x) e = let z : _≡_ {A = ℕ} 0 1 = cc in absurd (omega arith)
 finished-only (phase.Shutdown x) e = let z : _≡_ {A = ℕ} 0 1 = cc in absurd (omega arith)
 
@@ -45,13 +45,13 @@ is-over-promised κs a z p =
     ((λ h. finished-only (a .0 .phase) (sym e ∙ h)), (λ o h. e ∙ ap isOver h))
 
 abbrev Waits : Phase → Type 0
-Waits (phase.Receive top asked) = Unit {0}
+Waits (phase.Receive w) = Unit {0}
 Waits (phase.Send batch e) = Unit {0}
 Waits (phase.Shutdown e) = ⊥
 Waits (phase.Finished o) = ⊥
 
 retries-by : (ph : Phase) (x : Answer) → (retriesIn ph x ≡ true → Waits ph × (x .kind ≡ 2) × (x .value ≡ 4)) × (Waits ph → (x .kind ≡ 2) × (x .value ≡ 4) → retriesIn ph x ≡ true)
-retries-by (phase.Receive top asked) x = ((λ h. let k = interrupted-says x .0 h in (tt, k .0, k .1)), (λ w h. interrupted-says x .1 h))
+retries-by (phase.Receive w) x = ((λ h. let k = interrupted-says x .0 h in (tt, k .0, k .1)), (λ w h. interrupted-says x .1 h))
 retries-by (phase.Send batch e) x = ((λ h. let k = interrupted-says x .0 h in (tt, k .0, k .1)), (λ w h. interrupted-says x .1 h))
 retries-by (phase.Shutdown e) x = ((λ h. let z : _≡_ {A = ℕ} 0 1 = cc in absurd (omega arith)), (λ w h. absurd w))
 retries-by (phase.Finished o) x = ((λ h. let z : _≡_ {A = ℕ} 0 1 = cc in absurd (omega arith)), (λ w h. absurd w))

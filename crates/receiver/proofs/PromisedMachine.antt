@@ -11,7 +11,7 @@ use Rattle.receiver.proofs.HandedSum.{handed-sum}
 use Rattle.receiver.proofs.Made.{Made}
 use Rattle.receiver.proofs.Says.{begin-read-says, begin-service-says, begin-shutdown-says, answered-says}
 use Rattle.receiver.specs.Call.{answeredOf}
-use Rattle.receiver.specs.Cases.{BeginsRead, BeginsService, BeginsShutdown, Answered, Goes}
+use Rattle.receiver.specs.Cases.{a-want, BeginsRead, BeginsService, BeginsShutdown, Answered, Goes}
 use Rattle.receiver.specs.Handed.{Handed, stepOf, handedTo, allSentTo, allWholeTo}
 use Rattle.receiver.specs.declared.call.Call.{Call}
 use Rattle.receiver.specs.declared.call.Step.{Step}
@@ -25,9 +25,9 @@ use Rattle.receiver.proofs.call.Call.answered.Kinds as answered-kinds
 use Rattle.receiver.proofs.call.Call.answered.Reads as answered
 
 -- ---- of the calls
-pub begin-read-promised : Keeps 0 begin-read-kinds.ps begin-read-kinds.r begin-read.Learnt (λ κs a z. Goes (BeginsRead (a .0) (a .1 .1 .0) (a .1 .1 .1 .0)) z)
+pub begin-read-promised : Keeps 0 begin-read-kinds.ps begin-read-kinds.r begin-read.Learnt (λ κs a z. Goes (BeginsRead (a .0) (a-want (a .1 .1 .0) (a .1 .1 .1 .0))) z)
 begin-read-promised κs a z p =
-    subst (Goes (BeginsRead (a .0) (a .1 .1 .0) (a .1 .1 .1 .0))) (sym (begin-read-says κs a z (p .0) (p .1))) (begins-at (a .0) (a .1 .0) (a .1 .1 .0) (a .1 .1 .1 .0))
+    subst (Goes (BeginsRead (a .0) (a-want (a .1 .1 .0) (a .1 .1 .1 .0)))) (sym (begin-read-says κs a z (p .0) (p .1))) (begins-at (a .0) (a .1 .0) (a .1 .1 .0) (a .1 .1 .1 .0))
 
 pub begin-service-promised : Keeps 0 begin-service-kinds.ps begin-service-kinds.r begin-service.Learnt (λ κs a z. Goes (BeginsService (a .0)) z)
 begin-service-promised κs a z p = subst (Goes (BeginsService (a .0))) (sym (begin-service-says κs a z (p .0) (p .1))) (serves-at (a .0))

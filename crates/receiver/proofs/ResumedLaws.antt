@@ -29,6 +29,7 @@ use Rattle.receiver.specs.declared.call.Phase.{Phase}
 use Rattle.receiver.specs.declared.call.Phase.the-variants as phase
 use Rattle.receiver.specs.declared.call.Step.{Step}
 use Rattle.receiver.specs.declared.call.Step.the-variants.{Of, Refused}
+use Rattle.receiver.specs.declared.call.Wanted.{Wanted}
 use Rattle.receiver.specs.declared.receiver.ReceiverState.{ReceiverState}
 use Rattle.states.specs.declared.refusal.Refusal.{Refusal}
 use Rattle.states.specs.declared.state.OperationalState.{OperationalState}
@@ -45,7 +46,7 @@ stepped-by c ring a place ph e r p = p ∙ ap (λ (x : Phase). steppedBy x c rin
 
 -- an interruption that is waited out leaves the call as it is
 pub steps-back : (c : Call) (ring : List ℕ) (a : Answer) (place : ℕ) (ph : Phase) → retriesIn ph a ≡ true → steppedBy ph c ring a place ≡ Of c
-steps-back c ring a place (phase.Receive top asked) e = rw e
+steps-back c ring a place (phase.Receive w) e = rw e
 steps-back c ring a place (phase.Send batch x) e = rw e
 steps-back c ring a place (phase.Shutdown x) e = let z : _≡_ {A = ℕ} 0 1 = cc in absurd (omega arith)
 steps-back c ring a place (phase.Finished o) e = refl
@@ -54,8 +55,8 @@ steps-back c ring a place (phase.Finished o) e = refl
 pub uninterrupted : (c : Call) (a : Answer) (ph : Phase) → c .phase ≡ ph → retriesOf c a ≡ false → retriesIn ph a ≡ false
 uninterrupted c a ph e h = ap (λ (x : Phase). retriesIn x a) (sym e) ∙ h
 
-pub steps-received : (c : Call) (a : Answer) (n top asked : ℕ) → c .phase ≡ phase.Receive top asked → Steps c a n → (x : Received) → x ≡ receivedOf top a → Handing (c .receiver) × ByteSized x n (c .receiver)
-steps-received c a n top asked e h x p =
+pub steps-received : (c : Call) (a : Answer) (n : ℕ) (w : Wanted) → c .phase ≡ phase.Receive w → Steps c a n → (x : Received) → x ≡ receivedOf (w .«max_new_fds») a → Handing (c .receiver) × ByteSized x n (c .receiver)
+steps-received c a n w e h x p =
     subst (λ (y : Received). Handing (c .receiver) × ByteSized y n (c .receiver)) (sym p) (subst (λ (ph : Phase). StepsBy ph (c .receiver) a n) e h)
 
 -- ---- the call after an answer: of a record that passed its tests, what the rules make of it takes the answer
@@ -103,29 +104,30 @@ module _ (a : Answer) (n : ℕ) where
   shutdown-takes q s e (Draining f) = shut-takes q s e (q .«notification_socket_shutdown_issued»)
   shutdown-takes q s e (Terminated f) = shut-takes q s e (q .«notification_socket_shutdown_issued»)
 
-  module _ (q : ReceiverState) (top asked : ℕ) (sound : IsSound (q .scheduler)) (sized : ByteSized (receivedOf top a) n q) (counts : q .«pending_ack_count» < 2 ^ 64) where
-    live-takes : Takes (readBy Normal q top asked)
+  module _ (q : ReceiverState) (w : Wanted) (sound : IsSound (q .scheduler)) (sized : ByteSized (receivedOf (w .«max_new_fds») a) n q) (counts : q .«pending_ack_count» < 2 ^ 64) where
+    live-takes : Takes (readBy Normal q w)
     live-takes =
-        either (eqb asked 0) _ _ (λ e. tt)
+        either (eqb (w .«dst_len») 0) _ _ (λ e. tt)
         (λ e. either (eqb (q .«pending_ack_count») (2 ^ 64 - 1)) _ _ (λ f. tt)
         (λ f. either (eqb (dataIn (q .scheduler)) 0) _ _
         (λ z. (record { sound = sound; counted = below _ counts (eqb-false _ _ f) }, sized))
         (λ z. service-takes _ _ _ (failureIn (handedOut q _ .state)))))
 
-    read-takes : (st : OperationalState) → Takes (readBy st q top asked)
+    read-takes : (st : OperationalState) → Takes (readBy st q w)
     read-takes Normal = live-takes
     read-takes (Draining f) = live-takes
     read-takes (Terminated f) = tt
 
   -- the ring of a byte that was received has been tested
   sized-by : (q : ReceiverState) (x : Received) → Passed ≡ admissionOf q (looksBy x n) → ByteSized x n q
-  sized-by q (received.Byte b fds) p = passed-sized q n p
+  sized-by q (received.Byte byte _) p = passed-sized q n p
   sized-by q (received.Failed e) p = tt
   sized-by q received.Misfit p = tt
 
   resumed-takes : (c : Call) (ph : Phase) → c .phase ≡ ph → Passed ≡ admissionOf (c .receiver) (looksAt ph a n) → c .receiver .«pending_ack_count» < 2 ^ 64 → Takes (resumedBy ph c)
-  resumed-takes c (phase.Receive top asked) e p counts =
-      read-takes (c .receiver) top asked (passed-sound (c .receiver) (looksBy (receivedOf top a) n) p) (sized-by (c .receiver) (receivedOf top a) p) counts (c .receiver .state)
+  resumed-takes c (phase.Receive w) e p counts =
+      let x = receivedOf (w .«max_new_fds») a in
+      read-takes (c .receiver) w (passed-sound (c .receiver) (looksBy x n) p) (sized-by (c .receiver) x p) counts (c .receiver .state)
   resumed-takes c (phase.Send batch x) e p counts = service-takes (c .receiver) (c .source) x (failureIn (c .receiver .state))
   resumed-takes c (phase.Shutdown x) e p counts = shutdown-takes (c .receiver) (c .source) x (c .receiver .state)
   resumed-takes c (phase.Finished o) e p counts = subst (λ (ph : Phase). StepsBy ph (c .receiver) a n) (sym e) tt

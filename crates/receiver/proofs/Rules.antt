@@ -23,6 +23,7 @@ use Rattle.receiver.specs.Receiver.{headerIn, announcedIn}
 use Rattle.states.specs.State.{violationNumber}
 use Rattle.receiver.specs.declared.announcement.Announced.{Announced}
 use Rattle.receiver.specs.declared.announcement.Announced.the-variants as announcement
+use Rattle.receiver.specs.declared.receiver.Beside.{Beside}
 use Rattle.states.specs.declared.state.Failure.the-variants.{Io, Protocol}
 
 -- ---- batches
@@ -35,7 +36,7 @@ batch-rule p z = by (leb 128 p) refl
 
 -- ---- announcements
 abbrev pub saidBy : Announced → Said
-saidBy (announcement.Chunk u fds) = body (dataIn u) fds
+saidBy (announcement.Chunk u b) = body (dataIn u) b
 saidBy (announcement.Failed (Protocol v)) = violates (violationNumber v)
 saidBy (announcement.Failed (Io e)) = violates 0
 
@@ -45,7 +46,7 @@ top-bits h e = let l : h % 2 ^ 62 < 2 ^ 62 = mod-lt h (omega arith) in omega (ar
 no-top-bits : (h : ℕ) → eqb (h / 2 ^ 62) 0 ≡ false → 2 ^ 62 ≤ h
 no-top-bits h e = omega (arith, eqb-false (h / 2 ^ 62) 0 e, div-add-mod' h (2 ^ 62))
 
-module _ (s : RingBufferScheduler) (sound : IsSound s) (empty : dataIn s ≡ 0) (fds : ℕ) where
+module _ (s : RingBufferScheduler) (sound : IsSound s) (empty : dataIn s ≡ 0) (b : Beside) where
   abbrev L : ℕ
   L = s .«buf_len»
 
@@ -56,10 +57,10 @@ module _ (s : RingBufferScheduler) (sound : IsSound s) (empty : dataIn s ≡ 0) 
   chunk-data : (g : 8 ≤ spaceIn s) (n : ℕ) (l : n + 8 ≤ spaceIn s) → dataIn (advancedIn (advancedIn (advancedIn s Write 8) Read 8) Write n) ≡ n
   chunk-data g n l = omega (arith, holds s sound g n l, empty)
 
-  header-says : (h : ℕ) → 8 ≤ spaceIn s → Announces L h fds (saidBy (headerIn s fds h))
+  header-says : (h : ℕ) → 8 ≤ spaceIn s → Announces L h b (saidBy (headerIn s b h))
   header-says h g = by (eqb (h / 2 ^ 62) 0) refl (eqb (h % 2 ^ 48) 0) refl (bodyFits (spaceIn s) (h % 2 ^ 48)) refl
     where
-      by : (x : Bool) → eqb (h / 2 ^ 62) 0 ≡ x → (y : Bool) → eqb (h % 2 ^ 48) 0 ≡ y → (z : Bool) → bodyFits (spaceIn s) (h % 2 ^ 48) ≡ z → Announces L h fds (saidBy (headerIn s fds h))
+      by : (x : Bool) → eqb (h / 2 ^ 62) 0 ≡ x → (y : Bool) → eqb (h % 2 ^ 48) 0 ≡ y → (z : Bool) → bodyFits (spaceIn s) (h % 2 ^ 48) ≡ z → Announces L h b (saidBy (headerIn s b h))
       by false p y q z r = rw p (format-unknown (omega (arith, free, g)) (no-top-bits h p))
       by true p true q z r = rw (p, q) (length-0 (omega (arith, free, g)) (top-bits h p) (eqb-true _ _ q))
       by true p false q false r = rw (p, q, r) (too-long (omega (arith, free, g)) (top-bits h p) (omega (arith, eqb-false (h % 2 ^ 48) 0 q)) (omega (arith, free, fits-not-by (spaceIn s) (h % 2 ^ 48) r)))
@@ -67,9 +68,9 @@ module _ (s : RingBufferScheduler) (sound : IsSound s) (empty : dataIn s ≡ 0) 
           rw (p, q, r, chunk-data g (h % 2 ^ 48) (fits-by (spaceIn s) (h % 2 ^ 48) r))
           (accepted (top-bits h p) (omega (arith, eqb-false (h % 2 ^ 48) 0 q)) (omega (arith, free, fits-by (spaceIn s) (h % 2 ^ 48) r)))
 
-  pub announcement-says : (ring : List ℕ) → Announces L (numberAt L ring (offsetIn s Read .0)) fds (saidBy (announcedIn ring s fds))
-  announcement-says ring = subst (λ (h : ℕ). Announces L h fds (saidBy (announcedIn ring s fds))) (number-at L ring (offsetIn s Read .0)) (by (ltb (spaceIn s) 8) refl)
+  pub announcement-says : (ring : List ℕ) → Announces L (numberAt L ring (offsetIn s Read .0)) b (saidBy (announcedIn ring s b))
+  announcement-says ring = subst (λ (h : ℕ). Announces L h b (saidBy (announcedIn ring s b))) (number-at L ring (offsetIn s Read .0)) (by (ltb (spaceIn s) 8) refl)
     where
-      by : (x : Bool) → ltb (spaceIn s) 8 ≡ x → Announces L (numberFrom 0 (get L ring (offsetIn s Read .0) 8)) fds (saidBy (announcedIn ring s fds))
+      by : (x : Bool) → ltb (spaceIn s) 8 ≡ x → Announces L (numberFrom 0 (get L ring (offsetIn s Read .0) 8)) b (saidBy (announcedIn ring s b))
       by true p = rw p (no-room-for-a-header (omega (arith, free, ltb-true (spaceIn s) 8 p)))
       by false p = rw p (header-says (numberFrom 0 (get L ring (offsetIn s Read .0) 8)) (ltb-false _ _ p))

@@ -27,6 +27,8 @@ use Rattle.receiver.specs.declared.call.Phase.the-variants as phase
 use Rattle.receiver.specs.declared.receiver.Came.{Came}
 use Rattle.receiver.specs.declared.receiver.Came.the-variants as came
 use Rattle.receiver.specs.declared.receiver.Outcome.{Outcome}
+use Rattle.receiver.specs.declared.call.Wanted.{Wanted}
+use Rattle.receiver.specs.declared.receiver.Beside.{Beside}
 use Rattle.receiver.specs.declared.receiver.ReceiverState.{ReceiverState}
 use Rattle.states.specs.declared.state.Failure.{Failure}
 use Rattle.states.specs.declared.state.Failure.the-variants.{Io}
@@ -66,7 +68,7 @@ Quiet (Told o) = Unread (o .came)
 
 -- nor does one wait for an announcement that was asked for no bytes
 abbrev pub QuietIn : Phase → Type 0
-QuietIn (phase.Receive top asked) = asked ≢ 0
+QuietIn (phase.Receive w) = w .«dst_len» ≢ 0
 QuietIn (phase.Send batch e) = Quiet e
 QuietIn (phase.Shutdown e) = Quiet e
 QuietIn (phase.Finished o) = Unit {0}
@@ -78,7 +80,7 @@ met-quiet _ _ _ is-dropped h = tt
 
 -- the announcement of a read has come, if it waits for one
 abbrev pub Settled : Phase → Type 0
-Settled (phase.Receive top asked) = ⊥
+Settled (phase.Receive w) = ⊥
 Settled (phase.Send batch e) = Unit {0}
 Settled (phase.Shutdown e) = Unit {0}
 Settled (phase.Finished o) = Unit {0}
@@ -151,55 +153,55 @@ ends-whole q (Told o) _ h told-failure = unread-whole (o .came) h
 pub spends-whole : (q : ReceiverState) (s : RingBufferScheduler) (e : Ending) (n : ℕ) (c : Call) → Spends q s e n c → Quiet e → whole c ≡ wholeIn q (outcomeIn e)
 spends-whole q s e n c h k = whole-same (comingTo (c .phase) .came) (c .receiver) q (h .scheduler) ∙ ends-whole q e (comingTo (c .phase)) k (h .ends)
 
-read-whole : (r : ReceiverState) (n fds : ℕ) → n ≢ 0 → dataIn (r .scheduler) ≡ 0 → wholeIn r (readOutcome n fds) ≡ 1
-read-whole r n fds some z = rw (ne-eqb n 0 some, eq-eqb (dataIn (r .scheduler)) 0 z)
+read-whole : (r : ReceiverState) (n : ℕ) (b : Beside) → n ≢ 0 → dataIn (r .scheduler) ≡ 0 → wholeIn r (readOutcome n b) ≡ 1
+read-whole r n b some z = rw (ne-eqb n 0 some, eq-eqb (dataIn (r .scheduler)) 0 z)
 
-read-part : (r : ReceiverState) (n fds : ℕ) → n ≢ 0 → dataIn (r .scheduler) ≢ 0 → wholeIn r (readOutcome n fds) ≡ 0
-read-part r n fds some z = rw (ne-eqb n 0 some, ne-eqb (dataIn (r .scheduler)) 0 z)
+read-part : (r : ReceiverState) (n : ℕ) (b : Beside) → n ≢ 0 → dataIn (r .scheduler) ≢ 0 → wholeIn r (readOutcome n b) ≡ 0
+read-part r n b some z = rw (ne-eqb n 0 some, ne-eqb (dataIn (r .scheduler)) 0 z)
 
 -- ---- bytes that are handed out
 dropped-end : (o x : Outcome) → Ends (Dropped o) x → x ≡ o
 dropped-end _ _ as-dropped = refl
 
-module _ (q : ReceiverState) (asked fds : ℕ) where
+module _ (q : ReceiverState) (asked : ℕ) (b : Beside) where
   pub record Hands (c : Call) : Type 0 where
     pub bytes : ℕ
     pub amount : bytes ≡ min asked (dataIn (q .scheduler))
-    pub comes : comingTo (c .phase) ≡ readOutcome bytes fds
+    pub comes : comingTo (c .phase) ≡ readOutcome bytes b
     pub source : c .source ≡ q .scheduler
     pub counts : c .receiver .«pending_ack_count» ≡ q .«pending_ack_count» + whole c
     pub quiet : QuietIn (c .phase)
     pub settled : Settled (c .phase)
 
-  pub hands : asked ≢ 0 → 1 ≤ dataIn (q .scheduler) → (c : Call) → HandsOut q asked fds c → Hands c
+  pub hands : asked ≢ 0 → 1 ≤ dataIn (q .scheduler) → (c : Call) → HandsOut q asked b c → Hands c
   hands some holds c (a-part {u} l r h) =
-      let k = serves-spends _ (q .scheduler) (Dropped (readOutcome asked fds)) c h in
-      let e = dropped-end (readOutcome asked fds) (comingTo (c .phase)) (k .ends) in
+      let k = serves-spends _ (q .scheduler) (Dropped (readOutcome asked b)) c h in
+      let e = dropped-end (readOutcome asked b) (comingTo (c .phase)) (k .ends) in
       let left : dataIn (c .receiver .scheduler) ≢ 0 = λ z. omega (arith, ap dataIn (k .scheduler), r .fill, l, z) in
-      let w : whole c ≡ 0 = ap (wholeIn (c .receiver)) e ∙ read-part (c .receiver) asked fds some left in
+      let w : whole c ≡ 0 = ap (wholeIn (c .receiver)) e ∙ read-part (c .receiver) asked b some left in
       record { bytes = asked; amount = omega (arith, l); comes = e; source = k .source; counts = omega (arith, k .counts, w); quiet = k .quiet tt; settled = k .settled }
   hands some holds c (all-of-it {u} l r h) =
       let d = dataIn (q .scheduler) in
-      let k = serves-spends _ (q .scheduler) (Dropped (readOutcome d fds)) c h in
-      let e = dropped-end (readOutcome d fds) (comingTo (c .phase)) (k .ends) in
+      let k = serves-spends _ (q .scheduler) (Dropped (readOutcome d b)) c h in
+      let e = dropped-end (readOutcome d b) (comingTo (c .phase)) (k .ends) in
       let none : dataIn (c .receiver .scheduler) ≡ 0 = omega (arith, ap dataIn (k .scheduler), r .fill) in
-      let w : whole c ≡ 1 = ap (wholeIn (c .receiver)) e ∙ read-whole (c .receiver) d fds (λ z. omega (arith, holds, z)) none in
+      let w : whole c ≡ 1 = ap (wholeIn (c .receiver)) e ∙ read-whole (c .receiver) d b (λ z. omega (arith, holds, z)) none in
       record { bytes = d; amount = omega (arith, l); comes = e; source = k .source; counts = omega (arith, k .counts, w); quiet = k .quiet tt; settled = k .settled }
 
 -- ---- what comes of a receive: a chunk's bytes are handed out, or a failure is answered
 pub data Took (q : ReceiverState) (s : RingBufferScheduler) (asked : ℕ) (c : Call) : Type 0 where
-  handed : (r : ReceiverState) (n fds : ℕ) → Chunk (q .scheduler) n (r .scheduler) → r .«pending_ack_count» ≡ q .«pending_ack_count» → Hands r asked fds c → Took q s asked c
+  handed : (r : ReceiverState) (n : ℕ) (b : Beside) → Chunk (q .scheduler) n (r .scheduler) → r .«pending_ack_count» ≡ q .«pending_ack_count» → Hands r asked b c → Took q s asked c
   failed : (f : Failure) → Spends q s (Dropped (failedOutcome f)) 0 c → Took q s asked c
 
-some-body : (L h fds n : ℕ) → Announces L h fds (body n fds) → 1 ≤ n
-some-body L h fds _ (accepted k m l) = m
+some-body : (L h n : ℕ) (b d : Beside) → Announces L h b (body n d) → 1 ≤ n
+some-body L h _ b _ (accepted k m l) = m
 
-module _ (q : ReceiverState) (s : RingBufferScheduler) (ring : List ℕ) (asked : ℕ) (some : asked ≢ 0) where
-  pub took : (x : Received) (c : Call) → TakesReceived q s ring asked x c → (x ≢ received.Misfit) × Took q s asked c
-  took _ c (announces {fds} {n} {u} h k o) =
-      let holds : 1 ≤ dataIn u = omega (arith, k .filling .fill, some-body _ _ fds n h) in (
+module _ (q : ReceiverState) (s : RingBufferScheduler) (ring : List ℕ) (w : Wanted) (some : w .«dst_len» ≢ 0) where
+  pub took : (x : Received) (c : Call) → TakesReceived q s ring w x c → (x ≢ received.Misfit) × Took q s (w .«dst_len») c
+  took _ c (announces {n = n} {b} {u} h k o) =
+      let holds : 1 ≤ dataIn u = omega (arith, k .filling .fill, some-body _ _ n _ b h) in (
         (λ z. let y : _≡_ {A = ℕ} 0 1 = cc in omega arith),
-        handed _ n fds k refl (hands _ asked fds some holds c o),
+        handed _ n b k refl (hands _ (w .«dst_len») b some holds c o),
       )
   took _ c (header-violates h k o) = ((λ z. let y : _≡_ {A = ℕ} 0 1 = cc in omega arith), failed _ (advances-spends q s _ _ _ c o))
   took _ c (byte-violates h k o) = ((λ z. let y : _≡_ {A = ℕ} 0 1 = cc in omega arith), failed _ (advances-spends q s _ _ _ c o))

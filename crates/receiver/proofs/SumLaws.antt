@@ -11,6 +11,7 @@ use Rattle.receiver.specs.Receiver.{failedOutcome, doneOutcome}
 use Rattle.receiver.specs.Call.{outcomeIn, isOver}
 use Rattle.receiver.specs.Cases.{TakesSent, none-went, some-went, send-blocks, send-fails, TakesShut, is-shut, is-not, BeginsRead, is-terminated, none-asked, awaits, holds-data, BeginsService, BeginsShutdown, Interrupts, TakesIn}
 use Rattle.receiver.specs.Handed.{sentBy, wholeIn, comingTo}
+use Rattle.receiver.specs.Promise.{nothing-more}
 use Rattle.states.specs.Promise.{SaysReceived, a-byte, closed, receive-failed, no-receive, SaysSent, so-many, send-failed, no-send, SaysShut, done, shutdown-failed, no-shutdown}
 use Rattle.states.specs.declared.answer.Answer.{Answer}
 use Rattle.states.specs.declared.answer.Received.{Received}
@@ -24,6 +25,7 @@ use Rattle.receiver.specs.declared.call.Ending.{Ending}
 use Rattle.receiver.specs.declared.call.Ending.the-variants.{Dropped, Told}
 use Rattle.receiver.specs.declared.call.Phase.{Phase}
 use Rattle.receiver.specs.declared.call.Phase.the-variants as phase
+use Rattle.receiver.specs.declared.call.Wanted.{Wanted}
 use Rattle.receiver.specs.declared.receiver.ReceiverState.{ReceiverState}
 use Rattle.receiver.proofs.StepLaws.{Quiet, QuietIn, Spends, sentIn, serves-spends, advances-spends, sent-spends, shut-spends, whole, spends-whole, hands, Took, handed, failed, took}
 
@@ -68,9 +70,9 @@ module _ (c : Call) (ring : List ℕ) (a : Answer) (d : Call) where
       subst (λ (x : Call). (x .receiver .«pending_ack_count» + sentBy a + whole c ≡ c .receiver .«pending_ack_count» + whole x) × QuietIn (x .phase)) (sym e)
       (omega (arith, other-sends a (λ z. omega (arith, i .0, z))), subst QuietIn (sym p) h)
 
-  took-sums : (top asked : ℕ) → c .phase ≡ phase.Receive top asked → sentBy a ≡ 0 → Took (c .receiver) (c .source) asked d → Sums
-  took-sums top asked p z (handed r n fds k e h) = (omega (arith, z, e, h .counts, ap (λ (x : Phase). wholeIn (c .receiver) (comingTo x)) p), h .quiet)
-  took-sums top asked p z (failed f h) = (
+  took-sums : (w : Wanted) → c .phase ≡ phase.Receive w → sentBy a ≡ 0 → Took (c .receiver) (c .source) (w .«dst_len») d → Sums
+  took-sums w p z (handed r n b k e h) = (omega (arith, z, e, h .counts, ap (λ (x : Phase). wholeIn (c .receiver) (comingTo x)) p), h .quiet)
+  took-sums w p z (failed f h) = (
     omega (arith, z, h .counts, ap (λ (x : Phase). wholeIn (c .receiver) (comingTo x)) p, spends-whole (c .receiver) (c .source) (Dropped (failedOutcome f)) 0 d h tt),
     h .quiet tt,
   )
@@ -79,10 +81,10 @@ module _ (c : Call) (ring : List ℕ) (a : Answer) (d : Call) where
   spends-sums e n w q z h = (omega (arith, w, z, h .counts, spends-whole (c .receiver) (c .source) e n d h q), h .quiet q)
 
   pub step-sums : (ph : Phase) → c .phase ≡ ph → isOver ph ≡ false → QuietIn ph → TakesIn ph c ring a d → Sums
-  step-sums (phase.Receive top asked) p w h (inl t) = waited (phase.Receive top asked) p h t
-  step-sums (phase.Receive top asked) p w h (inr (i, (x, says, t))) =
-      let k = took (c .receiver) (c .source) ring asked h x d t in
-      took-sums top asked p (says-received a top x says (k .0)) (k .1)
+  step-sums (phase.Receive w) p over h (inl t) = waited (phase.Receive w) p h t
+  step-sums (phase.Receive w) p over h (inr (i, (x, says, t))) =
+      let k = took (c .receiver) (c .source) ring w h x d t in
+      took-sums w p (says-received a (w .«max_new_fds») x says (k .0)) (k .1)
   step-sums (phase.Send batch e) p w h (inl t) = waited (phase.Send batch e) p h t
   step-sums (phase.Send batch e) p w h (inr (i, (x, says, t))) =
       spends-sums e (sentIn x) (ap (λ (y : Phase). wholeIn (c .receiver) (comingTo y)) p) h (says-sent a batch x says (sent-taken _ _ e x d t)) (sent-spends (c .receiver) (c .source) e x d t)
@@ -104,8 +106,8 @@ module _ (q : ReceiverState) where
   pub shutdown-begun : (c : Call) → BeginsShutdown q c → Begun c
   shutdown-begun c h = spends-begun (q .scheduler) (Told doneOutcome) c refl tt (advances-spends q (q .scheduler) (Told doneOutcome) _ _ c h)
 
-  pub read-begun : (top asked : ℕ) (c : Call) → BeginsRead q top asked c → Begun c
-  read-begun top asked _ (is-terminated p) = (omega arith, tt)
-  read-begun top asked _ (none-asked l z) = (omega arith, tt)
-  read-begun top asked _ (awaits r z) = (omega arith, r .some)
-  read-begun top asked c (holds-data r l h) = let k = hands q asked 0 (r .some) l c h in (k .counts, k .quiet)
+  pub read-begun : (w : Wanted) (c : Call) → BeginsRead q w c → Begun c
+  read-begun w _ (is-terminated p) = (omega arith, tt)
+  read-begun w _ (none-asked l z) = (omega arith, tt)
+  read-begun w _ (awaits r z) = (omega arith, r .some)
+  read-begun w c (holds-data r l h) = let k = hands q (w .«dst_len») nothing-more (r .some) l c h in (k .counts, k .quiet)

@@ -11,7 +11,7 @@ use Rattle.sched.specs.Scheduler.{IsSound, dataIn}
 use Rattle.receiver.specs.Admission.{admissionOf}
 use Rattle.states.specs.Answer.{interruptedOf, receivedOf, sentOf, shutOf}
 use Rattle.states.specs.State.{failureIn, isErrno, advanceIn}
-use Rattle.receiver.specs.Receiver.{readOutcome, failedOutcome, doneOutcome, withScheduler, withState, withPending, withShutdown, batchIn, bySent, byteIn, handedOut}
+use Rattle.receiver.specs.Receiver.{readOutcome, failedOutcome, doneOutcome, withScheduler, withState, withPending, withShutdown, batchIn, bySent, noneBeside, besideByte, byteIn, handedOut}
 use Rattle.receiver.specs.declared.admission.Admission.{Admission}
 use Rattle.receiver.specs.declared.admission.Admission.the-variants as admission
 use Rattle.receiver.specs.declared.admission.Memory.{Memory}
@@ -29,8 +29,10 @@ use Rattle.receiver.specs.declared.call.Ending.the-variants.{Dropped, To
 use Rattle.receiver.specs.declared.call.Phase.{Phase}
 use Rattle.receiver.specs.declared.call.Phase.the-variants as phase
 use Rattle.receiver.specs.declared.call.Step.{Step}
+use Rattle.receiver.specs.declared.call.Wanted.{Wanted}
 use Rattle.receiver.specs.declared.going.Going.{Going}
 use Rattle.receiver.specs.declared.call.Step.the-variants as step
+use Rattle.receiver.specs.declared.receiver.Beside.{Beside}
 use Rattle.receiver.specs.declared.receiver.Outcome.{Outcome}
 use Rattle.receiver.specs.declared.receiver.ReceiverState.{ReceiverState}
 use Rattle.states.specs.declared.refusal.Refusal.the-variants.{Misfit, PendingFull}
@@ -126,9 +128,9 @@ pub record Handing (q : ReceiverState) : Type 0 where
   pub sound : IsSound (q .scheduler)
   pub counted : Counts q
 
-abbrev pub handOutCall : ℕ → ℕ → ReceiverState → Call
-handOutCall asked fds q =
-    serviceCall (handedOut q (min asked (dataIn (q .scheduler)))) (q .scheduler) (Dropped (readOutcome (min asked (dataIn (q .scheduler))) fds))
+abbrev pub handOutCall : ℕ → Beside → ReceiverState → Call
+handOutCall asked b q =
+    serviceCall (handedOut q (min asked (dataIn (q .scheduler)))) (q .scheduler) (Dropped (readOutcome (min asked (dataIn (q .scheduler))) b))
 
 abbrev pub failedCall : Failure → ReceiverState → RingBufferScheduler → Call
 failedCall f q s = advanceCall (Terminated f) q s (Dropped (failedOutcome f))
@@ -143,46 +145,49 @@ blockedCall q s = blockedBy (q .state) q s
 
 -- a chunk's scheduler is sound, and an acknowledgement more can be pending
 abbrev pub Announces : Announced → ReceiverState → Type 0
-Announces (announced.Chunk s fds) q = IsSound s × Counts q
+Announces (announced.Chunk s b) q = IsSound s × Counts q
 Announces (announced.Failed f) q = Unit {0}
 
-abbrev pub announcedCall : Announced → ℕ → ReceiverState → RingBufferScheduler → Call
-announcedCall (announced.Chunk u fds) asked q s = handOutCall asked fds (withScheduler q u)
-announcedCall (announced.Failed f) asked q s = cond (isErrno f 11) (blockedCall q s) (failedCall f q s)
+abbrev pub announcedCall : Announced → Wanted → ReceiverState → RingBufferScheduler → Call
+announcedCall (announced.Chunk u b) w q s = handOutCall (w .«dst_len») b (withScheduler q u)
+announcedCall (announced.Failed f) w q s = cond (isErrno f 11) (blockedCall q s) (failedCall f q s)
 
-abbrev pub afterReceive : ReceiverState → RingBufferScheduler → List ℕ → Received → ℕ → ℕ → Step
-afterReceive q s ring (received.Byte b fds) asked place = step.Of (announcedCall (byteIn ring (q .scheduler) b fds) asked q s)
-afterReceive q s ring (received.Failed n) asked place = step.Of (announcedCall (announced.Failed (Io n)) asked q s)
-afterReceive q s ring received.Misfit asked place = step.Refused (Misfit place)
+abbrev pub afterReceive : ReceiverState → RingBufferScheduler → List ℕ → Received → Wanted → ℕ → Step
+afterReceive q s ring (received.Byte byte fds) w place = step.Of (announcedCall (byteIn ring (q .scheduler) byte (besideByte fds)) w q s)
+afterReceive q s ring (received.Failed n) w place = step.Of (announcedCall (announced.Failed (Io n)) w q s)
+afterReceive q s ring received.Misfit w place = step.Refused (Misfit place)
 
 -- where a byte was received, the ring has the scheduler's length
 abbrev pub ByteSized : Received → ℕ → ReceiverState → Type 0
-ByteSized (received.Byte b fds) n q = n ≡ q .scheduler .«buf_len»
+ByteSized (received.Byte byte _) n q = n ≡ q .scheduler .«buf_len»
 ByteSized (received.Failed e) n q = Unit {0}
 ByteSized received.Misfit n q = Unit {0}
 
 -- in order: the empty destination, 13, the announcement if there is no data
-abbrev pub liveCall : ReceiverState → ℕ → ℕ → Step
-liveCall q top asked =
-    cond (eqb asked 0) (step.Of (finishedCall q (q .scheduler) (readOutcome 0 0)))
+abbrev pub liveCall : ReceiverState → Wanted → Step
+liveCall q w =
+    cond (eqb (w .«dst_len») 0) (step.Of (finishedCall q (q .scheduler) (readOutcome 0 noneBeside)))
     (cond (eqb (q .«pending_ack_count») (2 ^ 64 - 1)) (step.Refused PendingFull)
-    (cond (eqb (dataIn (q .scheduler)) 0) (step.Of (call q (q .scheduler) (phase.Receive top asked))) (step.Of (handOutCall asked 0 q))))
+    (cond (eqb (dataIn (q .scheduler)) 0) (step.Of (call q (q .scheduler) (phase.Receive w))) (step.Of (handOutCall (w .«dst_len») noneBeside q))))
 
-abbrev pub readBy : OperationalState → ReceiverState → ℕ → ℕ → Step
-readBy Normal q top asked = liveCall q top asked
-readBy (Draining f) q top asked = liveCall q top asked
-readBy (Terminated f) q top asked = step.Of (finishedCall q (q .scheduler) (failedOutcome f))
+abbrev pub readBy : OperationalState → ReceiverState → Wanted → Step
+readBy Normal q w = liveCall q w
+readBy (Draining f) q w = liveCall q w
+readBy (Terminated f) q w = step.Of (finishedCall q (q .scheduler) (failedOutcome f))
 
-abbrev pub readCall : ReceiverState → ℕ → ℕ → Step
-readCall q top asked = readBy (q .state) q top asked
+abbrev pub readCall : ReceiverState → Wanted → Step
+readCall q w = readBy (q .state) q w
 
 -- ---- the beginnings: the tests, and then the rules
 abbrev pub admittedStep : Admission → Step → Step
 admittedStep admission.Passed x = x
 admittedStep (admission.Refused r) x = step.Refused r
 
+abbrev pub wanted : ℕ → ℕ → Wanted
+wanted top asked = record { «max_new_fds» = top; «dst_len» = asked }
+
 abbrev pub beginReadOf : ReceiverState → ℕ → ℕ → ℕ → Step
-beginReadOf q n top asked = admittedStep (admissionOf q (memory.Of n)) (readCall q top asked)
+beginReadOf q n top asked = admittedStep (admissionOf q (memory.Of n)) (readCall q (wanted top asked))
 
 abbrev pub beginServiceOf : ReceiverState → Step
 beginServiceOf q = admittedStep (admissionOf q memory.None) (step.Of (serviceCall q (q .scheduler) (Told doneOutcome)))
@@ -193,7 +198,7 @@ beginShutdownOf q = admittedStep (admissionOf q memory.None) (step.Of (advanceCa
 -- ---- what a driver asks
 -- a call that is over waits for nothing more
 abbrev pub isOver : Phase → Bool
-isOver (phase.Receive top asked) = false
+isOver (phase.Receive w) = false
 isOver (phase.Send batch e) = false
 isOver (phase.Shutdown e) = false
 isOver (phase.Finished o) = true
@@ -203,7 +208,7 @@ overOf c = isOver (c .phase)
 
 -- an interruption is waited out by a receive and by a send; a shutdown is not tried again
 abbrev pub retriesIn : Phase → Answer → Bool
-retriesIn (phase.Receive top asked) a = interruptedOf a
+retriesIn (phase.Receive w) a = interruptedOf a
 retriesIn (phase.Send batch e) a = interruptedOf a
 retriesIn (phase.Shutdown e) a = false
 retriesIn (phase.Finished o) a = false
@@ -214,12 +219,12 @@ retriesOf c a = retriesIn (c .phase) a
 -- ---- the call after an answer
 -- the ring is looked at where a byte was received, and only there
 abbrev pub looksBy : Received → ℕ → Memory
-looksBy (received.Byte b fds) n = memory.Of n
+looksBy (received.Byte byte _) n = memory.Of n
 looksBy (received.Failed e) n = memory.None
 looksBy received.Misfit n = memory.None
 
 abbrev pub looksAt : Phase → Answer → ℕ → Memory
-looksAt (phase.Receive top asked) a n = looksBy (receivedOf top a) n
+looksAt (phase.Receive w) a n = looksBy (receivedOf (w .«max_new_fds») a) n
 looksAt (phase.Send batch e) a n = memory.None
 looksAt (phase.Shutdown e) a n = memory.None
 looksAt (phase.Finished o) a n = memory.None
@@ -227,7 +232,7 @@ looksAt (phase.Finished o) a n = memory.None
 -- A phase can be made up, and so the rules are asked anew what the call waits for with this record. A call that the machine made is
 -- what they say.
 abbrev pub resumedBy : Phase → Call → Step
-resumedBy (phase.Receive top asked) c = readCall (c .receiver) top asked
+resumedBy (phase.Receive w) c = readCall (c .receiver) w
 resumedBy (phase.Send batch e) c = step.Of (serviceCall (c .receiver) (c .source) e)
 resumedBy (phase.Shutdown e) c = step.Of (shutdownCall (c .receiver) (c .source) e)
 resumedBy (phase.Finished o) c = step.Of c
@@ -237,7 +242,7 @@ resumedOf c = resumedBy (c .phase) c
 
 -- a receive is answered of a record that passed its tests
 abbrev pub StepsBy : Phase → ReceiverState → Answer → ℕ → Type 0
-StepsBy (phase.Receive top asked) q a n = Handing q × ByteSized (receivedOf top a) n q
+StepsBy (phase.Receive w) q a n = Handing q × ByteSized (receivedOf (w .«max_new_fds») a) n q
 StepsBy (phase.Send batch e) q a n = Unit {0}
 StepsBy (phase.Shutdown e) q a n = Unit {0}
 StepsBy (phase.Finished o) q a n = Unit {0}
@@ -247,8 +252,8 @@ Steps c a n = StepsBy (c .phase) (c .receiver) a n
 
 -- an interruption leaves it waiting; a shutdown is not tried again; a call that is over stays as it is
 abbrev pub steppedBy : Phase → Call → List ℕ → Answer → ℕ → Step
-steppedBy (phase.Receive top asked) c ring a place =
-    cond (interruptedOf a) (step.Of c) (afterReceive (c .receiver) (c .source) ring (receivedOf top a) asked place)
+steppedBy (phase.Receive w) c ring a place =
+    cond (interruptedOf a) (step.Of c) (afterReceive (c .receiver) (c .source) ring (receivedOf (w .«max_new_fds») a) w place)
 steppedBy (phase.Send batch e) c ring a place = cond (interruptedOf a) (step.Of c) (afterSend (c .receiver) (c .source) e a place)
 steppedBy (phase.Shutdown e) c ring a place = afterShutdown (c .receiver) (c .source) e a place
 steppedBy (phase.Finished o) c ring a place = step.Of c

@@ -12,7 +12,7 @@ use Rattle.sched.specs.Promise.{ReadBy, WrittenBy}
 use Rattle.sched.specs.Scheduler.{dataIn, offsetIn}
 use Rattle.copies.specs.Promises.{numberAt}
 use Rattle.states.specs.Promise.{AByte, SaysReceived, SaysSent, SaysShut, Advanced, Holds}
-use Rattle.receiver.specs.Promise.{Batch, Said, body, violates, Announces}
+use Rattle.receiver.specs.Promise.{Batch, nothing-more, with-descriptors, Said, body, violates, Announces}
 use Rattle.receiver.specs.declared.admission.Memory.{Memory}
 use Rattle.receiver.specs.declared.admission.Memory.the-variants as memory
 use Rattle.states.specs.declared.answer.Answer.{Answer}
@@ -29,6 +29,8 @@ use Rattle.receiver.specs.declared.call.Phase.{Phase}
 use Rattle.receiver.specs.declared.call.Phase.the-variants as phase
 use Rattle.receiver.specs.declared.call.Step.{Step}
 use Rattle.receiver.specs.declared.call.Step.the-variants as step
+use Rattle.receiver.specs.declared.call.Wanted.{Wanted}
+use Rattle.receiver.specs.declared.receiver.Beside.{Beside}
 use Rattle.receiver.specs.declared.receiver.Came.the-variants as came
 use Rattle.receiver.specs.declared.receiver.Outcome.{Outcome}
 use Rattle.receiver.specs.declared.receiver.ReceiverState.{ReceiverState}
@@ -47,14 +49,14 @@ abbrev a-call : ReceiverState → RingBufferScheduler → Phase → Call
 a-call q s ph = record { receiver = q; source = s; phase = ph }
 
 -- ---- what is answered
-abbrev a-read : ℕ → ℕ → Outcome
-a-read n fds = record { came = came.Read n; fds = fds }
+abbrev a-read : ℕ → Beside → Outcome
+a-read n b = record { came = came.Read n; beside = b }
 
 abbrev a-failure : Failure → Outcome
-a-failure f = record { came = came.Failed f; fds = 0 }
+a-failure f = record { came = came.Failed f; beside = nothing-more }
 
 abbrev all-done : Outcome
-all-done = record { came = came.Done; fds = 0 }
+all-done = record { came = came.Done; beside = nothing-more }
 
 -- a failure that is met on the way: told in place of the outcome, or dropped
 pub data Meets : PotentialFailure → Ending → Ending → Type 0 where
@@ -107,12 +109,12 @@ module _ (q : ReceiverState) (s : RingBufferScheduler) (e : Ending) where
 -- ---- reading
 -- bytes from the front of the data are handed out, and with the last of it one more acknowledgement is pending; what comes of the
 -- servicing is dropped
-pub data HandsOut (q : ReceiverState) (asked fds : ℕ) : Call → Type 0 where
+pub data HandsOut (q : ReceiverState) (asked : ℕ) (b : Beside) : Call → Type 0 where
   a-part : {u : RingBufferScheduler} {c : Call} → asked < dataIn (q .scheduler) → ReadBy (q .scheduler) asked u →
-      Serves (a-record u (q .state) (q .«pending_ack_count») (q .«notification_socket_shutdown_issued»)) (q .scheduler) (Dropped (a-read asked fds)) c → HandsOut q asked fds c
+      Serves (a-record u (q .state) (q .«pending_ack_count») (q .«notification_socket_shutdown_issued»)) (q .scheduler) (Dropped (a-read asked b)) c → HandsOut q asked b c
   all-of-it : {u : RingBufferScheduler} {c : Call} → dataIn (q .scheduler) ≤ asked → ReadBy (q .scheduler) (dataIn (q .scheduler)) u →
-      Serves (a-record u (q .state) (q .«pending_ack_count» + 1) (q .«notification_socket_shutdown_issued»)) (q .scheduler) (Dropped (a-read (dataIn (q .scheduler)) fds)) c →
-      HandsOut q asked fds c
+      Serves (a-record u (q .state) (q .«pending_ack_count» + 1) (q .«notification_socket_shutdown_issued»)) (q .scheduler) (Dropped (a-read (dataIn (q .scheduler)) b)) c →
+      HandsOut q asked b c
 
 -- a failure terminates, and is answered whatever comes of the shutdown
 abbrev pub Fails : Failure → ReceiverState → RingBufferScheduler → Call → Type 0
@@ -131,16 +133,16 @@ pub record Chunk (s : RingBufferScheduler) (n : ℕ) (u : RingBufferScheduler) :
   pub beginning : ReadBy headed 8 begun
   pub filling : WrittenBy begun n u
 
-module _ (q : ReceiverState) (s : RingBufferScheduler) (ring : List ℕ) (asked : ℕ) where
+module _ (q : ReceiverState) (s : RingBufferScheduler) (ring : List ℕ) (w : Wanted) where
   -- the number in the eight cells from the read offset on, in the ring of this length
-  abbrev pub Header : ℕ → Said → Type 0
-  Header fds = Announces (q .scheduler .«buf_len») (numberAt (q .scheduler .«buf_len») ring (offsetIn (q .scheduler) Read .0)) fds
+  abbrev pub Header : Beside → Said → Type 0
+  Header b = Announces (q .scheduler .«buf_len») (numberAt (q .scheduler .«buf_len») ring (offsetIn (q .scheduler) Read .0)) b
 
   -- the byte must be 0, and the header announces a body
   pub data TakesReceived : Received → Call → Type 0 where
-    announces : {fds n : ℕ} {u : RingBufferScheduler} {c : Call} → Header fds (body n fds) → Chunk (q .scheduler) n u →
-        HandsOut (a-record u (q .state) (q .«pending_ack_count») (q .«notification_socket_shutdown_issued»)) asked fds c → TakesReceived (received.Byte 0 fds) c
-    header-violates : {fds k : ℕ} {v : Violation} {c : Call} → Header fds (violates k) → Numbered v k → Fails (Protocol v) q s c → TakesReceived (received.Byte 0 fds) c
+    announces : {fds n : ℕ} {b : Beside} {u : RingBufferScheduler} {c : Call} → Header (with-descriptors fds) (body n b) → Chunk (q .scheduler) n u →
+        HandsOut (a-record u (q .state) (q .«pending_ack_count») (q .«notification_socket_shutdown_issued»)) (w .«dst_len») b c → TakesReceived (received.Byte 0 fds) c
+    header-violates : {fds k : ℕ} {v : Violation} {c : Call} → Header (with-descriptors fds) (violates k) → Numbered v k → Fails (Protocol v) q s c → TakesReceived (received.Byte 0 fds) c
     byte-violates : {b fds : ℕ} {v : Violation} {c : Call} → b ≢ 0 → Numbered v 1 → Fails (Protocol v) q s c → TakesReceived (received.Byte b fds) c
     receive-blocks : {c : Call} → Blocks q s c → TakesReceived (received.Failed 11) c
     receive-fails : {n : ℕ} {c : Call} → n ≢ 11 → Fails (Io n) q s c → TakesReceived (received.Failed n) c
@@ -151,11 +153,15 @@ pub record Reading (q : ReceiverState) (asked : ℕ) : Type 0 where
   pub some : asked ≢ 0
   pub counts : q .«pending_ack_count» ≢ 2 ^ 64 - 1
 
-pub data BeginsRead (q : ReceiverState) (top asked : ℕ) : Call → Type 0 where
-  is-terminated : {f : Failure} → q .state ≡ Terminated f → BeginsRead q top asked (a-call q (q .scheduler) (phase.Finished (a-failure f)))
-  none-asked : ((f : Failure) → q .state ≢ Terminated f) → asked ≡ 0 → BeginsRead q top asked (a-call q (q .scheduler) (phase.Finished (a-read 0 0)))
-  awaits : Reading q asked → dataIn (q .scheduler) ≡ 0 → BeginsRead q top asked (a-call q (q .scheduler) (phase.Receive top asked))
-  holds-data : {c : Call} → Reading q asked → 1 ≤ dataIn (q .scheduler) → HandsOut q asked 0 c → BeginsRead q top asked c
+-- at most so many descriptors, and so many bytes
+abbrev pub a-want : ℕ → ℕ → Wanted
+a-want top asked = record { «max_new_fds» = top; «dst_len» = asked }
+
+pub data BeginsRead (q : ReceiverState) (w : Wanted) : Call → Type 0 where
+  is-terminated : {f : Failure} → q .state ≡ Terminated f → BeginsRead q w (a-call q (q .scheduler) (phase.Finished (a-failure f)))
+  none-asked : ((f : Failure) → q .state ≢ Terminated f) → w .«dst_len» ≡ 0 → BeginsRead q w (a-call q (q .scheduler) (phase.Finished (a-read 0 nothing-more)))
+  awaits : Reading q (w .«dst_len») → dataIn (q .scheduler) ≡ 0 → BeginsRead q w (a-call q (q .scheduler) (phase.Receive w))
+  holds-data : {c : Call} → Reading q (w .«dst_len») → 1 ≤ dataIn (q .scheduler) → HandsOut q (w .«dst_len») nothing-more c → BeginsRead q w c
 
 abbrev pub BeginsService : ReceiverState → Call → Type 0
 BeginsService q c = Serves q (q .scheduler) (Told all-done) c
@@ -167,15 +173,15 @@ BeginsShutdown q c = Advances (Draining (Io 32)) None q (q .scheduler) (Told all
 -- ---- an answer
 -- the ring is looked at where a byte was received, and only there
 pub data Looks (a : Answer) (n : ℕ) : Phase → Memory → Type 0 where
-  at-a-byte : {top asked : ℕ} → AByte a top → Looks a n (phase.Receive top asked) (memory.Of n)
-  at-no-byte : {top asked : ℕ} → (AByte a top → ⊥) → Looks a n (phase.Receive top asked) memory.None
+  at-a-byte : {w : Wanted} → AByte a (w .«max_new_fds») → Looks a n (phase.Receive w) (memory.Of n)
+  at-no-byte : {w : Wanted} → (AByte a (w .«max_new_fds») → ⊥) → Looks a n (phase.Receive w) memory.None
   at-a-send : {batch : ℕ} {e : Ending} → Looks a n (phase.Send batch e) memory.None
   at-a-shutdown : {e : Ending} → Looks a n (phase.Shutdown e) memory.None
   at-the-end : {o : Outcome} → Looks a n (phase.Finished o) memory.None
 
 -- what the rules make of a call, whose phase may be made up, with this record
 abbrev pub ResumesIn : Phase → Call → Call → Type 0
-ResumesIn (phase.Receive top asked) c d = BeginsRead (c .receiver) top asked d
+ResumesIn (phase.Receive w) c d = BeginsRead (c .receiver) w d
 ResumesIn (phase.Send batch e) c d = Serves (c .receiver) (c .source) e d
 ResumesIn (phase.Shutdown e) c d = Closes (c .receiver) (c .source) e d
 ResumesIn (phase.Finished o) c d = d ≡ c
@@ -189,7 +195,7 @@ Interrupts a = (a .kind ≡ 2) × (a .value ≡ 4)
 
 -- what an answer makes of a call that waits for it
 abbrev pub TakesIn : Phase → Call → List ℕ → Answer → Call → Type 0
-TakesIn (phase.Receive top asked) d ring a c = (Interrupts a × (c ≡ d)) ⊎ ((Interrupts a → ⊥) × ((x : Received) × SaysReceived a top x × TakesReceived (d .receiver) (d .source) ring asked x c))
+TakesIn (phase.Receive w) d ring a c = (Interrupts a × (c ≡ d)) ⊎ ((Interrupts a → ⊥) × ((x : Received) × SaysReceived a (w .«max_new_fds») x × TakesReceived (d .receiver) (d .source) ring w x c))
 TakesIn (phase.Send batch e) d ring a c = (Interrupts a × (c ≡ d)) ⊎ ((Interrupts a → ⊥) × ((x : Sent) × SaysSent a batch x × TakesSent (d .receiver) (d .source) e x c))
 TakesIn (phase.Shutdown e) d ring a c = (x : Shut) × SaysShut a x × TakesShut (d .receiver) (d .source) e x c
 TakesIn (phase.Finished o) d ring a c = c ≡ d

@@ -24,6 +24,7 @@ use Rattle.receiver.specs.declared.call.Phase.{Phase}
 use Rattle.receiver.specs.declared.call.Phase.the-variants as phase
 use Rattle.receiver.specs.declared.call.Step.{Step}
 use Rattle.receiver.specs.declared.call.Step.the-variants as step
+use Rattle.receiver.specs.declared.call.Wanted.{Wanted}
 use Rattle.receiver.specs.declared.receiver.ReceiverAnswer.{ReceiverAnswer}
 use Rattle.receiver.specs.declared.receiver.ReceiverAnswer.the-variants as made
 use Rattle.receiver.specs.declared.receiver.ReceiverState.{ReceiverState}
@@ -60,7 +61,7 @@ module _ (q : ReceiverState) (n asked : ℕ) where
 -- ---- an answer
 -- one that a call in this phase cannot have
 abbrev pub Misfits : Phase → ReceiverState → Answer → Type 0
-Misfits (phase.Receive top asked) q a = SaysReceived a top received.Misfit
+Misfits (phase.Receive w) q a = SaysReceived a (w .«max_new_fds») received.Misfit
 Misfits (phase.Send batch e) q a = SaysSent a (batchIn q) sent.Misfit
 Misfits (phase.Shutdown e) q a = SaysShut a shut.Misfit
 Misfits (phase.Finished o) q a = ⊥
@@ -70,7 +71,7 @@ module _ (c : Call) (n : ℕ) (a : Answer) (place : ℕ) where
   pub data GivenAnswer : ℕ → List ℕ → Type 0 where
     takes : (d : Call) → GivenAdmission (c .receiver) (looksAt (c .phase) a n) 0 [] → resumedOf c ≡ step.Of d → (Misfits (d .phase) (d .receiver) a → ⊥) → GivenAnswer 0 []
     at-the-tests : {k : ℕ} {vs : List ℕ} → 0 < k → GivenAdmission (c .receiver) (looksAt (c .phase) a n) k vs → GivenAnswer k vs
-    still-full : (top asked : ℕ) → GivenAdmission (c .receiver) (looksAt (c .phase) a n) 0 [] → c .phase ≡ phase.Receive top asked → Full (c .receiver) asked → GivenAnswer 13 []
+    still-full : (w : Wanted) → GivenAdmission (c .receiver) (looksAt (c .phase) a n) 0 [] → c .phase ≡ phase.Receive w → Full (c .receiver) (w .«dst_len») → GivenAnswer 13 []
     given-12 : (d : Call) → GivenAdmission (c .receiver) (looksAt (c .phase) a n) 0 [] → resumedOf c ≡ step.Of d → Misfits (d .phase) (d .receiver) a → GivenAnswer 12 (place ∷ [])
 
 -- ---- the verdict in each kind of answer

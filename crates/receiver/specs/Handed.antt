@@ -49,21 +49,21 @@ wholeIn q o = wholeBy q (o .came)
 abbrev pub sentAt : Phase → Step → Answer → ℕ
 sentAt (Send batch e) (Of d) a = sentBy a
 sentAt (Send batch e) (Refused r) a = 0
-sentAt (Receive top asked) x a = 0
+sentAt (Receive w) x a = 0
 sentAt (Shutdown e) x a = 0
 sentAt (Finished o) x a = 0
 
 -- the outcome that a call comes to if nothing fails; one that waits for a receive has none yet
 abbrev pub comingTo : Phase → Outcome
-comingTo (Receive top asked) = doneOutcome
+comingTo (Receive w) = doneOutcome
 comingTo (Send batch e) = outcomeIn e
 comingTo (Shutdown e) = outcomeIn e
 comingTo (Finished o) = o
 
 -- a chunk handed out whole: by a call that waits for its announcement, and comes to a read that leaves no data
 abbrev pub wholeAt : Phase → Step → ℕ
-wholeAt (Receive top asked) (Of d) = wholeIn (d .receiver) (comingTo (d .phase))
-wholeAt (Receive top asked) (Refused r) = 0
+wholeAt (Receive w) (Of d) = wholeIn (d .receiver) (comingTo (d .phase))
+wholeAt (Receive w) (Refused r) = 0
 wholeAt (Send batch e) x = 0
 wholeAt (Shutdown e) x = 0
 wholeAt (Finished o) x = 0

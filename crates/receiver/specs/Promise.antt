@@ -2,22 +2,30 @@
 -- rule that is changed in its place is seen.
 use Prim.Native.Nat.{ℕ, _+_, _%_, _^_, _<_, _≤_}
 use mathlib.Core.Path.{_≡_}
+use Rattle.receiver.specs.declared.receiver.Beside.{Beside}
 
 -- ---- acknowledgements: a batch is all that is pending, or 128 of it, and never empty
 pub data Batch (pending : ℕ) : ℕ → Type 0 where
   all : 1 ≤ pending → pending ≤ 128 → Batch pending pending
   most : 128 ≤ pending → Batch pending 128
 
+-- ---- beside an outcome: no descriptors, or as many as came with the byte of a chunk
+abbrev pub nothing-more : Beside
+nothing-more = record { fds = 0 }
+
+abbrev pub with-descriptors : ℕ → Beside
+with-descriptors n = record { fds = n }
+
 -- ---- an announcement: what the header's number says in a ring of L bytes that holds no data
--- a body of so many bytes that comes with so many descriptors, or a violation by its number
+-- a body of so many bytes, and what comes beside it, or a violation by its number
 pub data Said : Type 0 where
-  body : ℕ → ℕ → Said
+  body : ℕ → Beside → Said
   violates : ℕ → Said
 
 -- the top two bits must be 0, the last 48 are the length: it and the header's 8 bytes fit into L
-pub data Announces (L h fds : ℕ) : Said → Type 0 where
-  no-room-for-a-header : L < 8 → Announces L h fds (violates 2)
-  format-unknown : 8 ≤ L → 2 ^ 62 ≤ h → Announces L h fds (violates 3)
-  length-0 : 8 ≤ L → h < 2 ^ 62 → h % 2 ^ 48 ≡ 0 → Announces L h fds (violates 4)
-  too-long : 8 ≤ L → h < 2 ^ 62 → 1 ≤ h % 2 ^ 48 → L < h % 2 ^ 48 + 8 → Announces L h fds (violates 2)
-  accepted : h < 2 ^ 62 → 1 ≤ h % 2 ^ 48 → h % 2 ^ 48 + 8 ≤ L → Announces L h fds (body (h % 2 ^ 48) fds)
+pub data Announces (L h : ℕ) (b : Beside) : Said → Type 0 where
+  no-room-for-a-header : L < 8 → Announces L h b (violates 2)
+  format-unknown : 8 ≤ L → 2 ^ 62 ≤ h → Announces L h b (violates 3)
+  length-0 : 8 ≤ L → h < 2 ^ 62 → h % 2 ^ 48 ≡ 0 → Announces L h b (violates 4)
+  too-long : 8 ≤ L → h < 2 ^ 62 → 1 ≤ h % 2 ^ 48 → L < h % 2 ^ 48 + 8 → Announces L h b (violates 2)
+  accepted : h < 2 ^ 62 → 1 ≤ h % 2 ^ 48 → h % 2 ^ 48 + 8 ≤ L → Announces L h b (body (h % 2 ^ 48) b)

@@ -16,6 +16,7 @@ use Rattle.receiver.specs.declared.announcement.Announced.{Announced}
 use Rattle.receiver.specs.declared.announcement.Announced.the-variants as announced
 use Rattle.states.specs.declared.answer.Sent.{Sent}
 use Rattle.states.specs.declared.answer.Sent.the-variants as sent
+use Rattle.receiver.specs.declared.receiver.Beside.{Beside}
 use Rattle.receiver.specs.declared.receiver.Came.the-variants as came
 use Rattle.receiver.specs.declared.receiver.Outcome.{Outcome}
 use Rattle.receiver.specs.declared.receiver.ReceiverAnswer.{ReceiverAnswer}
@@ -46,15 +47,22 @@ abbrev pub withShutdown : ReceiverState → ReceiverState
 withShutdown q = receiver (q .scheduler) (q .state) (q .«pending_ack_count») true
 
 -- ---- what a call answers
--- descriptors come with a read; the other outcomes carry none
-abbrev pub readOutcome : ℕ → ℕ → Outcome
-readOutcome n fds = record { came = came.Read n; fds = fds }
+-- beside it: nothing, or the descriptors that came with a byte
+abbrev pub noneBeside : Beside
+noneBeside = record { fds = 0 }
+
+abbrev pub besideByte : ℕ → Beside
+besideByte fds = record { fds = fds }
+
+-- something comes beside a read; the other outcomes carry nothing
+abbrev pub readOutcome : ℕ → Beside → Outcome
+readOutcome n b = record { came = came.Read n; beside = b }
 
 abbrev pub doneOutcome : Outcome
-doneOutcome = record { came = came.Done; fds = 0 }
+doneOutcome = record { came = came.Done; beside = noneBeside }
 
 abbrev pub failedOutcome : Failure → Outcome
-failedOutcome f = record { came = came.Failed f; fds = 0 }
+failedOutcome f = record { came = came.Failed f; beside = noneBeside }
 
 -- ---- making one
 -- 1 to 5, then a stream that is normal, with nothing pending
@@ -79,22 +87,22 @@ bySent sent.Misfit done failed misfit = misfit
 -- ---- an announcement
 -- The header: 2 bits format, must be 0; 14 bits strip tag; 48 bits length, not 0. Header and body are registered as written, the
 -- header is read; 8 bytes stay free behind the body. A violation leaves the scheduler as it was before the announcement.
-abbrev pub headerIn : RingBufferScheduler → ℕ → ℕ → Announced
-headerIn s fds h =
+abbrev pub headerIn : RingBufferScheduler → Beside → ℕ → Announced
+headerIn s b h =
     cond (eqb (h / 2 ^ 62) 0)
     (cond (eqb (h % 2 ^ 48) 0) (announced.Failed (Protocol InvalidChunkLength))
-    (cond (bodyFits (spaceIn s) (h % 2 ^ 48)) (announced.Chunk (advancedIn (advancedIn (advancedIn s Write 8) Read 8) Write (h % 2 ^ 48)) fds)
+    (cond (bodyFits (spaceIn s) (h % 2 ^ 48)) (announced.Chunk (advancedIn (advancedIn (advancedIn s Write 8) Read 8) Write (h % 2 ^ 48)) b)
     (announced.Failed (Protocol ControlOverflow))))
     (announced.Failed (Protocol UnknownHeader))
 
-abbrev pub announcedIn : List ℕ → RingBufferScheduler → ℕ → Announced
-announcedIn ring s fds =
+abbrev pub announcedIn : List ℕ → RingBufferScheduler → Beside → Announced
+announcedIn ring s b =
     cond (ltb (spaceIn s) 8) (announced.Failed (Protocol ControlOverflow))
-    (headerIn s fds (numberFrom 0 (get (s .«buf_len») ring (offsetIn s Read .0) 8)))
+    (headerIn s b (numberFrom 0 (get (s .«buf_len») ring (offsetIn s Read .0) 8)))
 
 -- the byte must be 0
-abbrev pub byteIn : List ℕ → RingBufferScheduler → ℕ → ℕ → Announced
-byteIn ring s b fds = cond (eqb b 0) (announcedIn ring s fds) (announced.Failed (Protocol InvalidChunkAnnouncement))
+abbrev pub byteIn : List ℕ → RingBufferScheduler → ℕ → Beside → Announced
+byteIn ring s byte b = cond (eqb byte 0) (announcedIn ring s b) (announced.Failed (Protocol InvalidChunkAnnouncement))
 
 -- ---- a read
 -- bytes are handed out; if no data is left, pending rises by 1

@@ -6,6 +6,7 @@ ghost use Rattle.sched.specs.Scheduler.{IsSound, offsetIn, spaceIn};
 ghost use Rattle.copies.specs.Number.{numberFrom};
 ghost use Rattle.copies.specs.Ring.{get};
 ghost use Rattle.receiver.specs.Receiver.{headerIn, announcedIn, byteIn};
+use crate::receiver::Beside;
 use crate::sound::max_operation_len;
 use crate::sound::read_off;
 use crate::sound::register;
@@ -19,11 +20,11 @@ const FORMATS: u64 = 4611686018427387904;
 
 const LENGTHS: u64 = 281474976710656;
 
-// The scheduler with the chunk written, and the count of descriptors; or what is wrong.
+// The scheduler with the chunk written, and what comes beside it; or what is wrong.
 pub enum Announced {
     Chunk {
         scheduler: RingBufferScheduler,
-        fds: u64,
+        beside: Beside,
     },
     Failed(Failure),
 }
@@ -37,9 +38,9 @@ fn header(s: RingBufferScheduler, ring: &[u8]) -> u64
 }
 
 // Header and body are registered as written, and the header is read; 8 bytes stay free behind the body.
-fn write_chunk(s: RingBufferScheduler, fds: u64, header: u64) -> Announced
+fn write_chunk(s: RingBufferScheduler, beside: Beside, header: u64) -> Announced
     requires { ⌜ IsSound s × (8 ≤ spaceIn s) ⌝ }
-    ensures { λ r. ⌜ r ≡ headerIn s fds header ⌝ }
+    ensures { λ r. ⌜ r ≡ headerIn s beside header ⌝ }
 {
     if header / FORMATS != 0 {
         return Announced::Failed(Failure::Protocol(Violation::UnknownHeader));
@@ -51,32 +52,32 @@ fn write_chunk(s: RingBufferScheduler, fds: u64, header: u64) -> Announced
     if sched::body_fits(max_operation_len(s, OperationType::Write), len) {
         let head = register(register(s, OperationType::Write, 8), OperationType::Read, 8);
         let scheduler = register(head, OperationType::Write, len);
-        return Announced::Chunk { scheduler, fds };
+        return Announced::Chunk { scheduler, beside };
     }
     Announced::Failed(Failure::Protocol(Violation::ControlOverflow))
 }
 
-fn read_header(ring: &[u8], s: RingBufferScheduler, fds: u64) -> Announced
+fn read_header(ring: &[u8], s: RingBufferScheduler, beside: Beside) -> Announced
     requires { ⌜ IsSound s × (length (now ring) ≡ s .«buf_len») ⌝ }
-    ensures { λ r. ⌜ r ≡ announcedIn (now (ring .entry)) s fds ⌝ }
+    ensures { λ r. ⌜ r ≡ announcedIn (now (ring .entry)) s beside ⌝ }
 {
     if max_operation_len(s, OperationType::Write) < 8 {
         return Announced::Failed(Failure::Protocol(Violation::ControlOverflow));
     }
-    write_chunk(s, fds, header(s, ring))
+    write_chunk(s, beside, header(s, ring))
 }
 
 pub(crate) fn recv_chunk_announcement(
     ring: &[u8],
     s: RingBufferScheduler,
     byte: u64,
-    fds: u64,
+    beside: Beside,
 ) -> Announced
     requires { ⌜ IsSound s × (length (now ring) ≡ s .«buf_len») ⌝ }
-    ensures { λ r. ⌜ r ≡ byteIn (now (ring .entry)) s byte fds ⌝ }
+    ensures { λ r. ⌜ r ≡ byteIn (now (ring .entry)) s byte beside ⌝ }
 {
     if byte == 0 {
-        return read_header(ring, s, fds);
+        return read_header(ring, s, beside);
     }
     Announced::Failed(Failure::Protocol(Violation::InvalidChunkAnnouncement))
 }

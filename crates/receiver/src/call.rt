@@ -28,10 +28,16 @@ pub enum Ending {
     Told(Outcome),
 }
 
+// What a read that waits for its announcement wants: at most so many descriptors, and so many bytes.
+pub struct Wanted {
+    pub max_new_fds: u64,
+    pub dst_len: u64,
+}
+
 // What the host does next, and then answers.
 pub enum Phase {
-    // it receives a byte from the socket, with at most so many descriptors, for a read into so many bytes
-    Receive { max_new_fds: u64, dst_len: u64 },
+    // it receives a byte from the socket, with at most so many descriptors as are wanted
+    Receive(Wanted),
     // it copies the bytes of a read, if it has not, and sends so many zero bytes: acknowledgements
     Send { batch: u64, ending: Ending },
     // it copies likewise, and shuts the socket down
@@ -110,7 +116,13 @@ impl Call {
         ensures { λ r. ⌜ r ≡ beginReadOf receiver «ring_len» «max_new_fds» «dst_len» ⌝ }
     {
         match admit(receiver, Memory::Of(ring_len)) {
-            Admission::Passed => read(receiver, max_new_fds, dst_len),
+            Admission::Passed => read(
+                receiver,
+                Wanted {
+                    max_new_fds,
+                    dst_len,
+                },
+            ),
             Admission::Refused(e) => Step::Refused(e),
         }
     }
@@ -157,7 +169,7 @@ impl Call {
     {
         let phase = self.phase;
         match phase {
-            Phase::Receive { max_new_fds, .. } => looks_by(answer.received(max_new_fds), ring_len),
+            Phase::Receive(wanted) => looks_by(answer.received(wanted.max_new_fds), ring_len),
             Phase::Send { .. } => Memory::None,
             Phase::Shutdown(_) => Memory::None,
             Phase::Finished(_) => Memory::None,
@@ -172,10 +184,7 @@ impl Call {
         let receiver = self.receiver;
         let phase = self.phase;
         match phase {
-            Phase::Receive {
-                max_new_fds,
-                dst_len,
-            } => read(receiver, max_new_fds, dst_len),
+            Phase::Receive(wanted) => read(receiver, wanted),
             Phase::Send { batch: _, ending } => Step::Of(self.going(ending).service()),
             Phase::Shutdown(ending) => Step::Of(
                 self.going(ending).issue_notification_socket_shutdown(),
@@ -203,15 +212,12 @@ impl Call {
         let source = self.source;
         let phase = self.phase;
         match phase {
-            Phase::Receive {
-                max_new_fds,
-                dst_len,
-            } => after_receive(
+            Phase::Receive(wanted) => after_receive(
                 receiver,
                 source,
                 ring,
-                answer.received(max_new_fds),
-                dst_len,
+                answer.received(wanted.max_new_fds),
+                wanted,
                 place,
             ),
             Phase::Send { batch: _, ending } => self.going(ending).after_send(answer, place),
@@ -238,7 +244,7 @@ impl Call {
     {
         let phase = self.phase;
         match phase {
-            Phase::Receive { .. } => false,
+            Phase::Receive(_) => false,
             Phase::Send { .. } => false,
             Phase::Shutdown(_) => false,
             Phase::Finished(_) => true,
@@ -251,7 +257,7 @@ impl Call {
     {
         let phase = self.phase;
         match phase {
-            Phase::Receive { .. } => answer.is_interruption(),
+            Phase::Receive(_) => answer.is_interruption(),
             Phase::Send { .. } => answer.is_interruption(),
             Phase::Shutdown(_) => false,
             Phase::Finished(_) => false,

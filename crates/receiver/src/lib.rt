@@ -12,6 +12,8 @@ pub use call::Call;
 pub use call::Ending;
 pub use call::Phase;
 pub use call::Step;
+pub use call::Wanted;
+pub use receiver::Beside;
 pub use receiver::Came;
 pub use receiver::Ended;
 pub use receiver::Outcome;

@@ -10,7 +10,9 @@ use crate::call::Call;
 use crate::call::Ending;
 use crate::call::Phase;
 use crate::call::Step;
+use crate::call::Wanted;
 use crate::going::Going;
+use crate::receiver::Beside;
 use crate::receiver::Outcome;
 use crate::receiver::ReceiverState;
 use crate::sound::max_operation_len;
@@ -36,9 +38,9 @@ fn handed_out(q: ReceiverState, scheduler: RingBufferScheduler) -> ReceiverState
 
 // The bytes themselves are copied by `source`: over a run of answers once the call is over, by a host with a real socket before its
 // first send, because an acknowledgement allows the other process to overwrite them.
-fn read_chunk_bytes(receiver: ReceiverState, asked: u64, fds: u64) -> Call
+fn read_chunk_bytes(receiver: ReceiverState, asked: u64, beside: Beside) -> Call
     requires { ⌜ Handing receiver ⌝ }
-    ensures { λ r. ⌜ r ≡ handOutCall asked fds receiver ⌝ }
+    ensures { λ r. ⌜ r ≡ handOutCall asked beside receiver ⌝ }
 {
     let source = receiver.scheduler;
     let m = moved(source, OperationType::Read, asked);
@@ -46,7 +48,7 @@ fn read_chunk_bytes(receiver: ReceiverState, asked: u64, fds: u64) -> Call
     dropping(
         handed_out(receiver, scheduler),
         source,
-        Outcome::read(m.len, fds),
+        Outcome::read(m.len, beside),
     ).service()
 }
 
@@ -101,16 +103,16 @@ fn after_announcement(
     receiver: ReceiverState,
     source: RingBufferScheduler,
     announced: Announced,
-    asked: u64,
+    wanted: Wanted,
 ) -> Call
     requires { ⌜ Announces announced receiver ⌝ }
-    ensures { λ r. ⌜ r ≡ announcedCall announced asked receiver source ⌝ }
+    ensures { λ r. ⌜ r ≡ announcedCall announced wanted receiver source ⌝ }
 {
     match announced {
-        Announced::Chunk { scheduler, fds } => read_chunk_bytes(
+        Announced::Chunk { scheduler, beside } => read_chunk_bytes(
             receiver.with_scheduler(scheduler),
-            asked,
-            fds,
+            wanted.dst_len,
+            beside,
         ),
         Announced::Failed(f) => {
             if f.is_errno(Failure::WOULDBLOCK) {
@@ -126,66 +128,63 @@ pub(crate) fn after_receive(
     source: RingBufferScheduler,
     ring: &[u8],
     received: Received,
-    asked: u64,
+    wanted: Wanted,
     place: u64,
 ) -> Step
     requires { ⌜ Handing receiver × ByteSized received (length (now ring)) receiver ⌝ }
-    ensures { λ r. ⌜ r ≡ afterReceive receiver source (now (ring .entry)) received asked place ⌝ }
+    ensures { λ r. ⌜ r ≡ afterReceive receiver source (now (ring .entry)) received wanted place ⌝ }
 {
     let scheduler = receiver.scheduler;
     match received {
         Received::Byte { byte, fds } => Step::Of(after_announcement(
             receiver,
             source,
-            recv_chunk_announcement(ring, scheduler, byte, fds),
-            asked,
+            recv_chunk_announcement(ring, scheduler, byte, Beside::of_byte(fds)),
+            wanted,
         )),
         Received::Failed(errno) => Step::Of(after_announcement(
             receiver,
             source,
             Announced::Failed(Failure::Io(errno)),
-            asked,
+            wanted,
         )),
         Received::Misfit => Step::Refused(Refusal::Misfit { place }),
     }
 }
 
 // In order: the empty destination, 13, the announcement if there is no data.
-fn read_live(receiver: ReceiverState, max_new_fds: u64, dst_len: u64) -> Step
+fn read_live(receiver: ReceiverState, wanted: Wanted) -> Step
     requires { ⌜ IsSound (receiver .scheduler) ⌝ }
-    ensures { λ r. ⌜ r ≡ liveCall receiver «max_new_fds» «dst_len» ⌝ }
+    ensures { λ r. ⌜ r ≡ liveCall receiver wanted ⌝ }
 {
     let source = receiver.scheduler;
-    if dst_len == 0 {
-        return Step::Of(dropping(receiver, source, Outcome::read(0, 0)).finish());
+    if wanted.dst_len == 0 {
+        return Step::Of(dropping(receiver, source, Outcome::read(0, Beside::none())).finish());
     }
     if receiver.pending_ack_count == ReceiverState::MOST_PENDING {
         return Step::Refused(Refusal::PendingFull);
     }
     if max_operation_len(source, OperationType::Read) == 0 {
-        let phase = Phase::Receive {
-            max_new_fds,
-            dst_len,
-        };
+        let phase = Phase::Receive(wanted);
         return Step::Of(Call {
             receiver,
             source,
             phase,
         });
     }
-    Step::Of(read_chunk_bytes(receiver, dst_len, 0))
+    Step::Of(read_chunk_bytes(receiver, wanted.dst_len, Beside::none()))
 }
 
 // A stream that is terminated answers its reason.
-pub(crate) fn read(receiver: ReceiverState, max_new_fds: u64, dst_len: u64) -> Step
+pub(crate) fn read(receiver: ReceiverState, wanted: Wanted) -> Step
     requires { ⌜ IsSound (receiver .scheduler) ⌝ }
-    ensures { λ r. ⌜ r ≡ readCall receiver «max_new_fds» «dst_len» ⌝ }
+    ensures { λ r. ⌜ r ≡ readCall receiver wanted ⌝ }
 {
     let source = receiver.scheduler;
     let state = receiver.state;
     match state {
-        OperationalState::Normal => read_live(receiver, max_new_fds, dst_len),
-        OperationalState::Draining(_) => read_live(receiver, max_new_fds, dst_len),
+        OperationalState::Normal => read_live(receiver, wanted),
+        OperationalState::Draining(_) => read_live(receiver, wanted),
         OperationalState::Terminated(f) => Step::Of(dropping(
             receiver,
             source,

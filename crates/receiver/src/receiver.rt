@@ -1,6 +1,6 @@
 // The receiver's record, and what its calls come to.
 ghost use mathlib.Core.Path.{_≡_};
-ghost use Rattle.receiver.specs.Receiver.{withScheduler, withState, withPending, withShutdown, readOutcome, doneOutcome, failedOutcome, receiverOf, batchIn};
+ghost use Rattle.receiver.specs.Receiver.{withScheduler, withState, withPending, withShutdown, noneBeside, besideByte, readOutcome, doneOutcome, failedOutcome, receiverOf, batchIn};
 use sched::Checked;
 use sched::RingBufferScheduler;
 use states::Failure;
@@ -26,10 +26,15 @@ pub enum Came {
     Failed(Failure),
 }
 
-// What an accepted call answers: what it came to, and beside it what every outcome carries, a count of descriptors.
+// What every outcome carries beside what it came to: a count of descriptors.
+pub struct Beside {
+    pub fds: u64,
+}
+
+// What an accepted call answers.
 pub struct Outcome {
     pub came: Came,
-    pub fds: u64,
+    pub beside: Beside,
 }
 
 // The record after a call, what it answers and how many of the socket's answers it used; or why it is refused.
@@ -42,13 +47,28 @@ pub enum Ended {
     Refused(Refusal),
 }
 
+impl Beside {
+    pub(crate) fn none() -> Beside
+        ensures { λ r. ⌜ r ≡ noneBeside ⌝ }
+    {
+        Beside { fds: 0 }
+    }
+
+    // What comes with a byte that is received.
+    pub(crate) fn of_byte(fds: u64) -> Beside
+        ensures { λ r. ⌜ r ≡ besideByte fds ⌝ }
+    {
+        Beside { fds }
+    }
+}
+
 impl Outcome {
-    pub(crate) fn read(n: u64, fds: u64) -> Outcome
-        ensures { λ r. ⌜ r ≡ readOutcome n fds ⌝ }
+    pub(crate) fn read(n: u64, beside: Beside) -> Outcome
+        ensures { λ r. ⌜ r ≡ readOutcome n beside ⌝ }
     {
         Outcome {
             came: Came::Read(n),
-            fds,
+            beside,
         }
     }
 
@@ -57,7 +77,7 @@ impl Outcome {
     {
         Outcome {
             came: Came::Done,
-            fds: 0,
+            beside: Beside::none(),
         }
     }
 
@@ -66,7 +86,7 @@ impl Outcome {
     {
         Outcome {
             came: Came::Failed(failure),
-            fds: 0,
+            beside: Beside::none(),
         }
     }
 }

@@ -9,7 +9,7 @@ after-receive-requires : tie.Need-after-receive-requires
 after-receive-requires c κs =
     let at-phase = c .before .before in
     let start = at-phase .before .before .before .before .before in
-    steps-received (start .args .self) _ _ _ _ (at-phase .phase .given .1) (start .pre .0) _ (c .received .ensures)
+    steps-received (start .args .self) _ _ _ (at-phase .phase .given .1) (start .pre .0) _ (c .received .ensures)
 
 returns : tie.Need-returns
 returns c =

@@ -4,7 +4,7 @@ use mathlib.Core.Path.{_≡_, sym, ap, _∙_}
 use mathlib.Core.Bool.{Bool}
 use mathlib.Core.List.{List}
 use Rattle.sched.specs.declared.scheduler.RingBufferScheduler.{RingBufferScheduler}
-use Rattle.driver.specs.Drive.{retriesIn, answeredIn, endedBy, endedIn, endedFor, Delivery, delivery, deliveredFor, deliveredBy, deliveryFor, endOfStreamBy, endOfStreamFor, endOfStreamIn}
+use Rattle.driver.specs.Drive.{overIn, retriesIn, answeredIn, endedBy, endedIn, endedFor, Delivery, delivery, deliveredFor, deliveredBy, deliveryFor, endOfStreamBy, endOfStreamFor, endOfStreamIn}
 use Rattle.states.specs.declared.answer.Answer.{Answer}
 use Rattle.receiver.specs.declared.call.Phase.{Phase}
 use Rattle.receiver.specs.declared.call.Step.{Step}
@@ -27,6 +27,9 @@ module _ (x y : Step) (e : x ≡ y) where
 
   pub delivered-for : (i : ℕ) (ring dst : List ℕ) (r : Delivery) → r ≡ deliveryFor y i ring dst → r ≡ deliveryFor x i ring dst
   delivered-for i ring dst r p = p ∙ ap (λ (z : Step). deliveryFor z i ring dst) (sym e)
+
+  pub over-by : (r : Bool) → r ≡ overIn y → r ≡ overIn x
+  over-by r p = p ∙ ap overIn (sym e)
 
   pub retries-by : (a : Answer) (r : Bool) → r ≡ retriesIn y a → r ≡ retriesIn x a
   retries-by a r p = p ∙ ap (λ (z : Step). retriesIn z a) (sym e)

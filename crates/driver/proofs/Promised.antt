@@ -24,9 +24,9 @@ use Rattle.receiver.proofs.CaseSteps.{made-takes, begins-at, read-admitted}
 use Rattle.receiver.proofs.HandedSum.{MadeBy, begin-read-made}
 use Rattle.receiver.proofs.Made.{Made}
 use Rattle.receiver.specs.Call.{overOf, answeredOf, beginReadOf, beginServiceOf, beginShutdownOf}
-use Rattle.receiver.specs.Cases.{BeginsRead, Takes, Goes}
+use Rattle.receiver.specs.Cases.{a-want, BeginsRead, Takes, Goes}
 use Rattle.receiver.specs.Handed.{sentBy, comingTo}
-use Rattle.receiver.specs.Receiver.{readOutcome}
+use Rattle.receiver.specs.Receiver.{noneBeside, readOutcome}
 use Rattle.states.specs.State.{isErrno}
 use Rattle.states.specs.declared.answer.Answer.{Answer}
 use Rattle.receiver.specs.declared.call.Call.{Call}
@@ -140,7 +140,7 @@ module _ (q : ReceiverState) (ring : List ℕ) (asked top : ℕ) where
   keeps-on c m w n h a place d e = step-on asked (q .scheduler) c ring a d h (c .phase) refl (subst (Goes (Takes c ring a)) e (made-takes c m ring a place))
 
   begun-on : (x : Step) → beginReadOf q (length ring) top asked ≡ x → Holds ring On keeps-on x 0
-  begun-on (Of c) e = (subst MadeBy e (begin-read-made q (length ring) top asked), read-on q top asked c (subst (Goes (BeginsRead q top asked)) e (begins-at q (length ring) top asked)))
+  begun-on (Of c) e = (subst MadeBy e (begin-read-made q (length ring) top asked), read-on q (a-want top asked) c (subst (Goes (BeginsRead q (a-want top asked))) e (begins-at q (length ring) top asked)))
   begun-on (Refused r) e = tt
 
   read-ran : (answers : List Answer) → Holds ring On keeps-on (readOf q ring asked top answers .step) (sentIn (take (readOf q ring asked top answers .used) answers))
@@ -153,7 +153,7 @@ module _ (q : ReceiverState) (ring dst : List ℕ) (top : ℕ) where
 
   module _ (sound : IsSound (q .scheduler)) (sized : length ring ≡ q .scheduler .«buf_len») where
     fills-by : (c : Call) (i : ℕ) (ph : Phase) → c .phase ≡ ph → OnTheWay n (q .scheduler) c → Fills (q .scheduler) ring dst (deliveredBy (endedBy ph c i) (c .source) ring dst .memory) (deliveredBy (endedBy ph c i) (c .source) ring dst .answer)
-    fills-by c i (phase.Receive top asked) p h = refl
+    fills-by c i (phase.Receive w) p h = refl
     fills-by c i (phase.Send batch e) p h = refl
     fills-by c i (phase.Shutdown e) p h = refl
     fills-by c i (phase.Finished o) p h = filled (q .scheduler) sound ring dst sized (o .came) (c .source) (subst (λ (x : Phase). Copies n (q .scheduler) (comingTo x) (c .source)) p (h .copies))
@@ -181,7 +181,7 @@ module _ (q : ReceiverState) (ring dst : List ℕ) (top : ℕ) where
           same : left ≡ dst
           same = subst (FillsBy (q .scheduler) ring dst left) k h
 
-          by : (b : Bool) → FillsBy (q .scheduler) ring dst left (cond b (readOutcome 0 0) o .came)
+          by : (b : Bool) → FillsBy (q .scheduler) ring dst left (cond b (readOutcome 0 noneBeside) o .came)
           by true = subst (λ (x : List ℕ). FillsBy (q .scheduler) ring dst x (came.Read 0)) (sym same) (omega arith, (refl, refl), (λ at k j l. absurd (omega (arith, l))))
           by false = h
   turned-fills left (ended.Refused r) h = h
@@ -200,7 +200,7 @@ module _ (q : ReceiverState) (ring dst : List ℕ) (top : ℕ) where
 turned-outcome : (o : Outcome) → TurnedTo o (endOfStreamFor o)
 turned-outcome o = by-came (o .came) refl
   where
-    by-errno : (e : ℕ) → o .came ≡ came.Failed (Io e) → (b : Bool) → eqb e 32 ≡ b → TurnedTo o (cond b (readOutcome 0 0) o)
+    by-errno : (e : ℕ) → o .came ≡ came.Failed (Io e) → (b : Bool) → eqb e 32 ≡ b → TurnedTo o (cond b (readOutcome 0 noneBeside) o)
     by-errno e h true k = ended-stream (h ∙ ap (λ (n : ℕ). came.Failed (Io n)) (eqb-true e 32 k))
     by-errno e h false k = stays (λ p. let d : came.Failed (Io e) ≡ came.Failed (Io 32) = sym h ∙ p in eqb-false e 32 k (let n : e ≡ 32 = cc in n))
 

@@ -54,7 +54,7 @@ module _ (takes : Call → Handed → Step) (allowed : (c : Call) (h : Handed) �
 
     -- a call that is finished ends the run, and what waits goes on
     ends-or : (c : Call) (i : ℕ) (xs : List Answer) (rest : Ended) → (overOf c ≡ false → rest ≡ endedOf (drivenFrom i (Of c) ring xs)) → (ph : Phase) → c .phase ≡ ph → toldBy ph (c .receiver) i rest ≡ endedOf (drivenFrom i (Of c) ring xs)
-    ends-or c i xs rest f (phase.Receive top asked) e = f (ap isOver e)
+    ends-or c i xs rest f (phase.Receive w) e = f (ap isOver e)
     ends-or c i xs rest f (phase.Send batch x) e = f (ap isOver e)
     ends-or c i xs rest f (phase.Shutdown x) e = f (ap isOver e)
     ends-or c i xs rest f (phase.Finished o) e = sym (ap endedOf (at-over ring i (Of c) xs (ap isOver e)) ∙ ap (λ (ph : Phase). endedBy ph c i) e)

@@ -11,9 +11,9 @@ use Rattle.receiver.proofs.Made.{Made}
 use Rattle.receiver.proofs.StepLaws.{QuietIn, whole}
 use Rattle.receiver.proofs.SumLaws.{step-sums, Begun, service-begun, shutdown-begun, read-begun}
 use Rattle.receiver.specs.Call.{overOf, answeredOf, beginReadOf, beginServiceOf, beginShutdownOf}
-use Rattle.receiver.specs.Cases.{BeginsRead, BeginsService, BeginsShutdown, Takes, Goes}
+use Rattle.receiver.specs.Cases.{a-want, BeginsRead, BeginsService, BeginsShutdown, Takes, Goes}
 use Rattle.receiver.specs.Handed.{sentBy, wholeBy, wholeIn, comingTo}
-use Rattle.receiver.specs.Receiver.{readOutcome}
+use Rattle.receiver.specs.Receiver.{noneBeside, readOutcome}
 use Rattle.states.specs.State.{isErrno}
 use Rattle.states.specs.declared.answer.Answer.{Answer}
 use Rattle.receiver.specs.declared.call.Call.{Call}
@@ -48,7 +48,7 @@ module _ (q : ReceiverState) (ring : List ℕ) where
       (omega (arith, h .0, k .0), k .1)
 
   summed-by : (answers : List Answer) (c : Call) (i : ℕ) (ph : Phase) → c .phase ≡ ph → Owes c (sentIn (take i answers)) → Sums q answers (endedBy ph c i)
-  summed-by answers c i (phase.Receive top asked) p h = refl
+  summed-by answers c i (phase.Receive w) p h = refl
   summed-by answers c i (phase.Send batch e) p h = refl
   summed-by answers c i (phase.Shutdown e) p h = refl
   summed-by answers c i (phase.Finished o) p h = omega (arith, h .0, ap (λ (x : Phase). wholeIn (c .receiver) (comingTo x)) p)
@@ -71,7 +71,7 @@ goes P Q f (Refused r) h = tt
 read-summed : (q : ReceiverState) (ring : List ℕ) (asked top : ℕ) (answers : List Answer) → Sums q answers (endedOf (readOf q ring asked top answers))
 read-summed q ring asked top answers =
     let x = beginReadOf q (length ring) top asked in
-    summed q ring x (begin-read-made q (length ring) top asked) (goes (BeginsRead q top asked) (Begun q) (read-begun q top asked) x (begins-at q (length ring) top asked)) answers
+    summed q ring x (begin-read-made q (length ring) top asked) (goes (BeginsRead q (a-want top asked)) (Begun q) (read-begun q (a-want top asked)) x (begins-at q (length ring) top asked)) answers
 
 -- the end of the stream hands nothing out
 turned-summed : (q : ReceiverState) (answers : List Answer) (r : Ended) → Sums q answers r → Sums q answers (endOfStreamIn r)
@@ -82,7 +82,7 @@ turned-summed q answers (ended.Accepted p o used) h = h ∙ ap (λ (n : ℕ). q 
     turned came.Done k = refl
     turned (came.Failed f) k = by (isErrno f 32)
       where
-        by : (b : Bool) → wholeIn p o ≡ wholeIn p (cond b (readOutcome 0 0) o)
+        by : (b : Bool) → wholeIn p o ≡ wholeIn p (cond b (readOutcome 0 noneBeside) o)
         by true = ap (wholeBy p) k
         by false = refl
 turned-summed q answers (ended.Refused r) h = h

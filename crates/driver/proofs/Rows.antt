@@ -12,6 +12,7 @@ use Rattle.copies.specs.Copies.{readyFrom}
 use Rattle.states.specs.declared.answer.Answer.{Answer}
 use Rattle.receiver.specs.declared.receiver.Ended.{Ended}
 use Rattle.receiver.specs.declared.receiver.Ended.the-variants.{Accepted, Refused}
+use Rattle.receiver.specs.declared.receiver.Outcome.{Outcome}
 use Rattle.states.specs.declared.refusal.Refusal.the-variants.{AnswerMissing, Misfit, PendingFull}
 use Rattle.states.specs.declared.state.Failure.the-variants.{Io, Protocol}
 use Rattle.states.specs.declared.state.OperationalState.{OperationalState}
@@ -20,7 +21,7 @@ use Rattle.states.specs.declared.state.Violation.the-variants.{InvalidChunkAnno
 use Rattle.states.specs.State.{fitsErrno, normalizeIn, towardsErrorIn}
 use Rattle.states.specs.Answer.{interruptedOf, receivedOf, sentOf, shutOf}
 use Rattle.receiver.specs.Call.{flushCall}
-use Rattle.receiver.specs.Receiver.{readOutcome, failedOutcome, doneOutcome, receiver}
+use Rattle.receiver.specs.Receiver.{besideByte, readOutcome, failedOutcome, doneOutcome, receiver}
 use Rattle.sched.specs.Chunk.{bodyFits}
 use Rattle.copies.specs.Number.{numberFrom}
 use Rattle.driver.specs.Drive.{endedOf, delivery, endOfStreamIn}
@@ -55,6 +56,10 @@ service st pending issued answers = serviceOf (receiver (ring 64 0 0) st pending
 
 abbrev reads : RingBufferScheduler → OperationalState → ℕ → Bool → List ℕ → ℕ → List Answer → Ended
 reads s st pending issued header asked answers = endOfStreamIn (endedOf (readOf (receiver s st pending issued) (memory header) asked 1 answers))
+
+-- so many bytes were read, with so many descriptors
+abbrev bytes : ℕ → ℕ → Outcome
+bytes n fds = readOutcome n (besideByte fds)
 
 abbrev zeros : List ℕ
 zeros = replicate 8 0
@@ -114,7 +119,7 @@ an-interruption-is-waited-out-but-not-by-a-shutdown = (refl, refl, refl)
 
 nothing-is-sent-while-draining :
     (service (Draining (Io 5)) 3 true (sends 3 ∷ []) ≡ Accepted (receiver empty (Draining (Io 5)) 3 true) (failedOutcome (Io 5)) 0) ×
-    (reads (ring 64 3 0) (Draining (Io 5)) 0 true zeros 9 [] ≡ Accepted (receiver (ring 64 3 3) (Draining (Io 5)) 1 true) (readOutcome 3 0) 0)
+    (reads (ring 64 3 0) (Draining (Io 5)) 0 true zeros 9 [] ≡ Accepted (receiver (ring 64 3 3) (Draining (Io 5)) 1 true) (bytes 3 0) 0)
 unfolding readyFrom soundOf subMod addMod fitsErrno
 nothing-is-sent-while-draining = (refl, refl)
 
@@ -141,7 +146,7 @@ refusal-11-is-not-failure-11 = (refl, refl, refl)
 -- ---- a read
 terminated-then-the-empty-destination-then-13-then-the-announcement :
     (reads (ring 64 5 0) (Terminated (Io 7)) (2 ^ 64 - 1) false zeros 0 [] ≡ Accepted (receiver (ring 64 5 0) (Terminated (Io 7)) (2 ^ 64 - 1) false) (failedOutcome (Io 7)) 0) ×
-    (reads (ring 64 5 0) Normal (2 ^ 64 - 1) false zeros 0 [] ≡ Accepted (receiver (ring 64 5 0) Normal (2 ^ 64 - 1) false) (readOutcome 0 0) 0) ×
+    (reads (ring 64 5 0) Normal (2 ^ 64 - 1) false zeros 0 [] ≡ Accepted (receiver (ring 64 5 0) Normal (2 ^ 64 - 1) false) (bytes 0 0) 0) ×
     (reads empty Normal (2 ^ 64 - 1) false zeros 2 (byte 300 0 ∷ []) ≡ Refused PendingFull) ×
     (reads empty Normal 0 false zeros 2 (byte 7 2 ∷ []) ≡ Refused (Misfit 1)) ×
     (reads empty (Terminated (Io 4096)) 0 false zeros 2 [] ≡ Refused (Misfit 0))
@@ -149,8 +154,8 @@ unfolding readyFrom soundOf subMod fitsErrno interruptedOf receivedOf
 terminated-then-the-empty-destination-then-13-then-the-announcement = (refl, refl, refl, refl, refl)
 
 the-end-of-the-stream-is-a-read-of-nothing :
-    (reads empty (Draining (Io 5)) 0 false zeros 2 (closed ∷ done ∷ []) ≡ Accepted (receiver empty (Terminated (Io 5)) 0 true) (readOutcome 0 0) 2) ×
-    (reads empty (Terminated (Io 32)) 0 false zeros 2 [] ≡ Accepted (receiver empty (Terminated (Io 32)) 0 false) (readOutcome 0 0) 0)
+    (reads empty (Draining (Io 5)) 0 false zeros 2 (closed ∷ done ∷ []) ≡ Accepted (receiver empty (Terminated (Io 5)) 0 true) (bytes 0 0) 2) ×
+    (reads empty (Terminated (Io 32)) 0 false zeros 2 [] ≡ Accepted (receiver empty (Terminated (Io 32)) 0 false) (bytes 0 0) 0)
 unfolding readyFrom soundOf subMod fitsErrno normalizeIn towardsErrorIn interruptedOf receivedOf shutOf
 the-end-of-the-stream-is-a-read-of-nothing = (refl, refl)
 
@@ -164,7 +169,7 @@ draining-and-blocked-terminates-with-the-cached-reason = (refl, refl)
 a-late-refusal-changes-nothing :
     (readDelivery (receiver (ring 64 5 0) Normal 300 false) (memory zeros) (1 ∷ 2 ∷ 3 ∷ []) 1 (sends 128 ∷ []) ≡ delivery (Refused AnswerMissing) (1 ∷ 2 ∷ 3 ∷ [])) ×
     (readDelivery (receiver (ring 64 5 0) Normal 300 false) (memory zeros) (1 ∷ 2 ∷ 3 ∷ []) 1 (sends 128 ∷ sends 129 ∷ []) ≡ delivery (Refused (Misfit 2)) (1 ∷ 2 ∷ 3 ∷ [])) ×
-    (readDelivery (receiver (ring 64 5 0) Normal 0 false) (memory (7 ∷ 8 ∷ 9 ∷ replicate 5 0)) (1 ∷ 2 ∷ []) 1 [] ≡ delivery (Accepted (receiver (ring 64 5 2) Normal 0 false) (readOutcome 2 0) 0) (7 ∷ 8 ∷ []))
+    (readDelivery (receiver (ring 64 5 0) Normal 0 false) (memory (7 ∷ 8 ∷ 9 ∷ replicate 5 0)) (1 ∷ 2 ∷ []) 1 [] ≡ delivery (Accepted (receiver (ring 64 5 2) Normal 0 false) (bytes 2 0) 0) (7 ∷ 8 ∷ []))
 unfolding flushCall readyFrom soundOf subMod addMod fitsErrno interruptedOf sentOf
 a-late-refusal-changes-nothing = (refl, refl, refl)
 
@@ -178,20 +183,20 @@ unfolding bodyFits numberFrom readyFrom soundOf subMod addMod fitsErrno normaliz
 a-violation-puts-the-scheduler-back = (refl, refl, refl, refl)
 
 eight-bytes-stay-free-behind-a-body :
-    (reads empty Normal 0 true (header 0 56) 2 (byte 0 1 ∷ []) ≡ Accepted (receiver (ring 64 64 10) Normal 0 true) (readOutcome 2 1) 1) ×
+    (reads empty Normal 0 true (header 0 56) 2 (byte 0 1 ∷ []) ≡ Accepted (receiver (ring 64 64 10) Normal 0 true) (bytes 2 1) 1) ×
     (reads empty Normal 0 true (header 0 57) 2 (byte 0 1 ∷ []) ≡ Accepted (receiver empty (Terminated (Protocol ControlOverflow)) 0 true) (failedOutcome (Protocol ControlOverflow)) 1)
 unfolding flushCall bodyFits numberFrom readyFrom soundOf subMod addMod fitsErrno normalizeIn towardsErrorIn interruptedOf receivedOf shutOf
 eight-bytes-stay-free-behind-a-body = (refl, refl)
 
 a-chunk-read-to-its-end-is-acknowledged :
-    reads empty Normal 0 true (header 0 3) 9 (byte 0 1 ∷ sends 1 ∷ []) ≡ Accepted (receiver (ring 64 11 11) Normal 0 true) (readOutcome 3 1) 2
+    reads empty Normal 0 true (header 0 3) 9 (byte 0 1 ∷ sends 1 ∷ []) ≡ Accepted (receiver (ring 64 11 11) Normal 0 true) (bytes 3 1) 2
 unfolding flushCall bodyFits numberFrom readyFrom soundOf subMod addMod fitsErrno interruptedOf receivedOf sentOf
 a-chunk-read-to-its-end-is-acknowledged = refl
 
 -- five bytes of it at the ring's end and three at its start, the body behind them
 a-header-wraps-around-the-ring's-end :
     readDelivery (receiver (ring 20 15 15) Normal 0 true) (0 ∷ 0 ∷ 3 ∷ 7 ∷ 8 ∷ 9 ∷ replicate 14 0) (1 ∷ 2 ∷ []) 0 (byte 0 0 ∷ []) ≡
-    delivery (Accepted (receiver (ring 20 26 25) Normal 0 true) (readOutcome 2 0) 1) (7 ∷ 8 ∷ [])
+    delivery (Accepted (receiver (ring 20 26 25) Normal 0 true) (bytes 2 0) 1) (7 ∷ 8 ∷ [])
 unfolding flushCall bodyFits numberFrom readyFrom soundOf subMod addMod fitsErrno interruptedOf receivedOf
 a-header-wraps-around-the-ring's-end = refl
 

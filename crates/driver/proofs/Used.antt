@@ -79,7 +79,7 @@ module _ (ring : List ℕ) where
 -- ---- what a run answers
 -- a call that waits is refused with 11, and one that is accepted is over
 pub waiting-phase : (ph : Phase) (c : Call) (i : ℕ) → isOver ph ≡ false → endedBy ph c i ≡ ended.Refused AnswerMissing
-waiting-phase (phase.Receive top asked) c i e = refl
+waiting-phase (phase.Receive w) c i e = refl
 waiting-phase (phase.Send batch x) c i e = refl
 waiting-phase (phase.Shutdown x) c i e = refl
 waiting-phase (phase.Finished o) c i e = let z : _≡_ {A = ℕ} 0 1 = cc in absurd (omega arith)
@@ -89,7 +89,7 @@ waiting (Of c) i e = waiting-phase (c .phase) c i e
 waiting (Refused r) i e = let z : _≡_ {A = ℕ} 0 1 = cc in absurd (omega arith)
 
 over-phase : (ph : Phase) (c : Call) (i : ℕ) (q : ReceiverState) (o : Outcome) (n : ℕ) → endedBy ph c i ≡ ended.Accepted q o n → (isOver ph ≡ true) × (i ≡ n)
-over-phase (phase.Receive top asked) c i q o n e = let z : _≡_ {A = ℕ} 0 1 = cc in absurd (omega arith)
+over-phase (phase.Receive w) c i q o n e = let z : _≡_ {A = ℕ} 0 1 = cc in absurd (omega arith)
 over-phase (phase.Send batch x) c i q o n e = let z : _≡_ {A = ℕ} 0 1 = cc in absurd (omega arith)
 over-phase (phase.Shutdown x) c i q o n e = let z : _≡_ {A = ℕ} 0 1 = cc in absurd (omega arith)
 over-phase (phase.Finished p) c i q o n e = (refl, cc)

@@ -5,7 +5,7 @@ use mathlib.Core.List.{List, [], _∷_}
 use Rattle.sched.specs.declared.scheduler.RingBufferScheduler.{RingBufferScheduler}
 use Rattle.copies.specs.Copies as copies
 use Rattle.receiver.specs.Call.{answeredOf, overOf, retriesOf}
-use Rattle.receiver.specs.Receiver.{readOutcome}
+use Rattle.receiver.specs.Receiver.{noneBeside, readOutcome}
 use Rattle.states.specs.State.{isErrno}
 use Rattle.states.specs.declared.answer.Answer.{Answer}
 use Rattle.receiver.specs.declared.call.Call.{Call}
@@ -63,7 +63,7 @@ drivenOf x ring answers = drivenFrom 0 x ring answers
 
 -- a call that still waits where the run is used up is refused with 11
 abbrev pub endedBy : Phase → Call → ℕ → Ended
-endedBy (phase.Receive top asked) c i = ended.Refused AnswerMissing
+endedBy (phase.Receive w) c i = ended.Refused AnswerMissing
 endedBy (phase.Send batch e) c i = ended.Refused AnswerMissing
 endedBy (phase.Shutdown e) c i = ended.Refused AnswerMissing
 endedBy (phase.Finished o) c i = ended.Accepted (c .receiver) o i
@@ -108,7 +108,7 @@ deliveryOf d ring dst = deliveryFor (d .step) (d .used) ring dst
 abbrev pub endOfStreamBy : Came → Outcome → Outcome
 endOfStreamBy (came.Read n) o = o
 endOfStreamBy came.Done o = o
-endOfStreamBy (came.Failed f) o = cond (isErrno f 32) (readOutcome 0 0) o
+endOfStreamBy (came.Failed f) o = cond (isErrno f 32) (readOutcome 0 noneBeside) o
 
 abbrev pub endOfStreamFor : Outcome → Outcome
 endOfStreamFor o = endOfStreamBy (o .came) o

@@ -11,6 +11,7 @@ use Rattle.sched.specs.declared.scheduler.RingBufferScheduler.{RingBufferSchedu
 use Rattle.sched.specs.Scheduler.{dataIn, offsetIn}
 use Rattle.copies.specs.Promises.{OnlyFront, CellsOf}
 use Rattle.receiver.specs.Handed.{Handed}
+use Rattle.receiver.specs.Promise.{nothing-more}
 use Rattle.states.specs.declared.answer.Answer.{Answer}
 use Rattle.receiver.specs.declared.call.Call.{Call}
 use Rattle.receiver.specs.declared.call.Phase.{Phase}
@@ -63,9 +64,9 @@ module _ (s : RingBufferScheduler) (ring dst left : List ℕ) where
   Fills (ended.Accepted q o used) = FillsBy (o .came)
   Fills (ended.Refused r) = left ≡ dst
 
--- ---- the end of the stream: failure 32 becomes a read of no bytes and no descriptors, and every other outcome stays
+-- ---- the end of the stream: failure 32 becomes a read of no bytes, with nothing beside it, and every other outcome stays
 pub data TurnedTo : Outcome → Outcome → Type 0 where
-  ended-stream : {o : Outcome} → o .came ≡ came.Failed (Io 32) → TurnedTo o (record { came = came.Read 0; fds = 0 })
+  ended-stream : {o : Outcome} → o .came ≡ came.Failed (Io 32) → TurnedTo o (record { came = came.Read 0; beside = nothing-more })
   stays : {o : Outcome} → o .came ≢ came.Failed (Io 32) → TurnedTo o o
 
 -- nothing else of an answer changes
@@ -76,7 +77,7 @@ pub data Turned : Ended → Ended → Type 0 where
 -- ---- a run is its steps
 -- a call that is finished tells its outcome and how many answers were handed in; one that is not comes to what the rest of the run says
 abbrev pub toldBy : Phase → ReceiverState → ℕ → Ended → Ended
-toldBy (phase.Receive top asked) q i rest = rest
+toldBy (phase.Receive w) q i rest = rest
 toldBy (phase.Send batch e) q i rest = rest
 toldBy (phase.Shutdown e) q i rest = rest
 toldBy (phase.Finished o) q i rest = ended.Accepted q o i

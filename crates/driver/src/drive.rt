@@ -2,6 +2,7 @@
 ghost use mathlib.Core.Path.{_≡_};
 ghost use Rattle.driver.specs.Drive.{overIn, retriesIn, answeredIn, drivenOf, endedIn, endedOf, delivery, deliveredFor, deliveredBy, deliveryOf, endOfStreamFor, endOfStreamIn};
 ghost use Rattle.driver.specs.Run.{FetchLeaves};
+use receiver::Beside;
 use receiver::Call;
 use receiver::Came;
 use receiver::Ended;
@@ -94,7 +95,7 @@ fn ended_in(call: Call, used: u64) -> Ended
     let phase = call.phase;
     let receiver = call.receiver;
     match phase {
-        Phase::Receive { .. } => Ended::Refused(Refusal::AnswerMissing),
+        Phase::Receive(_) => Ended::Refused(Refusal::AnswerMissing),
         Phase::Send { .. } => Ended::Refused(Refusal::AnswerMissing),
         Phase::Shutdown(_) => Ended::Refused(Refusal::AnswerMissing),
         Phase::Finished(outcome) => Ended::Accepted {
@@ -176,7 +177,7 @@ fn end_of_stream_for(outcome: Outcome) -> Outcome
             if f.is_errno(Failure::SHUTDOWN) {
                 return Outcome {
                     came: Came::Read(0),
-                    fds: 0,
+                    beside: Beside { fds: 0 },
                 };
             }
             outcome

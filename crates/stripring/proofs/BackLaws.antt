@@ -44,6 +44,7 @@ use Rattle.receiver.specs.declared.call.Ending.{Ending}
 use Rattle.receiver.specs.declared.call.Ending.the-variants.{Dropped, Told}
 use Rattle.receiver.specs.declared.call.Phase.{Phase}
 use Rattle.receiver.specs.declared.call.Phase.the-variants as phase
+use Rattle.receiver.specs.declared.receiver.Beside.{Beside}
 use Rattle.receiver.specs.declared.receiver.Came.{Came}
 use Rattle.receiver.specs.declared.receiver.Came.the-variants as came
 use Rattle.receiver.specs.declared.receiver.Outcome.{Outcome}
@@ -209,12 +210,12 @@ state-back (Terminated f) = ap Terminated (failure-back f)
 
 pub outcome-back : (o : Outcome) → outcomeAt (flatOutcome o) ≡ o
 unfolding cameAt
-outcome-back o = by (o .came) (o .fds)
+outcome-back o = by (o .came) (o .beside)
   where
-    by : (x : Came) (n : ℕ) → outcomeAt (flatCame x n) ≡ record { came = x; fds = n }
-    by (came.Read m) n = refl
-    by came.Done n = refl
-    by (came.Failed f) n = ap (λ (y : Failure). record { came = came.Failed y; fds = n }) (failure-back f)
+    by : (x : Came) (b : Beside) → outcomeAt (flatCame x b) ≡ record { came = x; beside = b }
+    by (came.Read m) b = refl
+    by came.Done b = refl
+    by (came.Failed f) b = ap (λ (y : Failure). record { came = came.Failed y; beside = b }) (failure-back f)
 
 ending-back : (e : Ending) → endingAt (flatEnding e) ≡ e
 unfolding endingAt
@@ -223,7 +224,7 @@ ending-back (Told o) = ap Told (outcome-back o)
 
 phase-back : (p : Phase) → phaseAt (flatPhase p) ≡ p
 unfolding phaseAt
-phase-back (phase.Receive top asked) = refl
+phase-back (phase.Receive w) = refl
 phase-back (phase.Send batch e) = ap (phase.Send batch) (ending-back e)
 phase-back (phase.Shutdown e) = ap phase.Shutdown (ending-back e)
 phase-back (phase.Finished o) = ap phase.Finished (outcome-back o)

@@ -28,38 +28,38 @@ not-both : {X : Type 0} {b : Bool} → b ≡ true → b ≡ false → X
 not-both e f = let z : _≡_ {A = ℕ} 0 1 = cc in absurd (omega arith)
 
 waits : (ph : Phase) → isOver ph ≡ false → Waits ph
-waits (phase.Receive top asked) e = tt
+waits (phase.Receive w) e = tt
 waits (phase.Send batch x) e = tt
 waits (phase.Shutdown x) e = tt
 waits (phase.Finished o) e = not-both refl e
 
 waits-not : (ph : Phase) → isOver ph ≡ true → Waits ph → ⊥
-waits-not (phase.Receive top asked) e w = not-both e refl
+waits-not (phase.Receive v) e w = not-both e refl
 waits-not (phase.Send batch x) e w = not-both e refl
 waits-not (phase.Shutdown x) e w = not-both e refl
 waits-not (phase.Finished o) e w = w
 
 retried : (ph : Phase) (a : Answer) → retriesIn ph a ≡ true → WaitedOut ph a
-retried (phase.Receive top asked) a e = interrupted-says a .0 e
+retried (phase.Receive w) a e = interrupted-says a .0 e
 retried (phase.Send batch x) a e = interrupted-says a .0 e
 retried (phase.Shutdown x) a e = not-both e refl
 retried (phase.Finished o) a e = not-both e refl
 
 retried-not : (ph : Phase) (a : Answer) → retriesIn ph a ≡ false → WaitedOut ph a → ⊥
-retried-not (phase.Receive top asked) a e h = not-both (interrupted-says a .1 h) e
+retried-not (phase.Receive w) a e h = not-both (interrupted-says a .1 h) e
 retried-not (phase.Send batch x) a e h = not-both (interrupted-says a .1 h) e
 retried-not (phase.Shutdown x) a e h = h
 retried-not (phase.Finished o) a e h = h
 
 -- what is said of a call where no more answers are taken
 missing : (ph : Phase) (c : Call) (i : ℕ) → Waits ph → verdict 11 [] ≡ ofEnded (endedBy ph c i)
-missing (phase.Receive top asked) c i w = refl
+missing (phase.Receive v) c i w = refl
 missing (phase.Send batch x) c i w = refl
 missing (phase.Shutdown x) c i w = refl
 missing (phase.Finished o) c i w = absurd w
 
 accepts : (ph : Phase) (c : Call) (i : ℕ) → (Waits ph → ⊥) → verdict 0 [] ≡ ofEnded (endedBy ph c i)
-accepts (phase.Receive top asked) c i n = absurd (n tt)
+accepts (phase.Receive w) c i n = absurd (n tt)
 accepts (phase.Send batch x) c i n = absurd (n tt)
 accepts (phase.Shutdown x) c i n = absurd (n tt)
 accepts (phase.Finished o) c i n = refl

@@ -53,7 +53,7 @@ use Rattle.stripring.specs.Operation.{flatOperation}
 use Rattle.stripring.specs.Outcome.{noOutcome, flatCame, flatOutcome}
 use Rattle.stripring.specs.Receiver.{noReceiver, flatReceiver}
 use Rattle.stripring.specs.Scheduler.{flatScheduler}
-use Rattle.stripring.specs.Stands.{CameStands, BoolStands, TypeStands, BlockTypeStands, BitStands, LayoutStands, FillStands, ViolationStands, ModulusStands, NumberStands, DiffStands, SchedulerStands, OperationStands, BlockStands, RangeStands, NoOutcome, NoEnding, NoReceiver, NoCall, OperationsStands, RangesStands, FailureStands, StateStands, ReceiverStands, OutcomeStands, EndingStands, PhaseStands, CallStands}
+use Rattle.stripring.specs.Stands.{BesideStands, CameStands, BoolStands, TypeStands, BlockTypeStands, BitStands, LayoutStands, FillStands, ViolationStands, ModulusStands, NumberStands, DiffStands, SchedulerStands, OperationStands, BlockStands, RangeStands, NoOutcome, NoEnding, NoReceiver, NoCall, OperationsStands, RangesStands, FailureStands, StateStands, ReceiverStands, OutcomeStands, EndingStands, PhaseStands, CallStands}
 use Rattle.stripring.specs.State.{flatState}
 
 -- ---- the header's numbers
@@ -143,12 +143,12 @@ outcome-zeros = (refl, refl, refl, (refl, refl))
 pub outcome-stands : (o : Outcome) → OutcomeStands (flatOutcome o) o
 outcome-stands o = (came-stands (o .came), came-beside (o .came))
   where
-    came-stands : (x : Came) → CameStands (flatCame x (o .fds)) x
+    came-stands : (x : Came) → CameStands (flatCame x (o .beside)) x
     came-stands (came.Read n) = (refl, refl, (refl, refl))
     came-stands came.Done = (refl, refl, (refl, refl))
     came-stands (came.Failed f) = (refl, refl, failure-stands f)
 
-    came-beside : (x : Came) → flatCame x (o .fds) .fds ≡ o .fds
+    came-beside : (x : Came) → BesideStands (flatCame x (o .beside)) (o .beside)
     came-beside (came.Read n) = refl
     came-beside came.Done = refl
     came-beside (came.Failed f) = refl
@@ -161,7 +161,7 @@ ending-stands (Dropped o) = (refl, outcome-stands o)
 ending-stands (Told o) = (refl, outcome-stands o)
 
 phase-stands : (p : Phase) → PhaseStands (flatPhase p) p
-phase-stands (Receive top asked) = (refl, refl, refl, refl, ending-zeros, outcome-zeros)
+phase-stands (Receive w) = (refl, refl, refl, refl, ending-zeros, outcome-zeros)
 phase-stands (Send n e) = (refl, refl, refl, refl, ending-stands e, outcome-zeros)
 phase-stands (Shutdown e) = (refl, refl, refl, refl, ending-stands e, outcome-zeros)
 phase-stands (Finished o) = (refl, refl, refl, refl, ending-zeros, outcome-stands o)

@@ -10,6 +10,7 @@ use Rattle.receiver.specs.declared.call.Phase as receiver-phase
 use Rattle.receiver.specs.declared.call.Phase.the-variants.{Receive, Send, Shutdown, Finished}
 use Rattle.receiver.specs.declared.call.Step.{Step}
 use Rattle.receiver.specs.declared.call.Step.the-variants as step
+use Rattle.receiver.specs.declared.call.Wanted.{Wanted}
 use Rattle.stripring.specs.declared.flat.Call.{Call}
 use Rattle.stripring.specs.declared.flat.Ending.{Ending}
 use Rattle.stripring.specs.declared.flat.Outcome.{Outcome}
@@ -31,10 +32,13 @@ abbrev pub flatEnding : receiver-ending.Ending → Ending
 flatEnding (Dropped o) = record { told = 0; outcome = flatOutcome o }
 flatEnding (Told o) = record { told = 1; outcome = flatOutcome o }
 
+abbrev pub wantedAt : Phase → Wanted
+wantedAt p = of-receiver.wanted (p .«max_new_fds») (p .«dst_len»)
+
 -- kinds 0 to 2 wait, any other is finished
 unfoldable pub phaseAt : Phase → receiver-phase.Phase
 phaseAt p =
-    cond (eqb (p .kind) 0) (Receive (p .«max_new_fds») (p .«dst_len»))
+    cond (eqb (p .kind) 0) (Receive (wantedAt p))
     (cond (eqb (p .kind) 1) (Send (p .batch) (endingAt (p .ending)))
     (cond (eqb (p .kind) 2) (Shutdown (endingAt (p .ending)))
     (Finished (outcomeAt (p .outcome)))))
@@ -46,7 +50,7 @@ abbrev pub noPhase : Phase
 noPhase = phaseOf 0 0 0 0 noEnding noOutcome
 
 abbrev pub flatPhase : receiver-phase.Phase → Phase
-flatPhase (Receive top asked) = phaseOf 0 top asked 0 noEnding noOutcome
+flatPhase (Receive w) = phaseOf 0 (w .«max_new_fds») (w .«dst_len») 0 noEnding noOutcome
 flatPhase (Send n e) = phaseOf 1 0 0 n (flatEnding e) noOutcome
 flatPhase (Shutdown e) = phaseOf 2 0 0 0 (flatEnding e) noOutcome
 flatPhase (Finished o) = phaseOf 3 0 0 0 noEnding (flatOutcome o)

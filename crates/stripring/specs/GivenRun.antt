@@ -18,14 +18,14 @@ use Rattle.receiver.specs.declared.receiver.Ended.{Ended}
 use Rattle.receiver.specs.declared.receiver.Ended.the-variants as ended
 
 abbrev pub Waits : Phase → Type 0
-Waits (phase.Receive top asked) = Unit {0}
+Waits (phase.Receive w) = Unit {0}
 Waits (phase.Send batch e) = Unit {0}
 Waits (phase.Shutdown e) = Unit {0}
 Waits (phase.Finished o) = ⊥
 
 -- an interruption, by a receive and by a send alone
 abbrev pub WaitedOut : Phase → Answer → Type 0
-WaitedOut (phase.Receive top asked) a = (a .kind ≡ 2) × (a .value ≡ 4)
+WaitedOut (phase.Receive w) a = (a .kind ≡ 2) × (a .value ≡ 4)
 WaitedOut (phase.Send batch e) a = (a .kind ≡ 2) × (a .value ≡ 4)
 WaitedOut (phase.Shutdown e) a = ⊥
 WaitedOut (phase.Finished o) a = ⊥

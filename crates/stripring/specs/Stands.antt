@@ -37,6 +37,7 @@ use Rattle.receiver.specs.declared.call.Ending as receiver-ending
 use Rattle.receiver.specs.declared.call.Ending.the-variants.{Dropped, Told}
 use Rattle.receiver.specs.declared.call.Phase as receiver-phase
 use Rattle.receiver.specs.declared.call.Phase.the-variants.{Receive, Send, Shutdown, Finished}
+use Rattle.receiver.specs.declared.receiver.Beside.{Beside}
 use Rattle.receiver.specs.declared.receiver.Came.{Came}
 use Rattle.receiver.specs.declared.receiver.Came.the-variants as came
 use Rattle.receiver.specs.declared.receiver.Outcome as receiver-outcome
@@ -201,8 +202,11 @@ CameStands f (came.Read n) = (f .kind ≡ 0) × (f .n ≡ n) × NoFailure (f .fa
 CameStands f came.Done = (f .kind ≡ 1) × (f .n ≡ 0) × NoFailure (f .failure)
 CameStands f (came.Failed e) = (f .kind ≡ 2) × (f .n ≡ 0) × FailureStands (f .failure) e
 
+abbrev pub BesideStands : Outcome → Beside → Type 0
+BesideStands f b = f .fds ≡ b .fds
+
 abbrev pub OutcomeStands : Outcome → receiver-outcome.Outcome → Type 0
-OutcomeStands f o = CameStands f (o .came) × (f .fds ≡ o .fds)
+OutcomeStands f o = CameStands f (o .came) × BesideStands f (o .beside)
 
 abbrev pub EndingStands : Ending → receiver-ending.Ending → Type 0
 EndingStands f (Dropped o) = (f .told ≡ 0) × OutcomeStands (f .outcome) o
@@ -210,8 +214,8 @@ EndingStands f (Told o) = (f .told ≡ 1) × OutcomeStands (f .outcome) o
 
 -- kind, then what a receive, a send and a shutdown wait with, then what came of it
 abbrev pub PhaseStands : Phase → receiver-phase.Phase → Type 0
-PhaseStands f (Receive top asked) =
-    (f .kind ≡ 0) × (f .«max_new_fds» ≡ top) × (f .«dst_len» ≡ asked) × (f .batch ≡ 0) × NoEnding (f .ending) × NoOutcome (f .outcome)
+PhaseStands f (Receive w) =
+    (f .kind ≡ 0) × (f .«max_new_fds» ≡ w .«max_new_fds») × (f .«dst_len» ≡ w .«dst_len») × (f .batch ≡ 0) × NoEnding (f .ending) × NoOutcome (f .outcome)
 PhaseStands f (Send n e) =
     (f .kind ≡ 1) × (f .«max_new_fds» ≡ 0) × (f .«dst_len» ≡ 0) × (f .batch ≡ n) × EndingStands (f .ending) e × NoOutcome (f .outcome)
 PhaseStands f (Shutdown e) =

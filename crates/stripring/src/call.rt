@@ -2,7 +2,7 @@
 // finished. An answer that is refused leaves the call as it was.
 ghost use mathlib.Core.Path.{_≡_};
 ghost use Rattle.receiver.specs.Call.{beginReadOf, beginServiceOf, beginShutdownOf, answeredOf};
-ghost use Rattle.stripring.specs.Call.{endingAt, noEnding, flatEnding, phaseAt, noPhase, flatPhase, callAt, noCall, flatCall, flatStep};
+ghost use Rattle.stripring.specs.Call.{endingAt, noEnding, flatEnding, wantedAt, phaseAt, noPhase, flatPhase, callAt, noCall, flatCall, flatStep};
 ghost use Rattle.stripring.specs.Receiver.{receiverAt};
 use crate::flat::Call;
 use crate::flat::Ending;
@@ -56,16 +56,22 @@ fn flat_ending(e: receiver::Ending) -> Ending
     }
 }
 
+fn wanted(p: Phase) -> receiver::Wanted
+    ensures { λ r. ⌜ r ≡ wantedAt p ⌝ }
+{
+    receiver::Wanted {
+        max_new_fds: p.max_new_fds,
+        dst_len: p.dst_len,
+    }
+}
+
 fn phase(p: Phase) -> receiver::Phase
     ensures { λ r. ⌜ r ≡ phaseAt p ⌝ }
 {
     let e = p.ending;
     let o = p.outcome;
     if p.kind == 0 {
-        return receiver::Phase::Receive {
-            max_new_fds: p.max_new_fds,
-            dst_len: p.dst_len,
-        };
+        return receiver::Phase::Receive(wanted(p));
     }
     if p.kind == 1 {
         return receiver::Phase::Send {
@@ -96,13 +102,10 @@ fn flat_phase(p: receiver::Phase) -> Phase
     ensures { λ r. ⌜ r ≡ flatPhase p ⌝ }
 {
     match p {
-        receiver::Phase::Receive {
-            max_new_fds,
-            dst_len,
-        } => Phase {
+        receiver::Phase::Receive(wanted) => Phase {
             kind: 0,
-            max_new_fds,
-            dst_len,
+            max_new_fds: wanted.max_new_fds,
+            dst_len: wanted.dst_len,
             batch: 0,
             ending: no_ending(),
             outcome: no_outcome(),

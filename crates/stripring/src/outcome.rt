@@ -1,6 +1,6 @@
 // What an accepted call of the receiver comes to.
 ghost use mathlib.Core.Path.{_≡_};
-ghost use Rattle.stripring.specs.Outcome.{cameAt, outcomeAt, noOutcome, flatCame, flatOutcome};
+ghost use Rattle.stripring.specs.Outcome.{cameAt, besideAt, outcomeAt, noOutcome, flatCame, flatOutcome};
 use crate::failure::failure;
 use crate::failure::flat_failure;
 use crate::failure::no_failure;
@@ -19,12 +19,18 @@ fn came(o: Outcome) -> receiver::Came
     receiver::Came::Failed(failure(f))
 }
 
+fn beside(o: Outcome) -> receiver::Beside
+    ensures { λ r. ⌜ r ≡ besideAt o ⌝ }
+{
+    receiver::Beside { fds: o.fds }
+}
+
 pub(crate) fn outcome(o: Outcome) -> receiver::Outcome
     ensures { λ r. ⌜ r ≡ outcomeAt o ⌝ }
 {
     receiver::Outcome {
         came: came(o),
-        fds: o.fds,
+        beside: beside(o),
     }
 }
 
@@ -39,26 +45,26 @@ pub(crate) fn no_outcome() -> Outcome
     }
 }
 
-fn flat_came(came: receiver::Came, fds: u64) -> Outcome
-    ensures { λ r. ⌜ r ≡ flatCame came fds ⌝ }
+fn flat_came(came: receiver::Came, beside: receiver::Beside) -> Outcome
+    ensures { λ r. ⌜ r ≡ flatCame came beside ⌝ }
 {
     match came {
         receiver::Came::Read(n) => Outcome {
             kind: 0,
             n,
-            fds,
+            fds: beside.fds,
             failure: no_failure(),
         },
         receiver::Came::Done => Outcome {
             kind: 1,
             n: 0,
-            fds,
+            fds: beside.fds,
             failure: no_failure(),
         },
         receiver::Came::Failed(f) => Outcome {
             kind: 2,
             n: 0,
-            fds,
+            fds: beside.fds,
             failure: flat_failure(f),
         },
     }
@@ -68,5 +74,6 @@ pub(crate) fn flat_outcome(o: receiver::Outcome) -> Outcome
     ensures { λ r. ⌜ r ≡ flatOutcome o ⌝ }
 {
     let came = o.came;
-    flat_came(came, o.fds)
+    let beside = o.beside;
+    flat_came(came, beside)
 }

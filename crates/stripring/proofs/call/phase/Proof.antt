@@ -7,7 +7,7 @@ use Rattle.stripring.proofs.call.phase.Tie as tie
 
 returns : tie.Need-returns
 unfolding phaseAt
-returns c = rw (eq-eqb _ _ (c .if1 .taken))
+returns c = rw (eq-eqb _ _ (c .before .if1 .taken), c .wanted .ensures)
 
 returns-2 : tie.Need-returns-2
 unfolding phaseAt
@@ -28,4 +28,4 @@ returns-4 c =
     rw (ne-eqb _ _ (at-if1 .if1 .left), ne-eqb _ _ (at-if2 .if2 .left), ne-eqb _ _ (c .before .if3 .left), c .outcome .ensures)
 
 pub phase-spec : {M : Type 1} → statement M
-phase-spec = tie.close (tie.spec returns (search needs) returns-2 (search needs) returns-3 (search needs) returns-4)
+phase-spec = tie.close (tie.spec (search needs) returns (search needs) returns-2 (search needs) returns-3 (search needs) returns-4)

@@ -4,7 +4,7 @@ use Rattle.stripring.proofs.outcome.outcome.Statement.{statement}
 use Rattle.stripring.proofs.outcome.outcome.Tie as tie
 
 returns : tie.Need-returns
-returns c = rw (c .came .ensures)
+returns c = rw (c .before .came .ensures, c .beside .ensures)
 
 pub outcome-spec : {M : Type 1} → statement M
-outcome-spec = tie.close (tie.spec (search needs) returns)
+outcome-spec = tie.close (tie.spec (search needs) (search needs) returns)

@@ -56,9 +56,9 @@ pub fn with_failure(line: Line, failure: Failure) -> Line {
 fn with_outcome(line: Line, outcome: Outcome) -> Line {
     let came = outcome.came;
     match came {
-        Came::Read(n) => line.push3(0, n, outcome.fds).push(0).push(0),
-        Came::Done => line.push3(1, 0, outcome.fds).push(0).push(0),
-        Came::Failed(f) => with_failure(line.push3(2, 0, outcome.fds), f),
+        Came::Read(n) => line.push3(0, n, outcome.beside.fds).push(0).push(0),
+        Came::Done => line.push3(1, 0, outcome.beside.fds).push(0).push(0),
+        Came::Failed(f) => with_failure(line.push3(2, 0, outcome.beside.fds), f),
     }
 }
 

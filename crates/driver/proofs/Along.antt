@@ -5,7 +5,7 @@ use mathlib.Core.Bool.{false}
 use mathlib.Core.List.{List, [], _∷_}
 use native.Mathlib.Omega.{arith}
 use lib.ListN.{take}
-use Rattle.receiver.proofs.HandedSum.{MadeBy, answered-made, waited-out}
+use Rattle.receiver.proofs.MadeLaws.{MadeBy, answered-made, waited-out}
 use Rattle.receiver.proofs.Made.{Made}
 use Rattle.receiver.specs.Call.{overOf, answeredOf}
 use Rattle.receiver.specs.Handed.{sentBy}

@@ -21,7 +21,7 @@ use Rattle.copies.specs.Ring.{get}
 use Rattle.receiver.proofs.AdmissionLaws.{sized-ready}
 use Rattle.receiver.proofs.ByteLaws.{Source, unasked, own, chunk, CopiesBy, Copies, OnTheWay, step-on, read-on, source-sound, chunk-offset}
 use Rattle.receiver.proofs.CaseSteps.{made-takes, begins-at, read-admitted}
-use Rattle.receiver.proofs.HandedSum.{MadeBy, begin-read-made}
+use Rattle.receiver.proofs.MadeLaws.{MadeBy, begin-read-made}
 use Rattle.receiver.proofs.Made.{Made}
 use Rattle.receiver.specs.Call.{overOf, answeredOf, beginReadOf, beginServiceOf, beginShutdownOf}
 use Rattle.receiver.specs.Cases.{a-want, BeginsRead, Takes, Goes}

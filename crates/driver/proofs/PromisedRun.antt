@@ -5,7 +5,7 @@ use mathlib.Core.Path.{_≡_, refl, sym, ap, subst, _∙_}
 use mathlib.Core.Bool.{Bool, cond, true, false}
 use mathlib.Core.List.{List, [], _∷_}
 use lib.ListN.{length}
-use Rattle.receiver.proofs.HandedSum.{MadeBy, answered-made, waited-out, service-made, shutdown-made, begin-read-made}
+use Rattle.receiver.proofs.MadeLaws.{MadeBy, answered-made, waited-out, service-made, shutdown-made, begin-read-made}
 use Rattle.receiver.proofs.Made.{Made}
 use Rattle.receiver.proofs.PromisedMachine.{Answers, answers-are}
 use Rattle.receiver.proofs.Says.{begin-service-says, begin-shutdown-says, begin-read-says}

@@ -6,7 +6,7 @@ use mathlib.Core.List.{List, [], _∷_}
 use native.Mathlib.Omega.{arith}
 use lib.ListN.{length, take}
 use Rattle.receiver.proofs.CaseSteps.{made-takes, begins-at, serves-at, shuts-at}
-use Rattle.receiver.proofs.HandedSum.{MadeBy, service-made, shutdown-made, begin-read-made}
+use Rattle.receiver.proofs.MadeLaws.{MadeBy, service-made, shutdown-made, begin-read-made}
 use Rattle.receiver.proofs.Made.{Made}
 use Rattle.receiver.proofs.StepLaws.{QuietIn, whole}
 use Rattle.receiver.proofs.SumLaws.{step-sums, Begun, service-begun, shutdown-begun, read-begun}

@@ -89,7 +89,7 @@ read-waits q sound w c (holds-data r l h) = hand-out-waits q (w .«dst_len») no
 
 -- ---- what the rules make of a call, and of an answer to it
 module _ (c : Call) (sound : IsSound (c .receiver .scheduler)) where
-  resumes-by : (ph : Phase) → Goes (ResumesIn ph c) (resumedBy ph c)
+  pub resumes-by : (ph : Phase) → Goes (ResumesIn ph c) (resumedBy ph c)
   resumes-by (phase.Receive w) = begins-read (c .receiver) sound w
   resumes-by (phase.Send batch e) = serves (c .receiver) (c .source) e
   resumes-by (phase.Shutdown e) = closes-by (c .receiver) (c .source) e (c .receiver .state) refl
@@ -102,7 +102,7 @@ module _ (c : Call) (sound : IsSound (c .receiver .scheduler)) where
   resumed-waits (phase.Finished o) p d h = subst Waits (sym h) (subst (λ (ph : Phase). WaitsIn ph (c .receiver)) (sym p) tt)
 
 -- the batch is the smaller of 128 and what is pending
-batch-is : (n batch : ℕ) → Batch n batch → batch ≡ min 128 n
+pub batch-is : (n batch : ℕ) → Batch n batch → batch ≡ min 128 n
 batch-is n _ (all l m) = omega (arith, m)
 batch-is n _ (most l) = omega (arith, l)
 
@@ -158,8 +158,11 @@ module _ (c : Call) (ring : List ℕ) (a : Answer) (place : ℕ) where
 
 -- a call that the machine made takes the answer itself
 module _ (c : Call) (h : Made c) where
+  pub made-resumes : Resumes c c
+  made-resumes = subst (Goes (Resumes c)) (h .resumes) (resumes-by c (h .tested .sound) (c .phase))
+
   made-waits : Waits c
-  made-waits = resumed-waits c (h .tested .sound) (c .phase) refl c (subst (Goes (Resumes c)) (h .resumes) (resumes-by c (h .tested .sound) (c .phase)))
+  made-waits = resumed-waits c (h .tested .sound) (c .phase) refl c made-resumes
 
   pub made-takes : (ring : List ℕ) (a : Answer) (place : ℕ) → Goes (Takes c ring a) (answeredOf c ring a place)
   made-takes ring a place =

@@ -12,10 +12,10 @@ use Rattle.states.proofs.AnswerSays.{received-says, received-only, sent-says, s
 use Rattle.receiver.proofs.Says.{answered-says}
 use Rattle.receiver.specs.Admission.{admissionOf}
 use Rattle.states.specs.Answer.{interruptedOf, receivedOf, sentOf, shutOf}
-use Rattle.receiver.specs.Call.{call, sentCall, unsentCall, afterShut, afterReceive, readCall, admittedStep, looksAt, resumedBy, resumedOf, steppedBy, steppedOf, answeredFrom}
+use Rattle.receiver.specs.Call.{call, afterShut, afterReceive, readCall, admittedStep, looksAt, resumedBy, resumedOf, steppedBy, steppedOf, answeredFrom}
 use Rattle.receiver.specs.Given.{GivenAdmission, Full, Misfits, GivenAnswer, takes, at-the-tests, still-full, given-12, ofStep}
 use Rattle.states.specs.Promise.{Errno, SaysReceived, no-receive, SaysSent, no-send, SaysShut}
-use Rattle.receiver.specs.Receiver.{batchIn, bySent}
+use Rattle.receiver.specs.Receiver.{bySent}
 use Rattle.states.specs.Refusal.{numberOf, valuesOf}
 use Rattle.receiver.specs.declared.admission.Admission.{Admission}
 use Rattle.receiver.specs.declared.admission.Admission.the-variants as admission
@@ -52,8 +52,11 @@ module _ (a : Answer) where
   no-misfit-sent batch i (no-send f h) = let k = interrupted-says a .0 i in h (k .0, interrupted-fits k)
 
   module _ (ring : List ℕ) (place : ℕ) (d : Call) where
+    abbrev Fits : Type 0 → Step → Type 0
+    Fits misfits x = (misfits × (ofStep x ≡ verdict 12 (place ∷ []))) ⊎ ((misfits → ⊥) × (ofStep x ≡ verdict 0 []))
+
     abbrev Taken : Phase → Step → Type 0
-    Taken ph x = (Misfits ph (d .receiver) a × (ofStep x ≡ verdict 12 (place ∷ []))) ⊎ ((Misfits ph (d .receiver) a → ⊥) × (ofStep x ≡ verdict 0 []))
+    Taken ph x = Fits (Misfits ph (d .receiver) a) x
 
     either : (ph : Phase) (b : Bool) (x y : Step) → (b ≡ true → Taken ph x) → Taken ph y → Taken ph (cond b x y)
     either ph true x y f g = f refl
@@ -64,11 +67,12 @@ module _ (a : Answer) where
     by-received w (received.Failed n) e = inr ((λ m. let k = received-only a (w .«max_new_fds») m in let z : _≡_ {A = ℕ} 0 1 = cc in omega arith), refl)
     by-received w received.Misfit e = inl (subst (SaysReceived a (w .«max_new_fds»)) e (received-says a (w .«max_new_fds»)), refl)
 
-    by-sent : (batch : ℕ) (e : Ending) (x : Sent) → sentOf (batchIn (d .receiver)) a ≡ x →
-        Taken (phase.Send batch e) (bySent x (λ n. step.Of (sentCall n (d .receiver) (d .source) e)) (λ n. step.Of (unsentCall n (d .receiver) (d .source) e)) (step.Refused (Misfit place)))
-    by-sent batch e (sent.Sent n) k = inr ((λ m. let l = sent-only a (batchIn (d .receiver)) m in let z : _≡_ {A = ℕ} 0 1 = cc in omega arith), refl)
-    by-sent batch e (sent.Failed n) k = inr ((λ m. let l = sent-only a (batchIn (d .receiver)) m in let z : _≡_ {A = ℕ} 0 1 = cc in omega arith), refl)
-    by-sent batch e sent.Misfit k = inl (subst (SaysSent a (batchIn (d .receiver))) k (sent-says a (batchIn (d .receiver))), refl)
+    -- whatever comes of what went, and of what did not
+    by-sent : (went not : ℕ → Call) (batch : ℕ) (x : Sent) → sentOf batch a ≡ x →
+        Fits (SaysSent a batch sent.Misfit) (bySent x (λ n. step.Of (went n)) (λ n. step.Of (not n)) (step.Refused (Misfit place)))
+    by-sent went not batch (sent.Sent n) k = inr ((λ m. let l = sent-only a batch m in let z : _≡_ {A = ℕ} 0 1 = cc in omega arith), refl)
+    by-sent went not batch (sent.Failed n) k = inr ((λ m. let l = sent-only a batch m in let z : _≡_ {A = ℕ} 0 1 = cc in omega arith), refl)
+    by-sent went not batch sent.Misfit k = inl (subst (SaysSent a batch) k (sent-says a batch), refl)
 
     by-shut : (e : Ending) (x : Shut) → shutOf a ≡ x → Taken (phase.Shutdown e) (afterShut x (d .receiver) (d .source) e place)
     by-shut e shut.Done k = inr ((λ m. let l = shut-only a m in let z : _≡_ {A = ℕ} 0 1 = cc in omega arith), refl)
@@ -77,29 +81,29 @@ module _ (a : Answer) where
 
     stepped-told : (ph : Phase) → Taken ph (steppedBy ph d ring a place)
     stepped-told (phase.Receive w) = either (phase.Receive w) (interruptedOf a) _ _ (λ i. inr (no-misfit-received (w .«max_new_fds») i, refl)) (by-received w (receivedOf (w .«max_new_fds») a) refl)
-    stepped-told (phase.Send batch e) = either (phase.Send batch e) (interruptedOf a) _ _ (λ i. inr (no-misfit-sent (batchIn (d .receiver)) i, refl)) (by-sent batch e (sentOf (batchIn (d .receiver)) a) refl)
+    stepped-told (phase.Send batch e) = either (phase.Send batch e) (interruptedOf a) _ _ (λ i. inr (no-misfit-sent _ i, refl)) (by-sent _ _ _ _ refl)
     stepped-told (phase.Shutdown e) = by-shut e (shutOf a) refl
     stepped-told (phase.Finished o) = inr ((λ m. m), refl)
 
 -- what the rules make of the call: 13 where it waits for a receive with a full count, and else a call
 module _ (c : Call) where
-  abbrev Resumes : Phase → Step → Type 0
-  Resumes ph (step.Of d) = (w : Wanted) → ph ≡ phase.Receive w → Full (c .receiver) (w .«dst_len») → ⊥
-  Resumes ph (step.Refused r) = (w : Wanted) × (ph ≡ phase.Receive w) × Full (c .receiver) (w .«dst_len») × (verdict (numberOf r) (valuesOf r) ≡ verdict 13 [])
+  abbrev pub Refuses : Phase → Step → Type 0
+  Refuses ph (step.Of d) = (w : Wanted) → ph ≡ phase.Receive w → Full (c .receiver) (w .«dst_len») → ⊥
+  Refuses ph (step.Refused r) = (w : Wanted) × (ph ≡ phase.Receive w) × Full (c .receiver) (w .«dst_len») × (verdict (numberOf r) (valuesOf r) ≡ verdict 13 [])
 
   asked-same : (w v : Wanted) → phase.Receive w ≡ phase.Receive v → Full (c .receiver) (v .«dst_len») → Full (c .receiver) (w .«dst_len»)
   asked-same w v e h = let k : w ≡ v = cc in subst (λ (x : Wanted). Full (c .receiver) (x .«dst_len»)) (sym k) h
 
-  by-rules : (w : Wanted) (x : Step) → Rules (c .receiver) 0 w x → Resumes (phase.Receive w) x
+  by-rules : (w : Wanted) (x : Step) → Rules (c .receiver) 0 w x → Refuses (phase.Receive w) x
   by-rules w (step.Of d) (inl h) = λ v e f. let z : _≡_ {A = ℕ} 0 13 = ap (λ (v : Verdict). v .number) (h .1) in omega arith
   by-rules w (step.Of d) (inr h) = λ v e f. h .0 (asked-same w v e f)
   by-rules w (step.Refused r) (inl h) = (w, refl, h .0, h .1)
   by-rules w (step.Refused r) (inr h) = absurd (omega (arith, number-of r, ap (λ (v : Verdict). v .number) (h .1)))
 
-  other : (ph : Phase) (d : Call) → ((w : Wanted) → ph ≡ phase.Receive w → ⊥) → Resumes ph (step.Of d)
+  other : (ph : Phase) (d : Call) → ((w : Wanted) → ph ≡ phase.Receive w → ⊥) → Refuses ph (step.Of d)
   other ph d f w e h = f w e
 
-  resumed-told : (ph : Phase) → Resumes ph (resumedBy ph c)
+  pub resumed-told : (ph : Phase) → Refuses ph (resumedBy ph c)
   resumed-told (phase.Receive w) = by-rules w (readCall (c .receiver) w) (read-told (c .receiver) 0 w (c .receiver .state) refl)
   resumed-told (phase.Send batch e) = other (phase.Send batch e) c (λ w k. let z : _≡_ {A = ℕ} 0 1 = cc in omega arith)
   resumed-told (phase.Shutdown e) = other (phase.Shutdown e) c (λ w k. let z : _≡_ {A = ℕ} 0 1 = cc in omega arith)
@@ -126,7 +130,7 @@ module _ (c : Call) (ring : List ℕ) (a : Answer) (place : ℕ) where
     no-test : {X : Type 0} (k : ℕ) (vs : List ℕ) → 0 < k → GivenAdmission (c .receiver) m k vs → X
     no-test k vs l g = absurd (omega (arith, passed-only (c .receiver) m e k vs g))
 
-    took : (d : Call) → resumedOf c ≡ step.Of d → Resumes c (c .phase) (step.Of d) → Taken a ring place d (d .phase) (steppedOf d ring a place) → Exactly Answers (ofStep (steppedOf d ring a place))
+    took : (d : Call) → resumedOf c ≡ step.Of d → Refuses c (c .phase) (step.Of d) → Taken a ring place d (d .phase) (steppedOf d ring a place) → Exactly Answers (ofStep (steppedOf d ring a place))
     took d k f (inl h) = subst (Exactly Answers) (sym (h .1)) (record { only = given-12 d p k (h .0); always = λ n vs g. so g })
       where
         so : {n : ℕ} {vs : List ℕ} → Answers n vs → verdict 12 (place ∷ []) ≡ verdict n vs
@@ -142,7 +146,7 @@ module _ (c : Call) (ring : List ℕ) (a : Answer) (place : ℕ) where
         so (still-full w q l g) = absurd (f w l g)
         so (given-12 d′ q l g) = absurd (h .0 (same-misfit d d′ k l g))
 
-    by-resumed : (x : Step) → resumedOf c ≡ x → Resumes c (c .phase) x → Exactly Answers (ofStep (answeredFrom x ring a place))
+    by-resumed : (x : Step) → resumedOf c ≡ x → Refuses c (c .phase) x → Exactly Answers (ofStep (answeredFrom x ring a place))
     by-resumed (step.Of d) k f = took d k f (stepped-told a ring place d (d .phase))
     by-resumed (step.Refused r) k f = subst (Exactly Answers) (sym (f .3)) (record { only = still-full (f .0) p (f .1) (f .2); always = λ n vs g. so g })
       where

@@ -4,11 +4,7 @@ pub mod CallLaws
 pub mod AnsweredLaws
 pub mod AdmissionLaws
 pub mod ResumedLaws
-pub mod Fits
 pub mod Made
-pub mod Spent
-pub mod Keeps
-pub mod HandedSum
 pub mod MachineRows
 pub mod Rules
 pub mod CaseLaws
@@ -19,5 +15,7 @@ pub mod ByteLaws
 pub mod Says
 pub mod Given
 pub mod GivenAnswer
+pub mod MadeLaws
+pub mod HandedSum
 pub mod PromisedCalls
 pub mod PromisedMachine

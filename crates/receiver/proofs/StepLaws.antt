@@ -100,7 +100,7 @@ sentIn (sent.Failed n) = 0
 sentIn sent.Misfit = 0
 
 module _ (q : ReceiverState) (s : RingBufferScheduler) (e : Ending) where
-  closes-spends : (c : Call) → Closes q s e c → Spends q s e 0 c
+  pub closes-spends : (c : Call) → Closes q s e c → Spends q s e 0 c
   closes-spends _ (is-normal {o} p t) = record { source = refl; scheduler = refl; counts = omega arith; ends = comes-to e o t; quiet = λ h. tt; settled = tt }
   closes-spends _ (shut-before {o} p t) = record { source = refl; scheduler = refl; counts = omega arith; ends = comes-to e o t; quiet = λ h. tt; settled = tt }
   closes-spends _ (asks n p) = record { source = refl; scheduler = refl; counts = omega arith; ends = own-end e; quiet = λ h. h; settled = tt }

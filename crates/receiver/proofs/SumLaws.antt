@@ -30,10 +30,10 @@ use Rattle.receiver.specs.declared.receiver.ReceiverState.{ReceiverState
 use Rattle.receiver.proofs.StepLaws.{Quiet, QuietIn, Spends, sentIn, serves-spends, advances-spends, sent-spends, shut-spends, whole, spends-whole, hands, Took, handed, failed, took}
 
 -- ---- what an answer sends
-other-sends : (a : Answer) → a .kind ≢ 3 → sentBy a ≡ 0
+pub other-sends : (a : Answer) → a .kind ≢ 3 → sentBy a ≡ 0
 other-sends a n = ap (λ (b : Bool). cond b (a .value) 0) (ne-eqb (a .kind) 3 n)
 
-says-sent : (a : Answer) (batch : ℕ) (x : Sent) → SaysSent a batch x → x ≢ sent.Misfit → sentBy a ≡ sentIn x
+pub says-sent : (a : Answer) (batch : ℕ) (x : Sent) → SaysSent a batch x → x ≢ sent.Misfit → sentBy a ≡ sentIn x
 says-sent a batch _ (so-many k l) n = ap (λ (b : Bool). cond b (a .value) 0) (eq-eqb (a .kind) 3 k)
 says-sent a batch _ (send-failed k) n = other-sends a (λ z. omega (arith, k .0, z))
 says-sent a batch _ (no-send f g) n = absurd (n refl)
@@ -50,7 +50,7 @@ says-shut a _ (shutdown-failed k) n = other-sends a (λ z. omega (arith, k .0, z
 says-shut a _ (no-shutdown f g) n = absurd (n refl)
 
 -- an answer that does not fit is not taken
-sent-taken : (q : ReceiverState) (s : RingBufferScheduler) (e : Ending) (x : Sent) (c : Call) → TakesSent q s e x c → x ≢ sent.Misfit
+pub sent-taken : (q : ReceiverState) (s : RingBufferScheduler) (e : Ending) (x : Sent) (c : Call) → TakesSent q s e x c → x ≢ sent.Misfit
 sent-taken q s e _ c (none-went h) = λ z. let y : _≡_ {A = ℕ} 0 1 = cc in omega arith
 sent-taken q s e _ c (some-went l m h) = λ z. let y : _≡_ {A = ℕ} 0 1 = cc in omega arith
 sent-taken q s e _ _ (send-blocks t) = λ z. let y : _≡_ {A = ℕ} 0 1 = cc in omega arith

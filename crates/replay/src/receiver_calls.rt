@@ -207,15 +207,6 @@ fn failure_at(line: Line, at: usize) -> Failure {
     let value = line.at(after(at, 1));
     match line.at(at) {
         0 => Failure::Io(value),
-        _ => Failure::Protocol(violation(value)),
-    }
-}
-
-fn violation(number: u64) -> Violation {
-    match number {
-        1 => Violation::InvalidChunkAnnouncement,
-        2 => Violation::ControlOverflow,
-        3 => Violation::UnknownHeader,
-        _ => Violation::InvalidChunkLength,
+        _ => Failure::Protocol(Violation::of_number(value)),
     }
 }

@@ -4,17 +4,17 @@ use mathlib.Core.Path.{_≡_, refl, ap, _∙_}
 use mathlib.Core.Bool.{Bool, cond, true, false}
 use mathlib.Core.Logic.{_≢_}
 use native.Mathlib.Omega.{arith}
+use lib.Dec.{eqb}
 use borrow.Author.Tests.{eqb-true, eqb-false, eq-eqb}
 use Rattle.states.specs.Promise.{Reason, end-and-end, end-gives-way, error-and-end, error-stays, normal, blocked-draining, blocked-terminated, Normalized, calmed, drains, ends, Holds, holds-none, draining-holds, terminated-holds, Carries, normal-carries-none, draining-carries, terminated-carries, Advanced, calm-by-calm, calm-by-draining, calm-by-terminated, terminated-stays, draining-stays, draining-by-draining, draining-by-terminated}
-use Rattle.states.specs.State.{violationNumber, isErrno, failureIn, withFailureIn, normalizeIn, towardsErrorIn, advanceNormal, advanceIn}
+use Rattle.states.specs.State.{violationNumber, violationAt, isErrno, failureIn, withFailureIn, normalizeIn, towardsErrorIn, advanceNormal, advanceIn}
 use Rattle.states.specs.declared.state.Failure.{Failure}
 use Rattle.states.specs.declared.state.Failure.the-variants.{Io, Protocol}
 use Rattle.states.specs.declared.state.OperationalState.{OperationalState}
 use Rattle.states.specs.declared.state.OperationalState.the-variants.{Normal, Draining, Terminated}
 use Rattle.states.specs.declared.state.Violation.{Violation}
 use Rattle.states.specs.declared.state.Violation.the-variants.{InvalidChunkAnnouncement, ControlOverflow, UnknownHeader, InvalidChunkLength}
-use Rattle.states.specs.Promise.{Numbered, violation-1, violation-2, violation-3, violation-4}
-use Rattle.states.specs.State.{violationNumber}
+use Rattle.states.specs.Promise.{Numbered, violation-1, violation-2, violation-3, violation-4, ReadBack, has-number, no-number}
 
 -- ---- reasons
 is-errno : (f : Failure) (k : ℕ) → isErrno f k ≡ true → f ≡ Io k
@@ -81,3 +81,29 @@ numbered InvalidChunkAnnouncement = violation-1
 numbered ControlOverflow = violation-2
 numbered UnknownHeader = violation-3
 numbered InvalidChunkLength = violation-4
+
+pub violation-back : (v : Violation) → violationAt (violationNumber v) ≡ v
+unfolding violationAt
+violation-back InvalidChunkAnnouncement = refl
+violation-back ControlOverflow = refl
+violation-back UnknownHeader = refl
+violation-back InvalidChunkLength = refl
+
+-- by the tests of the definition, and the number that it does not test
+pub read-back : {n : ℕ} → ReadBack n (violationAt n)
+unfolding violationAt
+read-back {n} = by (eqb n 1) refl (eqb n 2) refl (eqb n 3) refl (eqb n 4) refl
+  where
+    none : (m : ℕ) → m ≢ 1 → m ≢ 2 → m ≢ 3 → m ≢ 4 → (v : Violation) → Numbered v m → ⊥
+    none _ a b c d v violation-1 = a refl
+    none _ a b c d v violation-2 = b refl
+    none _ a b c d v violation-3 = c refl
+    none _ a b c d v violation-4 = d refl
+
+    by : (x : Bool) → eqb n 1 ≡ x → (y : Bool) → eqb n 2 ≡ y → (z : Bool) → eqb n 3 ≡ z → (u : Bool) → eqb n 4 ≡ u →
+        ReadBack n (cond x InvalidChunkAnnouncement (cond y ControlOverflow (cond z UnknownHeader InvalidChunkLength)))
+    by true p y q z r u s = rw (eqb-true n 1 p) (has-number violation-1)
+    by false p true q z r u s = rw (eqb-true n 2 q) (has-number violation-2)
+    by false p false q true r u s = rw (eqb-true n 3 r) (has-number violation-3)
+    by false p false q false r true s = rw (eqb-true n 4 s) (has-number violation-4)
+    by false p false q false r false s = no-number (none n (eqb-false n 1 p) (eqb-false n 2 q) (eqb-false n 3 r) (eqb-false n 4 s))

@@ -3,7 +3,7 @@ use Rattle.modular.proofs.Saying.{Says}
 use Rattle.sched.specs.Refusal.{packed}
 use Rattle.states.specs.Answer.{interruptedOf, receivedOf, sentOf, shutOf}
 use Rattle.states.specs.Refusal.{numberOf, valuesOf}
-use Rattle.states.specs.State.{fitsState, failureIn, advanceIn, violationNumber, isErrno, failureOf, withFailureOf, withPotentialFailureOf, normalizeOf, advanceOf, normalizeFailureOf, towardsErrorOf}
+use Rattle.states.specs.State.{fitsState, failureIn, advanceIn, violationNumber, violationAt, isErrno, failureOf, withFailureOf, withPotentialFailureOf, normalizeOf, advanceOf, normalizeFailureOf, towardsErrorOf}
 use Rattle.states.proofs.state.OperationalState.fits.Kinds as fits-kinds
 use Rattle.states.proofs.state.OperationalState.fits.Reads as fits
 use Rattle.states.proofs.state.OperationalState.cached_failure.Kinds as cached-failure-kinds
@@ -40,6 +40,8 @@ use Rattle.states.proofs.refusal.Refusal.values.Kinds as values-kinds
 use Rattle.states.proofs.refusal.Refusal.values.Reads as values
 use Rattle.states.proofs.state.Violation.number.Kinds as Violation-number-kinds
 use Rattle.states.proofs.state.Violation.number.Reads as Violation-number
+use Rattle.states.proofs.state.Violation.of_number.Kinds as of-number-kinds
+use Rattle.states.proofs.state.Violation.of_number.Reads as of-number
 
 -- ---- the states
 pub fits-says : Says 0 fits-kinds.ps fits-kinds.r fits.Learnt (λ κs a. fitsState (a .0))
@@ -97,3 +99,6 @@ values-says κs a z ws p = p
 
 pub Violation-number-says : Says 0 Violation-number-kinds.ps Violation-number-kinds.r Violation-number.Learnt (λ κs a. violationNumber (a .0))
 Violation-number-says κs a z ws p = p
+
+pub of-number-says : Says 0 of-number-kinds.ps of-number-kinds.r of-number.Learnt (λ κs a. violationAt (a .0))
+of-number-says κs a z ws p = p

@@ -104,3 +104,8 @@ pub data Numbered : Violation → ℕ → Type 0 where
   violation-2 : Numbered ControlOverflow 2
   violation-3 : Numbered UnknownHeader 3
   violation-4 : Numbered InvalidChunkLength 4
+
+-- a number read back: that of a violation is that violation, and one that none has is the fourth
+pub data ReadBack : ℕ → Violation → Type 0 where
+  has-number : {v : Violation} {n : ℕ} → Numbered v n → ReadBack n v
+  no-number : {n : ℕ} → ((v : Violation) → Numbered v n → ⊥) → ReadBack n InvalidChunkLength

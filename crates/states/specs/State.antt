@@ -26,6 +26,13 @@ violationNumber ControlOverflow = 2
 violationNumber UnknownHeader = 3
 violationNumber InvalidChunkLength = 4
 
+-- and back: any number but 1, 2 and 3 is the fourth
+unfoldable pub violationAt : ℕ → Violation
+violationAt n =
+    cond (eqb n 1) InvalidChunkAnnouncement
+    (cond (eqb n 2) ControlOverflow
+    (cond (eqb n 3) UnknownHeader InvalidChunkLength))
+
 -- an errno is from 1 to 4095
 unfoldable pub fitsErrno : ℕ → Bool
 fitsErrno e = cond (eqb e 0) false (leb e 4095)

@@ -1,7 +1,7 @@
 // The states of the receiver, and the failures in them. Every state and failure that is handed in is tested: an errno is a number
 // from 1 to 4095.
 ghost use mathlib.Core.Path.{_≡_};
-ghost use Rattle.states.specs.State.{violationNumber, fitsFailure, fitsState, failureIn, withFailureIn, isErrno, normalizeIn, towardsErrorIn, advanceIn, failureOf, withFailureOf, withPotentialFailureOf, normalizeOf, advanceOf, normalizeFailureOf, towardsErrorOf};
+ghost use Rattle.states.specs.State.{violationNumber, violationAt, fitsFailure, fitsState, failureIn, withFailureIn, isErrno, normalizeIn, towardsErrorIn, advanceIn, failureOf, withFailureOf, withPotentialFailureOf, normalizeOf, advanceOf, normalizeFailureOf, towardsErrorOf};
 use crate::refusal::Refusal;
 
 pub enum Violation {
@@ -20,6 +20,18 @@ impl Violation {
             Violation::ControlOverflow => 2,
             Violation::UnknownHeader => 3,
             Violation::InvalidChunkLength => 4,
+        }
+    }
+
+    // A number that no violation has is the fourth.
+    pub fn of_number(number: u64) -> Violation
+        ensures { λ r. ⌜ r ≡ violationAt number ⌝ }
+    {
+        match number {
+            1 => Violation::InvalidChunkAnnouncement,
+            2 => Violation::ControlOverflow,
+            3 => Violation::UnknownHeader,
+            _ => Violation::InvalidChunkLength,
         }
     }
 }

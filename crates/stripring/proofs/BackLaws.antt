@@ -55,15 +55,13 @@ use Rattle.states.specs.declared.state.Failure.{Failure}
 use Rattle.states.specs.declared.state.Failure.the-variants.{Io, Protocol}
 use Rattle.states.specs.declared.state.OperationalState.{OperationalState}
 use Rattle.states.specs.declared.state.OperationalState.the-variants.{Normal, Draining, Terminated}
-use Rattle.states.specs.declared.state.Violation.{Violation}
-use Rattle.states.specs.declared.state.Violation.the-variants.{InvalidChunkAnnouncement, ControlOverflow, UnknownHeader, InvalidChunkLength}
-use Rattle.states.specs.State.{violationNumber}
+use Rattle.states.proofs.Rules.{violation-back}
 use Rattle.stripring.specs.Back.{layoutAt, fillAt, blockAt, rangeAt, rangesAt, startAt, startsAt, modulusBack, numberBack}
 use Rattle.stripring.specs.Block.{blockTypeNumber, blockTypeAt, bitNumber, bitAt, flatBlock, layoutNumber, fillStateNumber}
 use Rattle.stripring.specs.Call.{endingAt, flatEnding, phaseAt, flatPhase, callAt, flatCall, flatStep}
 use Rattle.stripring.specs.Counter.{boolNumber}
 use Rattle.stripring.specs.Diff.{diffAt, flatDiff}
-use Rattle.stripring.specs.Failure.{violationAt, failureAt, flatFailure}
+use Rattle.stripring.specs.Failure.{failureAt, flatFailure}
 use Rattle.stripring.specs.Flat.{flatRefusal, flatReceiverRefusal}
 use Rattle.stripring.specs.List.{operationsAt, flatOperations, flatStarts, flatRange, flatRanges}
 use Rattle.stripring.specs.Modulus.{flatModulus, flatNumber}
@@ -189,13 +187,6 @@ refusal-back (Copy RingMemory) = refl
 refusal-back AnswerMissing = refl
 refusal-back (Misfit place) = refl
 refusal-back PendingFull = refl
-
-violation-back : (v : Violation) → violationAt (violationNumber v) ≡ v
-unfolding violationAt
-violation-back InvalidChunkAnnouncement = refl
-violation-back ControlOverflow = refl
-violation-back UnknownHeader = refl
-violation-back InvalidChunkLength = refl
 
 pub failure-back : (f : Failure) → failureAt (flatFailure f) ≡ f
 unfolding failureAt

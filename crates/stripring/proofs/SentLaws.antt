@@ -96,7 +96,7 @@ use Rattle.stripring.specs.State.{flatStateAnswer}
 use Rattle.stripring.specs.WritingEnd.{flatWritingEndAnswer, flatWrote, flatWrittenCounter}
 use Rattle.stripring.specs.declared.flat.Refusal.{Refusal}
 use Rattle.stripring.proofs.BackLaws.{scheduler-back, writing-end-back, reading-end-back, operation-back, operations-back, starts-back, ranges-back, block-back, layout-back, fill-back, issued-back, failure-back, state-back, outcome-back, receiver-back, call-back}
-use Rattle.stripring.proofs.StandsLaws.{bool-stands, layout-stands, fill-stands, scheduler-stands, operation-stands, operations-stand, ranges-stand, block-stands, failure-stands, state-stands, receiver-stands, outcome-stands, outcome-zeros, call-stands, receiver-zeros, call-zeros}
+use Rattle.stripring.proofs.StandsLaws.{bool-stands, layout-stands, fill-stands, scheduler-stands, operation-stands, operations-stand, ranges-stand, block-stands, failure-zeros, failure-stands, state-stands, receiver-stands, outcome-stands, outcome-zeros, call-stands, receiver-zeros, call-zeros}
 
 -- ---- the refusals: the number, and the values in order
 pub accepted : RefusalStands noRefusal 0 []
@@ -222,17 +222,17 @@ read-sent (read.Refused e) = (end-refusal-some e, end-refusal e, refl)
 -- ---- of the receiver; with a receiver, what the call came to and how many answers it used
 pub failure-sent : (x : FailureAnswer) → FailureSent (flatFailureAnswer x) (failureResult x)
 failure-sent (failure.Of f) = (accepted, failure-stands f, failure-back f)
-failure-sent (failure.Refused e) = (receiver-refusal-some e, receiver-refusal e, (refl, refl))
+failure-sent (failure.Refused e) = (receiver-refusal-some e, receiver-refusal e, failure-zeros)
 
 pub potential-sent : (x : PotentialFailureAnswer) → PotentialSent (flatPotentialFailure x) (potentialResult x)
 unfolding potentialFailureAt
 potential-sent (potential.Of (perhaps.Some f)) = (accepted, (refl, failure-stands f), ap perhaps.Some (failure-back f))
-potential-sent (potential.Of perhaps.None) = (accepted, (refl, (refl, refl)), refl)
-potential-sent (potential.Refused e) = (receiver-refusal-some e, receiver-refusal e, (refl, (refl, refl)))
+potential-sent (potential.Of perhaps.None) = (accepted, (refl, failure-zeros), refl)
+potential-sent (potential.Refused e) = (receiver-refusal-some e, receiver-refusal e, (refl, failure-zeros))
 
 pub state-sent : (x : StateAnswer) → StateSent (flatStateAnswer x) (stateResult x)
 state-sent (state.Of s) = (accepted, state-stands s, state-back s)
-state-sent (state.Refused e) = (receiver-refusal-some e, receiver-refusal e, (refl, (refl, refl)))
+state-sent (state.Refused e) = (receiver-refusal-some e, receiver-refusal e, (refl, failure-zeros))
 
 pub made-sent : (x : ReceiverAnswer) → ReceiverSent (flatReceiverAnswer x) (madeResult x)
 made-sent (made.Of q) = (accepted, receiver-stands q, receiver-back q)

@@ -26,7 +26,7 @@ use Rattle.sched.specs.declared.operation.OperationType.{OperationType}
 use Rattle.sched.specs.declared.operation.OperationType.the-variants.{Read, Write}
 use Rattle.sched.specs.declared.operation.ScheduledOperation.{ScheduledOperation}
 use Rattle.sched.specs.declared.scheduler.RingBufferScheduler.{RingBufferScheduler}
-use Rattle.states.specs.State.{violationNumber}
+use Rattle.states.proofs.Rules.{numbered}
 use Rattle.receiver.specs.declared.call.Call.{Call}
 use Rattle.receiver.specs.declared.call.Ending.{Ending}
 use Rattle.receiver.specs.declared.call.Ending.the-variants.{Dropped, Told}
@@ -40,20 +40,18 @@ use Rattle.states.specs.declared.state.Failure.{Failure}
 use Rattle.states.specs.declared.state.Failure.the-variants.{Io, Protocol}
 use Rattle.states.specs.declared.state.OperationalState.{OperationalState}
 use Rattle.states.specs.declared.state.OperationalState.the-variants.{Normal, Draining, Terminated}
-use Rattle.states.specs.declared.state.Violation.{Violation}
-use Rattle.states.specs.declared.state.Violation.the-variants.{InvalidChunkAnnouncement, ControlOverflow, UnknownHeader, InvalidChunkLength}
 use Rattle.stripring.specs.Block.{blockTypeNumber, bitNumber, layoutNumber, fillStateNumber, flatBlock}
 use Rattle.stripring.specs.Call.{noEnding, noCall, flatEnding, flatPhase, flatCall}
 use Rattle.stripring.specs.Counter.{boolNumber}
 use Rattle.stripring.specs.Diff.{flatDiff}
-use Rattle.stripring.specs.Failure.{flatFailure}
+use Rattle.stripring.specs.Failure.{noFailure, flatFailure}
 use Rattle.stripring.specs.List.{flatOperations, flatRange, flatRanges}
 use Rattle.stripring.specs.Modulus.{flatModulus, flatNumber}
 use Rattle.stripring.specs.Operation.{flatOperation}
 use Rattle.stripring.specs.Outcome.{noOutcome, flatCame, flatOutcome}
 use Rattle.stripring.specs.Receiver.{noReceiver, flatReceiver}
 use Rattle.stripring.specs.Scheduler.{flatScheduler}
-use Rattle.stripring.specs.Stands.{BesideStands, CameStands, BoolStands, TypeStands, BlockTypeStands, BitStands, LayoutStands, FillStands, ViolationStands, ModulusStands, NumberStands, DiffStands, SchedulerStands, OperationStands, BlockStands, RangeStands, NoOutcome, NoEnding, NoReceiver, NoCall, OperationsStands, RangesStands, FailureStands, StateStands, ReceiverStands, OutcomeStands, EndingStands, PhaseStands, CallStands}
+use Rattle.stripring.specs.Stands.{BesideStands, CameStands, BoolStands, TypeStands, BlockTypeStands, BitStands, LayoutStands, FillStands, ModulusStands, NumberStands, DiffStands, SchedulerStands, OperationStands, BlockStands, RangeStands, NoOutcome, NoEnding, NoReceiver, NoCall, OperationsStands, RangesStands, FailureStands, StateStands, ReceiverStands, OutcomeStands, EndingStands, PhaseStands, CallStands, NoFailure}
 use Rattle.stripring.specs.State.{flatState}
 
 -- ---- the header's numbers
@@ -81,12 +79,6 @@ pub fill-stands : (f : BufferFillState) → FillStands (fillStateNumber f) f
 fill-stands Empty = refl
 fill-stands Partial = refl
 fill-stands Full = refl
-
-violation-stands : (v : Violation) → ViolationStands (violationNumber v) v
-violation-stands InvalidChunkAnnouncement = refl
-violation-stands ControlOverflow = refl
-violation-stands UnknownHeader = refl
-violation-stands InvalidChunkLength = refl
 
 -- ---- moduli and differences
 pub modulus-stands : (m : OptionModulus) → ModulusStands (flatModulus m) m
@@ -125,12 +117,15 @@ ranges-stand (outside.One x) = (refl, range-stands x, (refl, refl, (refl, refl, 
 ranges-stand (outside.Two x y) = (refl, range-stands x, range-stands y)
 
 -- ---- the receiver, and a call of it
+pub failure-zeros : NoFailure noFailure
+failure-zeros = (refl, refl)
+
 pub failure-stands : (f : Failure) → FailureStands (flatFailure f) f
 failure-stands (Io e) = (refl, refl)
-failure-stands (Protocol v) = (refl, violation-stands v)
+failure-stands (Protocol v) = (refl, numbered v)
 
 pub state-stands : (s : OperationalState) → StateStands (flatState s) s
-state-stands Normal = (refl, (refl, refl))
+state-stands Normal = (refl, failure-zeros)
 state-stands (Draining f) = (refl, failure-stands f)
 state-stands (Terminated f) = (refl, failure-stands f)
 
@@ -138,14 +133,14 @@ pub receiver-stands : (q : ReceiverState) → ReceiverStands (flatReceiver q) q
 receiver-stands q = (scheduler-stands (q .scheduler), state-stands (q .state), refl, bool-stands (q .«notification_socket_shutdown_issued»))
 
 pub outcome-zeros : NoOutcome noOutcome
-outcome-zeros = (refl, refl, refl, (refl, refl))
+outcome-zeros = (refl, refl, refl, failure-zeros)
 
 pub outcome-stands : (o : Outcome) → OutcomeStands (flatOutcome o) o
 outcome-stands o = (came-stands (o .came), came-beside (o .came))
   where
     came-stands : (x : Came) → CameStands (flatCame x (o .beside)) x
-    came-stands (came.Read n) = (refl, refl, (refl, refl))
-    came-stands came.Done = (refl, refl, (refl, refl))
+    came-stands (came.Read n) = (refl, refl, failure-zeros)
+    came-stands came.Done = (refl, refl, failure-zeros)
     came-stands (came.Failed f) = (refl, refl, failure-stands f)
 
     came-beside : (x : Came) → BesideStands (flatCame x (o .beside)) (o .beside)
@@ -170,7 +165,7 @@ pub call-stands : (c : Call) → CallStands (flatCall c) c
 call-stands c = (receiver-stands (c .receiver), scheduler-stands (c .source), phase-stands (c .phase))
 
 pub receiver-zeros : NoReceiver noReceiver
-receiver-zeros = ((refl, refl, refl), refl, (refl, refl), refl, refl)
+receiver-zeros = ((refl, refl, refl), refl, failure-zeros, refl, refl)
 
 pub call-zeros : NoCall noCall
 call-zeros = (receiver-zeros, (refl, refl, refl), refl, refl, refl, refl, ending-zeros, outcome-zeros)

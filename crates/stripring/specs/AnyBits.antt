@@ -10,18 +10,17 @@ use Rattle.sched.specs.declared.operation.OperationType.the-variants.{Write}
 use Rattle.receiver.specs.declared.call.Ending.the-variants.{Told}
 use Rattle.receiver.specs.declared.call.Phase.the-variants.{Finished}
 use Rattle.receiver.specs.declared.receiver.Came.the-variants.{Failed}
-use Rattle.states.specs.declared.state.Failure.the-variants.{Protocol}
 use Rattle.states.specs.declared.state.OperationalState.the-variants.{Terminated}
 use Rattle.states.specs.declared.state.PotentialFailure.the-variants.{Some}
-use Rattle.states.specs.declared.state.Violation.the-variants.{InvalidChunkLength}
 use Rattle.stripring.specs.Block.{blockTypeAt, bitAt}
 use Rattle.stripring.specs.Call.{endingAt, phaseAt}
 use Rattle.stripring.specs.Diff.{diffAt}
-use Rattle.stripring.specs.Failure.{violationAt, failureAt, potentialFailureAt}
+use Rattle.stripring.specs.Failure.{failureAt, potentialFailureAt}
 use Rattle.stripring.specs.List.{operationsAt}
 use Rattle.stripring.specs.Operation.{typeAt, operationAt}
 use Rattle.stripring.specs.Outcome.{outcomeAt}
 use Rattle.stripring.specs.Receiver.{issuedAt}
+use Rattle.stripring.specs.Stands.{FailureRead}
 use Rattle.stripring.specs.State.{stateAt}
 use Rattle.stripring.specs.declared.flat.Diff.{Diff}
 use Rattle.stripring.specs.declared.flat.Ending.{Ending}
@@ -41,12 +40,11 @@ pub record AnyBits : Type 0 where
   -- and where it is 0 `new` is not looked at
   pub same : (d : Diff) → d .different ≡ 0 → diffAt d ≡ Same (d .old)
   pub potentials : (n : ℕ) (f : Failure) → 0 < n → potentialFailureAt n f ≡ Some (failureAt f)
-  pub failures : (f : Failure) → 0 < f .kind → failureAt f ≡ Protocol (violationAt (f .value))
   pub endings : (e : Ending) → 0 < e .told → endingAt e ≡ Told (outcomeAt (e .outcome))
   -- any number past the last is the last
   pub lists : (ops : Operations) → 1 < ops .count → operationsAt ops ≡ Two (operationAt (ops .first)) (operationAt (ops .second))
-  pub violations : (n : ℕ) → 3 < n → violationAt n ≡ InvalidChunkLength
-  pub no-violation : violationAt 0 ≡ InvalidChunkLength
   pub states : (s : State) → 1 < s .kind → stateAt s ≡ Terminated (failureAt (s .failure))
   pub outcomes : (o : Outcome) → 1 < o .kind → outcomeAt o .came ≡ Failed (failureAt (o .failure))
   pub phases : (p : Phase) → 2 < p .kind → phaseAt p ≡ Finished (outcomeAt (p .outcome))
+  -- a failure has any kind and any number
+  pub failures : (f : Failure) → FailureRead f (failureAt f)

@@ -2,7 +2,7 @@
 use Prim.Native.Nat.{ℕ}
 use mathlib.Core.Bool.{cond}
 use lib.Dec.{eqb}
-use Rattle.states.specs.State.{violationNumber}
+use Rattle.states.specs.State.{violationNumber, violationAt}
 use Rattle.states.specs.declared.state.Failure as receiver-failure
 use Rattle.states.specs.declared.state.Failure.the-variants.{Io, Protocol}
 use Rattle.states.specs.declared.state.FailureAnswer as receiver-answer
@@ -11,19 +11,10 @@ use Rattle.states.specs.declared.state.PotentialFailure.{PotentialFailure}
 use Rattle.states.specs.declared.state.PotentialFailure.the-variants.{Some, None}
 use Rattle.states.specs.declared.state.PotentialFailureAnswer as receiver-potential
 use Rattle.states.specs.declared.state.PotentialFailureAnswer.the-variants as potential
-use Rattle.states.specs.declared.state.Violation.{Violation}
-use Rattle.states.specs.declared.state.Violation.the-variants.{InvalidChunkAnnouncement, ControlOverflow, UnknownHeader, InvalidChunkLength}
 use Rattle.stripring.specs.declared.flat.Failure.{Failure}
 use Rattle.stripring.specs.declared.flat.FailureAnswer.{FailureAnswer}
 use Rattle.stripring.specs.declared.flat.PotentialFailureAnswer.{PotentialFailureAnswer}
 use Rattle.stripring.specs.Flat.{noRefusal, flatReceiverRefusal}
-
--- any number but 1, 2 and 3 is the fourth
-unfoldable pub violationAt : ℕ → Violation
-violationAt n =
-    cond (eqb n 1) InvalidChunkAnnouncement
-    (cond (eqb n 2) ControlOverflow
-    (cond (eqb n 3) UnknownHeader InvalidChunkLength))
 
 -- kind 0 is an errno, any other a violation
 unfoldable pub failureAt : Failure → receiver-failure.Failure

@@ -4,6 +4,7 @@
 use Prim.Native.Nat.{ℕ}
 use mathlib.Core.Path.{_≡_}
 use mathlib.Core.Bool.{Bool, true, false}
+use mathlib.Core.Logic.{_≢_}
 use Rattle.modular.specs.declared.OptionModulus.{OptionModulus}
 use Rattle.modular.specs.declared.OptionModulus.the-variants as modulus
 use Rattle.modular.specs.declared.OptionNumber.{OptionNumber}
@@ -46,8 +47,7 @@ use Rattle.states.specs.declared.state.Failure as receiver-failure
 use Rattle.states.specs.declared.state.Failure.the-variants.{Io, Protocol}
 use Rattle.states.specs.declared.state.OperationalState.{OperationalState}
 use Rattle.states.specs.declared.state.OperationalState.the-variants.{Normal, Draining, Terminated}
-use Rattle.states.specs.declared.state.Violation.{Violation}
-use Rattle.states.specs.declared.state.Violation.the-variants.{InvalidChunkAnnouncement, ControlOverflow, UnknownHeader, InvalidChunkLength}
+use Rattle.states.specs.Promise.{Numbered, ReadBack}
 use Rattle.stripring.specs.declared.flat.Block.{Block}
 use Rattle.stripring.specs.declared.flat.Call.{Call}
 use Rattle.stripring.specs.declared.flat.Diff.{Diff}
@@ -93,12 +93,6 @@ abbrev pub FillStands : ℕ → BufferFillState → Type 0
 FillStands n Empty = n ≡ 0
 FillStands n Partial = n ≡ 1
 FillStands n Full = n ≡ 2
-
-abbrev pub ViolationStands : ℕ → Violation → Type 0
-ViolationStands n InvalidChunkAnnouncement = n ≡ 1
-ViolationStands n ControlOverflow = n ≡ 2
-ViolationStands n UnknownHeader = n ≡ 3
-ViolationStands n InvalidChunkLength = n ≡ 4
 
 -- ---- moduli and differences
 abbrev pub ModulusStands : OptionU64 → OptionModulus → Type 0
@@ -185,7 +179,12 @@ ReadCounterStands f c = f .counter ≡ c .0 .0
 -- ---- the receiver, and a call of it. What a kind does not use is 0
 abbrev pub FailureStands : Failure → receiver-failure.Failure → Type 0
 FailureStands f (Io e) = (f .kind ≡ 0) × (f .value ≡ e)
-FailureStands f (Protocol v) = (f .kind ≡ 1) × ViolationStands (f .value) v
+FailureStands f (Protocol v) = (f .kind ≡ 1) × Numbered v (f .value)
+
+-- and of a host's, which may have any kind and any number
+abbrev pub FailureRead : Failure → receiver-failure.Failure → Type 0
+FailureRead f (Io e) = (f .kind ≡ 0) × (f .value ≡ e)
+FailureRead f (Protocol v) = (f .kind ≢ 0) × ReadBack (f .value) v
 
 abbrev pub StateStands : State → OperationalState → Type 0
 StateStands f Normal = (f .kind ≡ 0) × NoFailure (f .failure)

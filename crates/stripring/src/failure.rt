@@ -1,7 +1,7 @@
 // Why a stream fails. Every call tests the failures that it is given.
 ghost use mathlib.Core.Path.{_≡_};
 ghost use Rattle.states.specs.State.{normalizeFailureOf, towardsErrorOf};
-ghost use Rattle.stripring.specs.Failure.{violationAt, failureAt, potentialFailureAt, noFailure, flatFailure, flatFailureAnswer, flatPotentialFailure};
+ghost use Rattle.stripring.specs.Failure.{failureAt, potentialFailureAt, noFailure, flatFailure, flatFailureAnswer, flatPotentialFailure};
 use crate::flat::Failure;
 use crate::flat::FailureAnswer;
 use crate::flat::PotentialFailureAnswer;
@@ -10,28 +10,13 @@ use crate::flat::no_refusal;
 use states::PotentialFailure;
 use states::Violation;
 
-fn violation(number: u64) -> Violation
-    ensures { λ r. ⌜ r ≡ violationAt number ⌝ }
-{
-    if number == 1 {
-        return Violation::InvalidChunkAnnouncement;
-    }
-    if number == 2 {
-        return Violation::ControlOverflow;
-    }
-    if number == 3 {
-        return Violation::UnknownHeader;
-    }
-    Violation::InvalidChunkLength
-}
-
 pub(crate) fn failure(f: Failure) -> states::Failure
     ensures { λ r. ⌜ r ≡ failureAt f ⌝ }
 {
     if f.kind == 0 {
         return states::Failure::Io(f.value);
     }
-    states::Failure::Protocol(violation(f.value))
+    states::Failure::Protocol(Violation::of_number(f.value))
 }
 
 pub(crate) fn potential_failure(some: u64, f: Failure) -> PotentialFailure

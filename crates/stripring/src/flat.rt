@@ -88,8 +88,7 @@ pub struct ReadCounter {
     pub counter: u64,
 }
 
-// Kind 0 is an errno, any other a violation (1 in answers): 1 for `InvalidChunkAnnouncement`, 2 for `ControlOverflow`, 3 for
-// `UnknownHeader` and 4 for `InvalidChunkLength`; of a host's any other number is 4.
+// Kind 0 is an errno, any other (1 in answers) a violation by `Violation::number`, read back by `Violation::of_number`.
 #[repr(C)]
 pub struct Failure {
     pub kind: u64,

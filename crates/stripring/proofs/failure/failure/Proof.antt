@@ -11,7 +11,7 @@ returns c = rw (eq-eqb _ _ (c .if1 .taken))
 
 returns-2 : tie.Need-returns-2
 unfolding failureAt
-returns-2 c = rw (ne-eqb _ _ (c .before .if1 .left), c .violation .ensures)
+returns-2 c = rw (ne-eqb _ _ (c .before .if1 .left), c .of-number .ensures)
 
 pub failure-spec : {M : Type 1} → statement M
 failure-spec = tie.close (tie.spec returns (search needs) returns-2)

@@ -9,9 +9,9 @@ use native.Mathlib.Omega.{arith}
 use borrow.Author.Tests.{eq-eqb, ne-eqb}
 use lib.ListN.{length, take, drop, length-take, length-drop, drop-of-length-le}
 use lib.Seq.{length-take-le, take-length, take-at, drop-append-add, drop-drop, take-add}
-use Rattle.sched.specs.declared.operation.OperationType.{OperationType}
-use Rattle.sched.specs.declared.operation.OperationType.the-variants.{Read, Write}
-use Rattle.sched.specs.declared.refusal.Refusal as sched
+use Rattle.operations.specs.declared.operation.OperationType.{OperationType}
+use Rattle.operations.specs.declared.operation.OperationType.the-variants.{Read, Write}
+use Rattle.operations.specs.declared.refusal.Refusal as sched
 use Rattle.sched.specs.declared.register.Move.{Move}
 use Rattle.sched.specs.declared.register.MoveAnswer.the-variants as moves
 use Rattle.sched.specs.declared.scheduler.RingBufferScheduler.{RingBufferScheduler}

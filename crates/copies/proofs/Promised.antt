@@ -13,8 +13,8 @@ use contract.Lifetimes.{Lfts}
 use denote.Triple.Clauses.{Lasts, atExit}
 use borrow.Author.Tests.{eqb-true, eqb-false}
 use borrow.Fn.Kinds.{PK, RK, Out, Dens, resT, endedOf}
-use Rattle.sched.specs.declared.operation.OperationType.the-variants.{Read, Write}
-use Rattle.sched.specs.declared.refusal.Refusal as sched
+use Rattle.operations.specs.declared.operation.OperationType.the-variants.{Read, Write}
+use Rattle.operations.specs.declared.refusal.Refusal as sched
 use Rattle.sched.specs.declared.scheduler.Checked.{Checked}
 use Rattle.sched.specs.declared.scheduler.Checked.the-variants as checked
 use Rattle.sched.specs.declared.scheduler.RingBufferScheduler.{RingBufferScheduler}
@@ -22,9 +22,10 @@ use Rattle.sched.specs.Scheduler.{IsSound, soundOf, greatestIn, offsetIn}
 use Rattle.sched.proofs.Laws.{sound-both, sound-is, greatest-most}
 use Rattle.modular.proofs.Saying.{Keeps}
 use Rattle.sched.specs.Given.{Given, taken}
-use Rattle.sched.proofs.Given.{record-exactly, number-some}
+use Rattle.operations.proofs.Given.{number-some}
+use Rattle.sched.proofs.Given.{record-exactly}
 use Rattle.sched.proofs.Promises.{registers}
-use Rattle.sched.specs.Refusal.{numberOf, valuesOf}
+use Rattle.operations.specs.Refusal.{numberOf, valuesOf}
 use Rattle.copies.specs.declared.Copied.{Copied}
 use Rattle.copies.specs.declared.Copied.the-variants as copied
 use Rattle.copies.specs.declared.Ready.{Ready}

@@ -3,9 +3,9 @@ use Prim.Native.Nat.{_<_}
 use mathlib.Core.Path.{_≡_, refl}
 use native.Mathlib.Omega.{arith}
 use Rattle.modular.proofs.Saying.{Keeps}
-use Rattle.sched.specs.Refusal.{packed, unpacked}
-use Rattle.sched.proofs.Given as given
-use Rattle.sched.proofs.PromisedValues as sched
+use Rattle.operations.specs.Refusal.{packed, unpacked}
+use Rattle.operations.proofs.Given as given
+use Rattle.operations.proofs.PromisedValues as operations
 use Rattle.copies.specs.declared.refusal.Refusal.{Refusal}
 use Rattle.copies.specs.declared.refusal.Refusal.the-variants.{Scheduler, RingMemory}
 use Rattle.copies.specs.Refusal.{numberOf, valuesOf}
@@ -20,7 +20,7 @@ number-some (Scheduler e) = given.number-some e
 number-some RingMemory = omega arith
 
 pub values-back : (e : Refusal) → unpacked (packed (valuesOf e)) ≡ valuesOf e
-values-back (Scheduler e) = sched.values-back e
+values-back (Scheduler e) = operations.values-back e
 values-back RingMemory = refl
 
 pub number-promised : Keeps 0 Refusal-number-kinds.ps Refusal-number-kinds.r Refusal-number.Learnt (λ κs a z. 0 < z)

@@ -5,7 +5,7 @@ use mathlib.Core.Path.{_≡_, ap}
 use mathlib.Core.List.{List}
 use Rattle.modular.proofs.Saying.{Says, Leaves}
 use Rattle.sched.specs.declared.scheduler.RingBufferScheduler.{RingBufferScheduler}
-use Rattle.sched.specs.Refusal.{packed}
+use Rattle.operations.specs.Refusal.{packed}
 use Rattle.copies.specs.declared.lent.Told.{Told}
 use Rattle.copies.specs.Refusal.{numberOf, valuesOf}
 use Rattle.copies.specs.Copies.{Left, readyOf, writeOf, readOf}

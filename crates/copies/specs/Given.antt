@@ -7,7 +7,7 @@ use mathlib.Core.List.{List, []}
 use Rattle.sched.specs.declared.scheduler.Checked.{Checked}
 use Rattle.sched.specs.declared.scheduler.Checked.the-variants as checked
 use Rattle.sched.specs.declared.scheduler.RingBufferScheduler.{RingBufferScheduler}
-use Rattle.sched.specs.Refusal as sched
+use Rattle.operations.specs.Refusal as sched
 use Rattle.sched.specs.Scheduler.{IsSound}
 use Rattle.sched.specs.Given.{Given}
 use Rattle.copies.specs.declared.Copied.{Copied}

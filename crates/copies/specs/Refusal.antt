@@ -1,7 +1,7 @@
 -- The paper's number of a refusal, and the values that it carries.
 use Prim.Native.Nat.{ℕ}
 use mathlib.Core.List.{List, []}
-use Rattle.sched.specs.Refusal as sched
+use Rattle.operations.specs.Refusal as sched
 use Rattle.copies.specs.declared.refusal.Refusal.{Refusal}
 use Rattle.copies.specs.declared.refusal.Refusal.the-variants.{Scheduler, RingMemory}
 

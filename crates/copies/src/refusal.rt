@@ -1,6 +1,6 @@
 // Why a copy refuses, by number and values.
 ghost use mathlib.Core.Path.{_≡_};
-ghost use Rattle.sched.specs.Refusal.{packed};
+ghost use Rattle.operations.specs.Refusal.{packed};
 ghost use Rattle.copies.specs.Refusal.{numberOf, valuesOf};
 use sched::Values;
 

@@ -9,7 +9,7 @@ use lib.Dec.{eqb}
 use lib.ListN.{length, take, drop}
 use lib.Seq.{take-at}
 use borrow.Author.Tests.{eqb-true, eqb-false}
-use Rattle.sched.specs.declared.operation.OperationType.the-variants.{Read}
+use Rattle.operations.specs.declared.operation.OperationType.the-variants.{Read}
 use Rattle.sched.specs.declared.scheduler.RingBufferScheduler.{RingBufferScheduler}
 use Rattle.sched.specs.Scheduler.{IsSound, dataIn, offsetIn}
 use Rattle.copies.proofs.Promised.{got-cells}

@@ -6,7 +6,7 @@ use mathlib.Core.Logic.{_≢_}
 use mathlib.Core.List.{List, [], _∷_, _++_}
 use lib.ListN.{length, take}
 use Rattle.modular.proofs.Saying.{Allows}
-use Rattle.sched.specs.declared.operation.OperationType.the-variants.{Read}
+use Rattle.operations.specs.declared.operation.OperationType.the-variants.{Read}
 use Rattle.sched.specs.declared.scheduler.RingBufferScheduler.{RingBufferScheduler}
 use Rattle.sched.specs.Scheduler.{dataIn, offsetIn}
 use Rattle.copies.specs.Promises.{OnlyFront, CellsOf}

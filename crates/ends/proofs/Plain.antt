@@ -5,7 +5,7 @@ use mathlib.Core.Logic.{inr}
 use native.Mathlib.Nat.{add-zero, mod-eq-of-lt}
 use native.Mathlib.Decide.{decLt}
 use native.Mathlib.Omega.{arith}
-use Rattle.sched.specs.declared.counter.Counter.{Counter}
+use Rattle.operations.specs.declared.counter.Counter.{Counter}
 use Rattle.sched.specs.declared.scheduler.RingBufferScheduler.{RingBufferScheduler}
 use Rattle.sched.specs.Scheduler.{IsSound}
 use Rattle.sched.proofs.Laws.{sound, sound-is}

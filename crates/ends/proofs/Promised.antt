@@ -8,19 +8,19 @@ use native.Mathlib.Omega.{arith}
 use lib.Dec.{ltb}
 use lib.ListN.{length}
 use borrow.Author.Tests.{ltb-true, ltb-false}
-use Rattle.sched.specs.declared.operation.OperationType.{OperationType}
-use Rattle.sched.specs.declared.operation.OperationType.the-variants.{Read, Write}
+use Rattle.operations.specs.declared.operation.OperationType.{OperationType}
+use Rattle.operations.specs.declared.operation.OperationType.the-variants.{Read, Write}
 use Rattle.sched.specs.declared.scheduler.Checked.{Checked}
 use Rattle.sched.specs.declared.scheduler.Checked.the-variants as checked
 use Rattle.sched.specs.declared.scheduler.RingBufferScheduler.{RingBufferScheduler}
-use Rattle.sched.specs.declared.counter.AmountAnswer.{AmountAnswer}
-use Rattle.sched.specs.declared.counter.AmountAnswer.the-variants as amount
-use Rattle.sched.specs.declared.counter.CounterAnswer.{CounterAnswer}
-use Rattle.sched.specs.declared.counter.CounterAnswer.the-variants as counter
+use Rattle.operations.specs.declared.counter.AmountAnswer.{AmountAnswer}
+use Rattle.operations.specs.declared.counter.AmountAnswer.the-variants as amount
+use Rattle.operations.specs.declared.counter.CounterAnswer.{CounterAnswer}
+use Rattle.operations.specs.declared.counter.CounterAnswer.the-variants as counter
 use Rattle.sched.specs.Scheduler.{schedulerOf, IsSound, counterIn, greatestIn, tested, greatestOf}
 use Rattle.modular.proofs.Saying.{Keeps}
 use Rattle.sched.specs.Given.{Given}
-use Rattle.sched.proofs.Given.{number-some}
+use Rattle.operations.proofs.Given.{number-some}
 use Rattle.sched.specs.Given as given
 use Rattle.copies.specs.declared.Copied.{Copied}
 use Rattle.copies.specs.declared.Copied.the-variants as copied

@@ -3,7 +3,7 @@ use Prim.Native.Nat.{_<_}
 use mathlib.Core.Path.{_≡_, refl}
 use native.Mathlib.Omega.{arith}
 use Rattle.modular.proofs.Saying.{Keeps}
-use Rattle.sched.specs.Refusal.{packed, unpacked}
+use Rattle.operations.specs.Refusal.{packed, unpacked}
 use Rattle.copies.proofs.PromisedValues as copies
 use Rattle.ends.specs.declared.refusal.Refusal.{Refusal}
 use Rattle.ends.specs.declared.refusal.Refusal.the-variants.{Copy, RanBack}

@@ -4,7 +4,7 @@ use Prim.Native.Nat.{ℕ}
 use mathlib.Core.Path.{_≡_, ap}
 use mathlib.Core.List.{List}
 use Rattle.modular.proofs.Saying.{Says, Leaves}
-use Rattle.sched.specs.Refusal.{packed}
+use Rattle.operations.specs.Refusal.{packed}
 use Rattle.sched.specs.Scheduler.{schedulerOf}
 use Rattle.ends.specs.declared.lent.Told.{Told}
 use Rattle.ends.specs.declared.reading_end.ReadCounter.{ReadCounter}

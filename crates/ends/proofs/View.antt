@@ -8,8 +8,8 @@ use native.Mathlib.Omega.{arith}
 use borrow.Author.Tests.{eq-eqb, le-ltb}
 use lib.ListN.{length, take, drop}
 use Rattle.modular.proofs.Laws.{sub-unique, add-is}
-use Rattle.sched.specs.declared.counter.AmountAnswer.the-variants as amount
-use Rattle.sched.specs.declared.operation.OperationType.the-variants.{Read, Write}
+use Rattle.operations.specs.declared.counter.AmountAnswer.the-variants as amount
+use Rattle.operations.specs.declared.operation.OperationType.the-variants.{Read, Write}
 use Rattle.sched.specs.declared.scheduler.RingBufferScheduler.{RingBufferScheduler}
 use Rattle.sched.specs.Scheduler.{schedulerOf, IsSound, soundOf, dataIn, spaceIn, offsetIn, advancedIn, greatestOf}
 use Rattle.sched.proofs.Laws.{sound-is}

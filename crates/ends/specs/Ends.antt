@@ -3,11 +3,11 @@ use Prim.Native.Nat.{ℕ}
 use mathlib.Core.Bool.{cond}
 use mathlib.Core.List.{List}
 use lib.Dec.{ltb}
-use Rattle.sched.specs.declared.counter.AmountAnswer.{AmountAnswer}
-use Rattle.sched.specs.declared.counter.AmountAnswer.the-variants as amount
-use Rattle.sched.specs.declared.counter.CounterAnswer.{CounterAnswer}
-use Rattle.sched.specs.declared.counter.CounterAnswer.the-variants as counter
-use Rattle.sched.specs.declared.operation.OperationType.the-variants.{Read, Write}
+use Rattle.operations.specs.declared.counter.AmountAnswer.{AmountAnswer}
+use Rattle.operations.specs.declared.counter.AmountAnswer.the-variants as amount
+use Rattle.operations.specs.declared.counter.CounterAnswer.{CounterAnswer}
+use Rattle.operations.specs.declared.counter.CounterAnswer.the-variants as counter
+use Rattle.operations.specs.declared.operation.OperationType.the-variants.{Read, Write}
 use Rattle.sched.specs.declared.scheduler.Checked.{Checked}
 use Rattle.sched.specs.declared.scheduler.Checked.the-variants as checked
 use Rattle.sched.specs.declared.scheduler.RingBufferScheduler.{RingBufferScheduler}

@@ -1,6 +1,6 @@
 // Why an end refuses, with its number and values, and the test of a taken counter.
 ghost use mathlib.Core.Path.{_≡_};
-ghost use Rattle.sched.specs.Refusal.{packed};
+ghost use Rattle.operations.specs.Refusal.{packed};
 ghost use Rattle.ends.specs.Refusal.{numberOf, valuesOf};
 ghost use Rattle.ends.specs.Ends.{takenFrom};
 use sched::AmountAnswer;

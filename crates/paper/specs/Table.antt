@@ -8,20 +8,20 @@ use borrow.Fn.Kinds.{PK, RK, Out, Dens, resT, endedOf}
 use Rattle.modular.specs.Modulus.{doubleAt, fullRange}
 use Rattle.modular.specs.declared.Modulus.{Modulus}
 use Rattle.modular.specs.declared.OptionModulus.the-variants as modulus
-use Rattle.sched.specs.Operation.{operationOf}
-use Rattle.sched.specs.Refusal.{numberOf}
+use Rattle.operations.specs.Operation.{operationOf}
+use Rattle.operations.specs.Refusal.{numberOf}
 use Rattle.sched.specs.Scheduler.{schedulerOf}
 use Rattle.sched.specs.declared.block.BufferFillState.the-variants.{Full}
 use Rattle.sched.specs.declared.block.BufferLayout.the-variants.{DataFreeData}
 use Rattle.sched.specs.declared.block.FillStateAnswer.the-variants as fill
 use Rattle.sched.specs.declared.block.LayoutAnswer.the-variants as layout
-use Rattle.sched.specs.declared.counter.AmountAnswer.the-variants as amount
-use Rattle.sched.specs.declared.counter.Counter.{Counter}
-use Rattle.sched.specs.declared.list.OperationsAnswer.the-variants as operations
-use Rattle.sched.specs.declared.list.ScheduledOperations.the-variants.{Two}
-use Rattle.sched.specs.declared.operation.OperationType.the-variants.{Read, Write}
-use Rattle.sched.specs.declared.operation.ScheduledOperation.{ScheduledOperation}
-use Rattle.sched.specs.declared.refusal.Refusal.the-variants.{OperationTooLarge}
+use Rattle.operations.specs.declared.counter.AmountAnswer.the-variants as amount
+use Rattle.operations.specs.declared.counter.Counter.{Counter}
+use Rattle.operations.specs.declared.list.OperationsAnswer.the-variants as operations
+use Rattle.operations.specs.declared.list.ScheduledOperations.the-variants.{Two}
+use Rattle.operations.specs.declared.operation.OperationType.the-variants.{Read, Write}
+use Rattle.operations.specs.declared.operation.ScheduledOperation.{ScheduledOperation}
+use Rattle.operations.specs.declared.refusal.Refusal.the-variants.{OperationTooLarge}
 use Rattle.sched.specs.declared.scheduler.Checked.{Checked}
 use Rattle.sched.specs.declared.scheduler.Checked.the-variants as checked
 use Rattle.sched.specs.declared.register.Registered.the-variants as registered

@@ -12,8 +12,8 @@ use Rattle.modular.proofs.Laws.{lt-or-le}
 use Rattle.lines.specs.Decimal.{decimal, Front, some, none, numberFront}
 use Rattle.lines.proofs.DecimalForm.{Reads, front-decimal, never, front-reads}
 use Rattle.lines.proofs.DecimalLaws.{decimal-short}
-use Rattle.sched.specs.declared.operation.OperationType.{OperationType}
-use Rattle.sched.specs.declared.operation.OperationType.the-variants.{Read, Write}
+use Rattle.operations.specs.declared.operation.OperationType.{OperationType}
+use Rattle.operations.specs.declared.operation.OperationType.the-variants.{Read, Write}
 use Rattle.planline.specs.declared.line.Asked.{Asked}
 use Rattle.planline.specs.declared.line.Kind.{Kind}
 use Rattle.planline.specs.declared.line.Kind.the-variants as kind

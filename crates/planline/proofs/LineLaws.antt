@@ -9,7 +9,7 @@ use borrow.Author.Tests.{eq-eqb, ne-eqb, lt-ltb, le-ltb}
 use Rattle.lines.specs.declared.decimal.Number.{Number}
 use Rattle.lines.specs.Decimal.{Front, some, none, frontIn}
 use Rattle.lines.proofs.DecimalLaws.{at-cons}
-use Rattle.sched.specs.declared.operation.OperationType.{OperationType}
+use Rattle.operations.specs.declared.operation.OperationType.{OperationType}
 use Rattle.planline.specs.declared.line.Kind.{Kind}
 use Rattle.planline.specs.declared.line.Kind.the-variants as kind
 use Rattle.planline.specs.declared.line.Parsed.the-variants as parsed

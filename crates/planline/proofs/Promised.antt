@@ -17,11 +17,11 @@ use Rattle.lines.proofs.LinesLaws.{lines-are}
 use Rattle.lines.proofs.Runs.{run-text}
 use Rattle.lines.proofs.TextLaws.{appended}
 use Rattle.modular.proofs.Saying.{Allows, Keeps}
-use Rattle.sched.specs.declared.list.OperationsAnswer.{OperationsAnswer}
-use Rattle.sched.specs.declared.list.OperationsAnswer.the-variants as operations
-use Rattle.sched.specs.declared.list.ScheduledOperations.{ScheduledOperations}
-use Rattle.sched.specs.declared.refusal.Refusal.{Refusal}
-use Rattle.sched.specs.Refusal.{numberOf}
+use Rattle.operations.specs.declared.list.OperationsAnswer.{OperationsAnswer}
+use Rattle.operations.specs.declared.list.OperationsAnswer.the-variants as operations
+use Rattle.operations.specs.declared.list.ScheduledOperations.{ScheduledOperations}
+use Rattle.operations.specs.declared.refusal.Refusal.{Refusal}
+use Rattle.operations.specs.Refusal.{numberOf}
 use Rattle.sched.specs.Scheduler.{schedulerOf}
 use Rattle.sched.proofs.Says.{schedule-contiguous-operations-says}
 use Rattle.sched.proofs.scheduler.RingBufferScheduler.schedule_contiguous_operations.Kinds as schedule-kinds

@@ -9,9 +9,9 @@ use native.Mathlib.Omega.{arith}
 use Rattle.lines.specs.Decimal.{decimal}
 use Rattle.lines.proofs.DecimalLaws.{decimal-short}
 use Rattle.modular.proofs.Laws.{lt-or-le}
-use Rattle.sched.specs.declared.list.ScheduledOperations.{ScheduledOperations}
-use Rattle.sched.specs.declared.list.ScheduledOperations.the-variants as list
-use Rattle.sched.specs.declared.operation.ScheduledOperation.{ScheduledOperation}
+use Rattle.operations.specs.declared.list.ScheduledOperations.{ScheduledOperations}
+use Rattle.operations.specs.declared.list.ScheduledOperations.the-variants as list
+use Rattle.operations.specs.declared.operation.ScheduledOperation.{ScheduledOperation}
 use Rattle.planline.specs.declared.line.Plan.{Plan}
 use Rattle.planline.specs.declared.line.Plan.the-variants as plan
 use Rattle.planline.specs.Cut.{mostHeld, lineText}

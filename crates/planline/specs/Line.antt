@@ -4,11 +4,11 @@ use mathlib.Core.Bool.{cond}
 use mathlib.Core.List.{List, [], _∷_, _++_}
 use lib.Dec.{eqb, ltb}
 use lib.ListN.{length, drop}
-use Rattle.sched.specs.declared.list.OperationsAnswer.{OperationsAnswer}
-use Rattle.sched.specs.declared.list.OperationsAnswer.the-variants as operations
-use Rattle.sched.specs.declared.operation.OperationType.{OperationType}
-use Rattle.sched.specs.declared.operation.OperationType.the-variants.{Read, Write}
-use Rattle.sched.specs.Refusal.{numberOf}
+use Rattle.operations.specs.declared.list.OperationsAnswer.{OperationsAnswer}
+use Rattle.operations.specs.declared.list.OperationsAnswer.the-variants as operations
+use Rattle.operations.specs.declared.operation.OperationType.{OperationType}
+use Rattle.operations.specs.declared.operation.OperationType.the-variants.{Read, Write}
+use Rattle.operations.specs.Refusal.{numberOf}
 use Rattle.sched.specs.Scheduler.{schedulerOf, scheduleOf}
 use Rattle.lines.specs.Decimal.{decimal, Front, some, none, numberFront}
 use Rattle.planline.specs.declared.line.Asked.{Asked}

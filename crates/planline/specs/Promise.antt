@@ -4,8 +4,8 @@ use mathlib.Core.Path.{_≡_}
 use mathlib.Core.List.{List, [], _∷_, _++_}
 use Rattle.lines.specs.Numeral.{Numeral}
 use Rattle.lines.specs.Promise.{Behind}
-use Rattle.sched.specs.declared.list.ScheduledOperations.the-variants as list
-use Rattle.sched.specs.declared.operation.ScheduledOperation.{ScheduledOperation}
+use Rattle.operations.specs.declared.list.ScheduledOperations.the-variants as list
+use Rattle.operations.specs.declared.operation.ScheduledOperation.{ScheduledOperation}
 use Rattle.planline.specs.declared.line.Asked.{Asked}
 use Rattle.planline.specs.declared.line.Plan.{Plan}
 use Rattle.planline.specs.declared.line.Plan.the-variants as plan

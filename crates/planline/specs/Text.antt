@@ -2,9 +2,9 @@
 use Prim.Native.Nat.{ℕ}
 use mathlib.Core.List.{List, [], _∷_, _++_}
 use Rattle.lines.specs.Decimal.{decimal}
-use Rattle.sched.specs.declared.list.ScheduledOperations.{ScheduledOperations}
-use Rattle.sched.specs.declared.list.ScheduledOperations.the-variants as list
-use Rattle.sched.specs.declared.operation.ScheduledOperation.{ScheduledOperation}
+use Rattle.operations.specs.declared.list.ScheduledOperations.{ScheduledOperations}
+use Rattle.operations.specs.declared.list.ScheduledOperations.the-variants as list
+use Rattle.operations.specs.declared.operation.ScheduledOperation.{ScheduledOperation}
 use Rattle.planline.specs.declared.line.Plan.{Plan}
 use Rattle.planline.specs.declared.line.Plan.the-variants as plan
 

@@ -27,8 +27,8 @@ use Rattle.receiver.proofs.StepLaws.{Settled, Ends, as-dropped, as-told
 use Prim.Native.Nat.{_%_, _*_}
 use Rattle.modular.proofs.Laws.{add-is}
 use Rattle.sched.proofs.RegisterLaws.{advanced-offset}
-use Rattle.sched.specs.declared.counter.Counter.{Counter}
-use Rattle.sched.specs.declared.operation.OperationType.the-variants.{Read}
+use Rattle.operations.specs.declared.counter.Counter.{Counter}
+use Rattle.operations.specs.declared.operation.OperationType.the-variants.{Read}
 use Rattle.sched.specs.Scheduler.{IsSound, offsetIn, advancedIn}
 
 -- ---- what a read copies: the scheduler that it copies by is the record's own if that holds data, and else a chunk's

@@ -9,8 +9,8 @@ use lib.ListN.{length}
 use borrow.Author.Tests.{lt-ltb, le-ltb}
 use Rattle.sched.proofs.Laws.{offset-lt}
 use Rattle.sched.proofs.RegisterLaws.{advanced-greatest, advanced-sound}
-use Rattle.sched.specs.declared.counter.Offset.{Offset}
-use Rattle.sched.specs.declared.operation.OperationType.the-variants.{Read, Write}
+use Rattle.operations.specs.declared.counter.Offset.{Offset}
+use Rattle.operations.specs.declared.operation.OperationType.the-variants.{Read, Write}
 use Rattle.sched.specs.declared.scheduler.RingBufferScheduler.{RingBufferScheduler}
 use Rattle.sched.specs.Scheduler.{IsSound, dataIn, spaceIn, offsetIn, advancedIn}
 use Rattle.sched.specs.Chunk.{bodyFits}

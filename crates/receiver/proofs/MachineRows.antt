@@ -6,7 +6,7 @@ use mathlib.Core.Bool.{false}
 use mathlib.Core.List.{[]}
 use lib.ListN.{replicate}
 use Rattle.modular.specs.Modulus.{subMod, addMod}
-use Rattle.sched.specs.declared.refusal.Refusal.the-variants.{DataAvailOutOfBounds}
+use Rattle.operations.specs.declared.refusal.Refusal.the-variants.{DataAvailOutOfBounds}
 use Rattle.sched.specs.declared.scheduler.RingBufferScheduler.{RingBufferScheduler}
 use Rattle.sched.specs.Scheduler.{schedulerOf, soundOf}
 use Rattle.copies.specs.declared.refusal.Refusal.the-variants.{Scheduler, RingMemory}

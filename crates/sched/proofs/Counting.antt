@@ -5,30 +5,31 @@ use mathlib.Core.Logic.{⊎-elim}
 use native.Mathlib.Nat.{mod-eq-of-lt, mod-lt, mod-mod}
 use native.Mathlib.Omega.{arith}
 use Rattle.modular.proofs.Laws.{sub-back, sub-unique, sub-of-sum, sub-to-sum, add-is, lt-or-le}
-use Rattle.sched.specs.declared.list.OperationsAnswer.{OperationsAnswer}
-use Rattle.sched.specs.declared.list.OperationsAnswer.the-variants as operations
-use Rattle.sched.specs.declared.list.ScheduledOperations.{ScheduledOperations}
-use Rattle.sched.specs.declared.list.ScheduledOperations.the-variants as list
-use Rattle.sched.specs.declared.operation.NextOperation.{NextOperation}
-use Rattle.sched.specs.declared.operation.NextOperation.the-variants as next
-use Rattle.sched.specs.declared.operation.OperationType.{OperationType}
-use Rattle.sched.specs.declared.operation.OperationType.the-variants.{Read, Write}
-use Rattle.sched.specs.declared.operation.ScheduledOperation.{ScheduledOperation}
-use Rattle.sched.specs.declared.refusal.Refusal.{Refusal}
-use Rattle.sched.specs.declared.refusal.Refusal.the-variants.{OperationTooLarge}
+use Rattle.operations.specs.declared.list.OperationsAnswer.{OperationsAnswer}
+use Rattle.operations.specs.declared.list.OperationsAnswer.the-variants as operations
+use Rattle.operations.specs.declared.list.ScheduledOperations.{ScheduledOperations}
+use Rattle.operations.specs.declared.list.ScheduledOperations.the-variants as list
+use Rattle.sched.specs.declared.schedule.NextOperation.{NextOperation}
+use Rattle.sched.specs.declared.schedule.NextOperation.the-variants as next
+use Rattle.operations.specs.declared.operation.OperationType.{OperationType}
+use Rattle.operations.specs.declared.operation.OperationType.the-variants.{Read, Write}
+use Rattle.operations.specs.declared.operation.ScheduledOperation.{ScheduledOperation}
+use Rattle.operations.specs.declared.refusal.Refusal.{Refusal}
+use Rattle.operations.specs.declared.refusal.Refusal.the-variants.{OperationTooLarge}
 use Rattle.sched.specs.declared.scheduler.Checked.{Checked}
 use Rattle.sched.specs.declared.scheduler.Checked.the-variants as checked
 use Rattle.sched.specs.declared.register.Registered.{Registered}
 use Rattle.sched.specs.declared.register.Registered.the-variants as registered
 use Rattle.sched.specs.declared.scheduler.RingBufferScheduler.{RingBufferScheduler}
-use Rattle.sched.specs.List.{soundListOf}
-use Rattle.sched.specs.Operation.{operationOf}
+use Rattle.operations.specs.List.{soundListOf}
+use Rattle.operations.specs.Operation.{operationOf}
 use Rattle.sched.specs.Promise.{MovedByList, by-none, by-one, by-two, Next, Between, Taken, MovedBy}
 use Rattle.sched.specs.Scheduler.{Sized, IsSound, soundOf, dataIn, greatestIn, offsetIn, nextIn, advancedIn, registerOf, registerListOf, thenRegister}
 use Rattle.sched.proofs.Laws.{sound-is, sound-both, offset-lt}
 use Rattle.sched.proofs.RegisterLaws.{registered-sound, advanced-sound}
 use Rattle.sched.proofs.ScheduleLaws.{next-is, some-none, some-some}
-use Rattle.sched.proofs.GivenLists.{list-kept, tests-list, registers-one, registers-two}
+use Rattle.operations.proofs.Given.{list-kept}
+use Rattle.sched.proofs.GivenLists.{tests-list, registers-one, registers-two}
 use Rattle.sched.proofs.Promises.{too-large, registers}
 
 -- ---- the data between the counters

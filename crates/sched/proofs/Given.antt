@@ -1,5 +1,5 @@
 -- The numbers 1 to 6 are given exactly when the paper's table says so, over the definitions; `Refuses` states it of the calls.
-use Prim.Native.Nat.{ℕ, _*_, _^_, _<_}
+use Prim.Native.Nat.{ℕ, _*_, _^_}
 use mathlib.Core.Path.{_≡_, refl, sym, ap, _∙_}
 use mathlib.Core.Bool.{Bool, true, false}
 use mathlib.Core.List.{List, [], _∷_}
@@ -8,24 +8,18 @@ use lib.Dec.{ltb, leb, eqb}
 use borrow.Author.Tests.{eqb-true, eqb-false, ltb-true, ltb-false, leb-true, leb-false, eq-eqb, ne-eqb, lt-ltb, le-ltb, lt-leb, le-leb}
 use native.Mathlib.Omega.{arith}
 use Rattle.modular.proofs.Laws.{lt-or-le}
-use Rattle.sched.specs.declared.operation.OperationType.{OperationType}
-use Rattle.sched.specs.declared.operation.OperationType.the-variants.{Read, Write}
-use Rattle.sched.specs.declared.refusal.Refusal.{Refusal}
-use Rattle.sched.specs.declared.refusal.Refusal.the-variants.{ZeroBufferLength, BufferTooLarge, ItemsWrittenOutOfBounds, ItemsReadOutofBounds, DataAvailOutOfBounds, OperationTooLarge, OperationTooLong, InconsistentOperationType}
+use Rattle.operations.specs.declared.operation.OperationType.{OperationType}
+use Rattle.operations.specs.declared.refusal.Refusal.{Refusal}
+use Rattle.operations.specs.declared.refusal.Refusal.the-variants.{ZeroBufferLength, BufferTooLarge, ItemsWrittenOutOfBounds, ItemsReadOutofBounds, DataAvailOutOfBounds, OperationTooLarge}
+use Rattle.operations.proofs.Given.{Told, told, number-some, type-number, type-number-is}
 use Rattle.sched.specs.declared.scheduler.Checked.{Checked}
 use Rattle.sched.specs.declared.scheduler.Checked.the-variants as checked
 use Rattle.sched.specs.declared.scheduler.RingBufferScheduler.{RingBufferScheduler}
-use Rattle.sched.specs.Given.{Verdict, accepted, refused, numberIn, valuesIn, Exactly, Given, taken, given-1, given-2, given-3, given-4, given-5, TypeNumber, a-read, a-write, GivenRegister, before-6, given-6, fits, ofChecked, ofRegistered}
-use Rattle.sched.specs.Refusal.{numberOf, typeNumber}
+use Rattle.operations.specs.Given.{Verdict, accepted, refused, numberIn, valuesIn, Exactly}
+use Rattle.sched.specs.Given.{Given, taken, given-1, given-2, given-3, given-4, given-5, GivenRegister, before-6, given-6, fits, ofChecked, ofRegistered}
 use Rattle.sched.specs.Scheduler.{IsSound, soundOf, dataIn, greatestIn, registerOf}
 use Rattle.sched.proofs.Laws.{sound-is, sound-both}
 use Rattle.sched.proofs.Promises.{too-large, registers}
-
-abbrev pub Told : Verdict → ℕ → List ℕ → Type 0
-Told v k vs = (numberIn v ≡ k) × (valuesIn v ≡ vs)
-
-pub told : (v u : Verdict) → v ≡ u → Told v (numberIn u) (valuesIn u)
-told v u e = (ap numberIn e, ap valuesIn e)
 
 -- ---- 1 to 5
 module _ (s : RingBufferScheduler) where
@@ -85,26 +79,7 @@ module _ (s : RingBufferScheduler) (v : Verdict) where
       Exactly (Given s) v
   tested-exactly f g = rw (same (soundOf s) refl f g) at (record-exactly s)
 
--- a verdict of 0 takes; and no refusal has the number 0
-pub number-some : (e : Refusal) → 0 < numberOf e
-number-some ZeroBufferLength = omega arith
-number-some (BufferTooLarge l) = omega arith
-number-some (ItemsWrittenOutOfBounds l w) = omega arith
-number-some (ItemsReadOutofBounds l r) = omega arith
-number-some (DataAvailOutOfBounds l w r) = omega arith
-number-some (OperationTooLarge t n greatest) = omega arith
-number-some (OperationTooLong excess) = omega arith
-number-some InconsistentOperationType = omega arith
-
 -- ---- 6
-pub type-number : (t : OperationType) → TypeNumber t (typeNumber t)
-type-number Read = a-read
-type-number Write = a-write
-
-type-number-is : {t : OperationType} {no : ℕ} → TypeNumber t no → typeNumber t ≡ no
-type-number-is a-read = refl
-type-number-is a-write = refl
-
 module _ (s : RingBufferScheduler) (t : OperationType) (n : ℕ) where
   abbrev after : Verdict
   after = ofRegistered (registerOf s t n)

@@ -1,99 +1,32 @@
--- The numbers 7 and 8 of a list, and 6 where a list is registered operation by operation, are given exactly when the paper says
--- so, over the definitions.
-use Prim.Native.Nat.{ℕ, _+_, _-_, _^_, _<_, _≤_}
+-- The numbers of a list that is registered, 7 and 8 and then 6 operation by operation, are given exactly when the paper says so, over the
+-- definitions.
+use Prim.Native.Nat.{ℕ, _-_, _<_, _≤_}
 use mathlib.Core.Path.{_≡_, refl, sym, ap, _∙_}
-use mathlib.Core.Bool.{Bool, true, false}
 use mathlib.Core.List.{List, []}
 use mathlib.Core.Logic.{⊎-elim}
 use native.Mathlib.Omega.{arith}
 use Rattle.modular.proofs.Laws.{lt-or-le}
-use Rattle.sched.specs.declared.list.ScheduledOperations.{ScheduledOperations}
-use Rattle.sched.specs.declared.list.ScheduledOperations.the-variants as list
-use Rattle.sched.specs.declared.list.OperationsAnswer.{OperationsAnswer}
-use Rattle.sched.specs.declared.list.OperationsAnswer.the-variants as operations
-use Rattle.sched.specs.declared.operation.OperationType.{OperationType}
-use Rattle.sched.specs.declared.operation.OperationType.the-variants.{Read, Write}
-use Rattle.sched.specs.declared.operation.ScheduledOperation.{ScheduledOperation}
-use Rattle.sched.specs.declared.refusal.Refusal.{Refusal}
-use Rattle.sched.specs.declared.refusal.Refusal.the-variants.{OperationTooLarge, OperationTooLong, InconsistentOperationType}
+use Rattle.operations.specs.declared.list.ScheduledOperations.{ScheduledOperations}
+use Rattle.operations.specs.declared.list.ScheduledOperations.the-variants as list
+use Rattle.operations.specs.declared.list.OperationsAnswer.{OperationsAnswer}
+use Rattle.operations.specs.declared.list.OperationsAnswer.the-variants as operations
+use Rattle.operations.specs.declared.operation.ScheduledOperation.{ScheduledOperation}
+use Rattle.operations.specs.declared.refusal.Refusal.{Refusal}
+use Rattle.operations.specs.declared.refusal.Refusal.the-variants.{OperationTooLarge}
+use Rattle.operations.proofs.Given.{ofList, list-only, list-exactly, list-kept, list-passed, Told, told, number-some, type-number}
 use Rattle.sched.specs.declared.scheduler.Checked.{Checked}
 use Rattle.sched.specs.declared.scheduler.Checked.the-variants as checked
 use Rattle.sched.specs.declared.register.Registered.{Registered}
 use Rattle.sched.specs.declared.register.Registered.the-variants as registered
 use Rattle.sched.specs.declared.scheduler.RingBufferScheduler.{RingBufferScheduler}
-use Rattle.sched.specs.Given.{Verdict, accepted, refused, numberIn, valuesIn, Exactly, Given, GivenRegister, given-6, GivenList, list-none, list-one, list-two, given-7, given-8, GivenOperations, the-record, the-list, nothing, alone, at-first, at-second, ofChecked, ofRegistered, ofOperations}
-use Rattle.sched.specs.List.{listed, sameTypeOf, soundListOf}
+use Rattle.operations.specs.Given.{Verdict, accepted, refused, numberIn, valuesIn, Exactly, GivenList, ofOperations}
+use Rattle.sched.specs.Given.{Given, GivenRegister, given-6, GivenOperations, the-record, the-list, nothing, alone, at-first, at-second, ofChecked, ofRegistered}
+use Rattle.operations.specs.List.{listed, soundListOf}
 use Rattle.sched.specs.Scheduler.{registerIn, IsSound, soundOf, greatestIn, advancedIn, registerOf, registerListIn, registerListOf, thenRegister}
 use Rattle.sched.proofs.Laws.{sound-is, sound-both}
 use Rattle.sched.proofs.RegisterLaws.{advanced-sound}
-use Rattle.sched.proofs.Promises.{too-large, registers, too-long, inconsistent, list-taken}
-use Rattle.sched.proofs.Given.{Told, told, number-some, type-number, record-exactly, register-exactly}
-
--- ---- 7, then 8
-different : {A : Type 0} → true ≡ false → A
-different p = absurd (let z : _≡_ {A = ℕ} 0 1 = cc in omega arith)
-
-types-same : (t u : OperationType) → sameTypeOf t u ≡ true → t ≡ u
-types-same Read Read p = refl
-types-same Read Write p = different (sym p)
-types-same Write Read p = different (sym p)
-types-same Write Write p = refl
-
-same-types : (t u : OperationType) → t ≡ u → sameTypeOf t u ≡ true
-same-types t Read e = rw e
-same-types t Write e = rw e
-
-types-differ : (t u : OperationType) → (t ≡ u → ⊥) → sameTypeOf t u ≡ false
-types-differ t u d = go (sameTypeOf t u) refl
-  where
-    go : (b : Bool) → sameTypeOf t u ≡ b → sameTypeOf t u ≡ false
-    go true p = absurd (d (types-same t u p))
-    go false p = p
-
-abbrev ofList : ScheduledOperations → Verdict
-ofList ops = ofOperations (soundListOf ops)
-
-list-only : (ops : ScheduledOperations) → GivenList ops (numberIn (ofList ops)) (valuesIn (ofList ops))
-list-only list.None = list-none
-list-only (list.One a) = list-one
-list-only (list.Two a b) = ⊎-elim (λ l. rw (ap ofOperations (too-long a b l)) (given-7 l)) (λ l. go l (sameTypeOf (a .typ) (b .typ)) refl) (lt-or-le (2 ^ 64 - 1) (a .len + b .len))
-  where
-    go : a .len + b .len ≤ 2 ^ 64 - 1 → (x : Bool) → sameTypeOf (a .typ) (b .typ) ≡ x → GivenList (list.Two a b) (numberIn (ofList (list.Two a b))) (valuesIn (ofList (list.Two a b)))
-    go l true p = rw (ap ofOperations (list-taken a b l p)) (list-two l (types-same (a .typ) (b .typ) p))
-    go l false p = rw (ap ofOperations (inconsistent a b l p)) (given-8 l (λ e. different (sym (same-types (a .typ) (b .typ) e) ∙ p)))
-
-list-always : {ops : ScheduledOperations} {k : ℕ} {vs : List ℕ} → GivenList ops k vs → Told (ofList ops) k vs
-list-always list-none = (refl, refl)
-list-always list-one = (refl, refl)
-list-always (list-two {a} {b} l e) = told (ofList (list.Two a b)) accepted (ap ofOperations (list-taken a b l (same-types (a .typ) (b .typ) e)))
-list-always (given-7 {a} {b} l) = told (ofList (list.Two a b)) (refused (OperationTooLong (a .len + b .len - (2 ^ 64 - 1)))) (ap ofOperations (too-long a b l))
-list-always (given-8 {a} {b} l d) = told (ofList (list.Two a b)) (refused InconsistentOperationType) (ap ofOperations (inconsistent a b l (types-differ (a .typ) (b .typ) d)))
-
-pub list-exactly : (ops : ScheduledOperations) → Exactly (GivenList ops) (ofOperations (soundListOf ops))
-list-exactly ops = record { only = list-only ops; always = λ k vs g. list-always g }
-
-list-passed : (a b : ScheduledOperation) → GivenList (list.Two a b) 0 [] → soundListOf (list.Two a b) ≡ operations.Of (list.Two a b)
-list-passed a b (list-two l e) = list-taken a b l (same-types (a .typ) (b .typ) e)
-
--- a list that is taken is handed back
-pub list-kept : (a b : ScheduledOperation) (ops : ScheduledOperations) → soundListOf (list.Two a b) ≡ operations.Of ops → ops ≡ list.Two a b
-list-kept a b ops p = go (list-only (list.Two a b)) (ap (λ (x : OperationsAnswer). numberIn (ofOperations x)) p)
-  where
-    go : {k : ℕ} {vs : List ℕ} → GivenList (list.Two a b) k vs → k ≡ 0 → ops ≡ list.Two a b
-    go (list-two l e) z = let q : operations.Of ops ≡ operations.Of (list.Two a b) = sym p ∙ list-taken a b l (same-types (a .typ) (b .typ) e) in cc
-    go (given-7 l) z = absurd (omega arith)
-    go (given-8 l d) z = absurd (omega arith)
-
--- a verdict on an answer that is refused just where the list's tests refuse
-module _ (ops : ScheduledOperations) (v : Verdict) where
-  same-list : (c : OperationsAnswer) → soundListOf ops ≡ c → ((l : ScheduledOperations) → soundListOf ops ≡ operations.Of l → v ≡ accepted) → ((e : Refusal) → soundListOf ops ≡ operations.Refused e → v ≡ refused e) → ofOperations c ≡ v
-  same-list (operations.Of l) p f g = sym (f l p)
-  same-list (operations.Refused e) p f g = sym (g e p)
-
-  pub listed-exactly :
-      ((l : ScheduledOperations) → soundListOf ops ≡ operations.Of l → v ≡ accepted) → ((e : Refusal) → soundListOf ops ≡ operations.Refused e → v ≡ refused e) →
-      Exactly (GivenList ops) v
-  listed-exactly f g = rw (same-list (soundListOf ops) refl f g) at (list-exactly ops)
+use Rattle.sched.proofs.Promises.{too-large, registers}
+use Rattle.sched.proofs.Given.{record-exactly, register-exactly}
 
 -- ---- a list that is registered
 module _ (s : RingBufferScheduler) where

@@ -8,10 +8,10 @@ use borrow.Author.Tests.{eqb-true, eqb-false, ltb-true, ltb-false, eq-eqb, ne-eq
 use native.Mathlib.Nat.{mod-eq-of-lt, mod-add-mod, mod-mod-of-dvd, dvd-mul-left}
 use native.Mathlib.Omega.{arith}
 use Rattle.modular.proofs.Laws.{sub-back, once, lt-or-le}
-use Rattle.sched.specs.declared.counter.Offset.{Offset}
+use Rattle.operations.specs.declared.counter.Offset.{Offset}
 use Rattle.sched.specs.declared.block.BufferLayout.the-variants.{DataFreeData, FreeDataFree}
-use Rattle.sched.specs.declared.operation.OperationType.{OperationType}
-use Rattle.sched.specs.declared.operation.OperationType.the-variants.{Read, Write}
+use Rattle.operations.specs.declared.operation.OperationType.{OperationType}
+use Rattle.operations.specs.declared.operation.OperationType.the-variants.{Read, Write}
 use Rattle.sched.specs.declared.scheduler.RingBufferScheduler.{RingBufferScheduler}
 use Rattle.sched.specs.Scheduler.{IsSound, dataIn, offsetIn, greatestIn, layoutIn, nextBlockIn}
 use Rattle.sched.proofs.Laws.{offset-lt}

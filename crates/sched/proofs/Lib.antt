@@ -2,7 +2,6 @@ pub mod Laws
 pub mod LayoutLaws
 pub mod RegisterLaws
 pub mod ScheduleLaws
-pub mod ListLaws
 pub mod ChunkLaws
 pub mod Promises
 pub mod Says
@@ -14,5 +13,3 @@ pub mod Promised
 pub mod PromisedMoves
 pub mod Parts
 pub mod PromisedParts
-pub mod PromisedLists
-pub mod PromisedValues

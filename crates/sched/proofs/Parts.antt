@@ -18,10 +18,10 @@ use Rattle.sched.specs.declared.block.BufferLayout.{BufferLayout}
 use Rattle.sched.specs.declared.block.BufferLayout.the-variants.{DataFreeData, FreeDataFree}
 use Rattle.sched.specs.declared.block.BlockType.{BlockType}
 use Rattle.sched.specs.declared.block.BlockType.the-variants.{Free, Data}
-use Rattle.sched.specs.declared.counter.Counter.{Counter}
-use Rattle.sched.specs.declared.counter.Offset.{Offset}
-use Rattle.sched.specs.declared.operation.OperationType.{OperationType}
-use Rattle.sched.specs.declared.operation.OperationType.the-variants.{Read, Write}
+use Rattle.operations.specs.declared.counter.Counter.{Counter}
+use Rattle.operations.specs.declared.counter.Offset.{Offset}
+use Rattle.operations.specs.declared.operation.OperationType.{OperationType}
+use Rattle.operations.specs.declared.operation.OperationType.the-variants.{Read, Write}
 use Rattle.sched.specs.declared.scheduler.RingBufferScheduler.{RingBufferScheduler}
 use Rattle.sched.specs.Block.{blockOf, outerOf, innerOf}
 use Rattle.sched.specs.Parts.{CounterOf, OffsetOf, FillOf, None, Some, LayoutOf, Typed, BlocksOf, typeFor, NextBlockOf}

@@ -1,27 +1,27 @@
 -- What the paper (docs/PAPER.md, "The scheduler") promises, over the definitions; `Promised` states it of the calls.
 use Prim.Native.Nat.{ℕ, zero, suc, _+_, _-_, _^_, _<_, _≤_, min}
 use mathlib.Core.Path.{_≡_, refl, sym, ap, _∙_}
-use mathlib.Core.Bool.{true, false}
+use mathlib.Core.Bool.{true}
 use mathlib.Core.List.{List, _∷_, _++_}
 use mathlib.Core.Logic.{_⊎_, inl, inr, ⊎-elim}
 use borrow.Author.Tests.{eq-eqb, ne-eqb, lt-ltb, le-ltb}
 use native.Mathlib.Nat.{mod-eq-of-lt, add-mod-right, add-comm, add-zero, zero-add, eq-zero-or-pos}
 use native.Mathlib.Omega.{arith}
 use Rattle.modular.proofs.Laws.{lt-or-le}
+use Rattle.operations.proofs.ListLaws.{list-taken}
 use Rattle.sched.specs.declared.block.BufferFillState.the-variants.{Empty, Partial, Full}
-use Rattle.sched.specs.declared.list.OperationsAnswer.the-variants as operations
-use Rattle.sched.specs.declared.list.ScheduledOperations.the-variants as list
-use Rattle.sched.specs.declared.operation.NextOperation.{NextOperation}
-use Rattle.sched.specs.declared.operation.NextOperation.the-variants as next
-use Rattle.sched.specs.declared.operation.OperationType.{OperationType}
-use Rattle.sched.specs.declared.operation.OperationType.the-variants.{Read, Write}
-use Rattle.sched.specs.declared.operation.ScheduledOperation.{ScheduledOperation}
-use Rattle.sched.specs.declared.refusal.Refusal.the-variants.{OperationTooLarge, OperationTooLong, InconsistentOperationType}
+use Rattle.operations.specs.declared.list.ScheduledOperations.the-variants as list
+use Rattle.sched.specs.declared.schedule.NextOperation.{NextOperation}
+use Rattle.sched.specs.declared.schedule.NextOperation.the-variants as next
+use Rattle.operations.specs.declared.operation.OperationType.{OperationType}
+use Rattle.operations.specs.declared.operation.OperationType.the-variants.{Read, Write}
+use Rattle.operations.specs.declared.operation.ScheduledOperation.{ScheduledOperation}
+use Rattle.operations.specs.declared.refusal.Refusal.the-variants.{OperationTooLarge}
 use Rattle.sched.specs.declared.register.Registered.the-variants as registered
 use Rattle.sched.specs.declared.scheduler.RingBufferScheduler.{RingBufferScheduler}
-use Rattle.sched.specs.Operation.{operationOf}
+use Rattle.operations.specs.Operation.{operationOf}
 use Rattle.sched.specs.Promise.{Promise, upFrom, roundFrom, joined, byBlocks}
-use Rattle.sched.specs.List.{sameTypeOf, soundTwoOf, soundListOf, totalIn}
+use Rattle.operations.specs.List.{sameTypeOf, totalIn}
 use Rattle.sched.specs.Scheduler.{IsSound, dataIn, spaceIn, offsetIn, greatestIn, fillStateIn, nextBlockIn, nextIn, scheduleIn, advancedIn, registerIn, registerOf, registerListOf}
 use Rattle.sched.proofs.Laws.{sound-is, offset-lt, greatest-most}
 use Rattle.sched.proofs.LayoutLaws.{arranged, next-len}
@@ -43,21 +43,6 @@ module _ (s : RingBufferScheduler) (h : IsSound s) (t : OperationType) (n : ℕ)
 
   pub registers : n ≤ greatestIn s t → registerOf s t n ≡ registered.Advanced (advancedIn s t n)
   registers l = rw (← sound-is s h) (advances s t n l)
-
--- ---- 7 where the lengths of a list sum above 2^64 - 1, else 8 where its types differ
-module _ (a b : ScheduledOperation) where
-  pub too-long : 2 ^ 64 - 1 < a .len + b .len → soundListOf (list.Two a b) ≡ operations.Refused (OperationTooLong (a .len + b .len - (2 ^ 64 - 1)))
-  unfolding soundTwoOf
-  too-long l = rw (lt-ltb _ _ l)
-
-  module _ (l : a .len + b .len ≤ 2 ^ 64 - 1) where
-    pub inconsistent : sameTypeOf (a .typ) (b .typ) ≡ false → soundListOf (list.Two a b) ≡ operations.Refused InconsistentOperationType
-    unfolding soundTwoOf
-    inconsistent d = rw (le-ltb _ _ l, d)
-
-    pub list-taken : sameTypeOf (a .typ) (b .typ) ≡ true → soundListOf (list.Two a b) ≡ operations.Of (list.Two a b)
-    unfolding soundTwoOf
-    list-taken d = rw (le-ltb _ _ l, d)
 
 -- ---- what the Rust panics at cannot happen
 module _ (s : RingBufferScheduler) (h : IsSound s) where

@@ -1,12 +1,13 @@
 -- "Given exactly when", 1 to 8, of every call that can refuse: whatever its attached contract allows is refused with a number
 -- and values exactly when the paper's table says so.
 use Rattle.modular.proofs.Saying.{Keeps}
-use Rattle.sched.specs.declared.operation.OperationType.the-variants.{Read, Write}
-use Rattle.sched.specs.Given.{Exactly, Given, GivenRegister, GivenList, GivenOperations, ofChecked, ofRegistered, ofMove, ofAmount, ofBool, ofCounter, ofOffset, ofFillState, ofLayout, ofBlock, ofBlocks, ofNext, ofOperations, ofCumulativeOffsets, ofOutsideRanges}
+use Rattle.operations.specs.declared.operation.OperationType.the-variants.{Read, Write}
+use Rattle.operations.specs.Given.{Exactly, ofAmount, ofOperations}
+use Rattle.sched.specs.Given.{Given, GivenRegister, GivenOperations, ofChecked, ofRegistered, ofMove, ofBool, ofCounter, ofOffset, ofFillState, ofLayout, ofBlock, ofBlocks, ofNext}
 use Rattle.sched.specs.Scheduler.{schedulerOf}
 use Rattle.sched.proofs.Given.{record-exactly, tested-exactly, register-exactly}
-use Rattle.sched.proofs.GivenLists.{list-exactly, listed-exactly, operations-exactly}
-use Rattle.sched.proofs.Says.{try-new-says, try-from-counters-says, demand-soundness-says, buf-len-says, is-zero-sized-says, items-read-says, items-written-says, operation-counter-says, read-off-says, write-off-says, operation-offset-says, data-avail-says, space-avail-says, max-operation-len-says, fill-state-says, is-empty-says, is-full-says, is-nonempty-says, is-nonfull-says, layout-says, blocks-says, block-0-says, block-1-says, block-2-says, block-0-off-says, block-1-off-says, block-2-off-says, block-0-len-says, block-1-len-says, block-2-len-says, next-operation-block-says, next-read-block-says, next-write-block-says, schedule-next-contiguous-operation-says, schedule-next-read-says, schedule-next-write-says, schedule-contiguous-operations-says, schedule-reads-says, schedule-writes-says, try-register-read-says, try-register-write-says, try-register-operation-manually-says, try-register-operation-says, try-register-operations-says, schedule-and-register-says, ScheduledOperations-try-new-says, container-says, into-container-says, cumulative-operation-length-says, with-cumulative-offset-says, with-outside-buffer-range-says}
+use Rattle.sched.proofs.GivenLists.{operations-exactly}
+use Rattle.sched.proofs.Says.{try-new-says, try-from-counters-says, demand-soundness-says, buf-len-says, is-zero-sized-says, items-read-says, items-written-says, operation-counter-says, read-off-says, write-off-says, operation-offset-says, data-avail-says, space-avail-says, max-operation-len-says, fill-state-says, is-empty-says, is-full-says, is-nonempty-says, is-nonfull-says, layout-says, blocks-says, block-0-says, block-1-says, block-2-says, block-0-off-says, block-1-off-says, block-2-off-says, block-0-len-says, block-1-len-says, block-2-len-says, next-operation-block-says, next-read-block-says, next-write-block-says, schedule-next-contiguous-operation-says, schedule-next-read-says, schedule-next-write-says, schedule-contiguous-operations-says, schedule-reads-says, schedule-writes-says, try-register-read-says, try-register-write-says, try-register-operation-manually-says, try-register-operation-says, try-register-operations-says, schedule-and-register-says}
 use Rattle.sched.proofs.scheduler.RingBufferScheduler.try_new.Kinds as try-new-kinds
 use Rattle.sched.proofs.scheduler.RingBufferScheduler.try_new.Reads as try-new
 use Rattle.sched.proofs.scheduler.RingBufferScheduler.try_from_counters.Kinds as try-from-counters-kinds
@@ -97,18 +98,6 @@ use Rattle.sched.proofs.scheduler.RingBufferScheduler.try_register_oper
 use Rattle.sched.proofs.scheduler.RingBufferScheduler.try_register_operations.Reads as try-register-operations
 use Rattle.sched.proofs.scheduler.RingBufferScheduler.schedule_and_register.Kinds as schedule-and-register-kinds
 use Rattle.sched.proofs.scheduler.RingBufferScheduler.schedule_and_register.Reads as schedule-and-register
-use Rattle.sched.proofs.list.ScheduledOperations.try_new.Kinds as ScheduledOperations-try-new-kinds
-use Rattle.sched.proofs.list.ScheduledOperations.try_new.Reads as ScheduledOperations-try-new
-use Rattle.sched.proofs.list.ScheduledOperations.container.Kinds as container-kinds
-use Rattle.sched.proofs.list.ScheduledOperations.container.Reads as container
-use Rattle.sched.proofs.list.ScheduledOperations.into_container.Kinds as into-container-kinds
-use Rattle.sched.proofs.list.ScheduledOperations.into_container.Reads as into-container
-use Rattle.sched.proofs.list.ScheduledOperations.cumulative_operation_length.Kinds as cumulative-operation-length-kinds
-use Rattle.sched.proofs.list.ScheduledOperations.cumulative_operation_length.Reads as cumulative-operation-length
-use Rattle.sched.proofs.list.ScheduledOperations.with_cumulative_offset.Kinds as with-cumulative-offset-kinds
-use Rattle.sched.proofs.list.ScheduledOperations.with_cumulative_offset.Reads as with-cumulative-offset
-use Rattle.sched.proofs.list.ScheduledOperations.with_outside_buffer_range.Kinds as with-outside-buffer-range-kinds
-use Rattle.sched.proofs.list.ScheduledOperations.with_outside_buffer_range.Reads as with-outside-buffer-range
 
 -- ---- a record: 1 to 5
 pub try-new-refuses : Keeps 0 try-new-kinds.ps try-new-kinds.r try-new.Learnt (λ κs a z. Exactly (Given (schedulerOf (a .0) (record { 0 = 0 }) (record { 0 = 0 }))) (ofChecked z))
@@ -247,22 +236,3 @@ try-register-operation-refuses κs a z q = rw (try-register-operation-says κs a
 
 pub try-register-operations-refuses : Keeps 0 try-register-operations-kinds.ps try-register-operations-kinds.r try-register-operations.Learnt (λ κs a z. Exactly (GivenOperations (a .0) (a .1 .0)) (ofRegistered z))
 try-register-operations-refuses κs a z q = rw (try-register-operations-says κs a z (q .0) (q .1)) (operations-exactly (a .0) (a .1 .0))
-
--- ---- a list: 7, then 8
-pub ScheduledOperations-try-new-refuses : Keeps 0 ScheduledOperations-try-new-kinds.ps ScheduledOperations-try-new-kinds.r ScheduledOperations-try-new.Learnt (λ κs a z. Exactly (GivenList (a .0)) (ofOperations z))
-ScheduledOperations-try-new-refuses κs a z q = rw (ScheduledOperations-try-new-says κs a z (q .0) (q .1)) (list-exactly (a .0))
-
-pub container-refuses : Keeps 0 container-kinds.ps container-kinds.r container.Learnt (λ κs a z. Exactly (GivenList (a .0)) (ofOperations z))
-container-refuses κs a z q = rw (container-says κs a z (q .0) (q .1)) (list-exactly (a .0))
-
-pub into-container-refuses : Keeps 0 into-container-kinds.ps into-container-kinds.r into-container.Learnt (λ κs a z. Exactly (GivenList (a .0)) (ofOperations z))
-into-container-refuses κs a z q = rw (into-container-says κs a z (q .0) (q .1)) (list-exactly (a .0))
-
-pub cumulative-operation-length-refuses : Keeps 0 cumulative-operation-length-kinds.ps cumulative-operation-length-kinds.r cumulative-operation-length.Learnt (λ κs a z. Exactly (GivenList (a .0)) (ofAmount z))
-cumulative-operation-length-refuses κs a z q = rw (cumulative-operation-length-says κs a z (q .0) (q .1)) (listed-exactly (a .0) _ (λ l p. rw p) (λ e p. rw p))
-
-pub with-cumulative-offset-refuses : Keeps 0 with-cumulative-offset-kinds.ps with-cumulative-offset-kinds.r with-cumulative-offset.Learnt (λ κs a z. Exactly (GivenList (a .0)) (ofCumulativeOffsets z))
-with-cumulative-offset-refuses κs a z q = rw (with-cumulative-offset-says κs a z (q .0) (q .1)) (listed-exactly (a .0) _ (λ l p. rw p) (λ e p. rw p))
-
-pub with-outside-buffer-range-refuses : Keeps 0 with-outside-buffer-range-kinds.ps with-outside-buffer-range-kinds.r with-outside-buffer-range.Learnt (λ κs a z. Exactly (GivenList (a .0)) (ofOutsideRanges z))
-with-outside-buffer-range-refuses κs a z q = rw (with-outside-buffer-range-says κs a z (q .0) (q .1)) (listed-exactly (a .0) _ (λ l p. rw p) (λ e p. rw p))

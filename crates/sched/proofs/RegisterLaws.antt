@@ -6,10 +6,10 @@ use lib.Dec.{ltb}
 use borrow.Author.Tests.{ltb-false}
 use native.Mathlib.Omega.{arith}
 use Rattle.modular.proofs.Laws.{add-lt, sub-of-sum, sub-to-sum, add-halved, add-add, add-nothing}
-use Rattle.sched.specs.declared.operation.OperationType.{OperationType}
-use Rattle.sched.specs.declared.operation.OperationType.the-variants.{Read, Write}
-use Rattle.sched.specs.declared.refusal.Refusal.{Refusal}
-use Rattle.sched.specs.declared.refusal.Refusal.the-variants.{OperationTooLarge}
+use Rattle.operations.specs.declared.operation.OperationType.{OperationType}
+use Rattle.operations.specs.declared.operation.OperationType.the-variants.{Read, Write}
+use Rattle.operations.specs.declared.refusal.Refusal.{Refusal}
+use Rattle.operations.specs.declared.refusal.Refusal.the-variants.{OperationTooLarge}
 use Rattle.sched.specs.declared.scheduler.Checked.{Checked}
 use Rattle.sched.specs.declared.scheduler.Checked.the-variants as checked
 use Rattle.sched.specs.declared.scheduler.RingBufferScheduler.{RingBufferScheduler}

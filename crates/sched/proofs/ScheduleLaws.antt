@@ -8,13 +8,13 @@ use borrow.Author.Tests.{eqb-true, eqb-false, eq-eqb, ne-eqb, lt-leb, le-leb}
 use native.Mathlib.Nat.{mod-self, add-zero}
 use native.Mathlib.Omega.{arith}
 use Rattle.modular.proofs.Laws.{lt-or-le}
-use Rattle.sched.specs.declared.counter.Offset.{Offset}
-use Rattle.sched.specs.declared.operation.OperationType.{OperationType}
+use Rattle.operations.specs.declared.counter.Offset.{Offset}
+use Rattle.operations.specs.declared.operation.OperationType.{OperationType}
 use Rattle.sched.specs.declared.scheduler.RingBufferScheduler.{RingBufferScheduler}
-use Rattle.sched.specs.declared.operation.ScheduledOperation.{ScheduledOperation}
-use Rattle.sched.specs.declared.operation.NextOperation.the-variants as next
-use Rattle.sched.specs.declared.list.ScheduledOperations.the-variants as list
-use Rattle.sched.specs.Operation.{operationOf}
+use Rattle.operations.specs.declared.operation.ScheduledOperation.{ScheduledOperation}
+use Rattle.sched.specs.declared.schedule.NextOperation.the-variants as next
+use Rattle.operations.specs.declared.list.ScheduledOperations.the-variants as list
+use Rattle.operations.specs.Operation.{operationOf}
 use Rattle.sched.specs.Scheduler.{IsSound, offsetIn, greatestIn, someOf, nextIn, cutOf, scheduleIn, advancedIn}
 use Rattle.sched.proofs.Laws.{offset-lt, greatest-most}
 use Rattle.sched.proofs.LayoutLaws.{next-off, next-len}

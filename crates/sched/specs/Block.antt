@@ -1,6 +1,6 @@
 -- Blocks, with the Rust's types and numbers: docs/PAPER.md, "Blocks".
 use Prim.Native.Nat.{ℕ}
-use Rattle.sched.specs.declared.counter.Offset.{Offset}
+use Rattle.operations.specs.declared.counter.Offset.{Offset}
 use Rattle.sched.specs.declared.block.Bit.{Bit}
 use Rattle.sched.specs.declared.block.BlockType.{BlockType}
 use Rattle.sched.specs.declared.block.BlockType.the-variants.{Free, Data}

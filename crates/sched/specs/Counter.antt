@@ -1,8 +1,8 @@
 -- Counters, modulo 2L, and offsets, below L.
 use Prim.Native.Nat.{ℕ, _*_, _%_}
 use Rattle.modular.specs.Modulus.{subMod, addMod}
-use Rattle.sched.specs.declared.counter.Counter.{Counter}
-use Rattle.sched.specs.declared.counter.Offset.{Offset}
+use Rattle.operations.specs.declared.counter.Counter.{Counter}
+use Rattle.operations.specs.declared.counter.Offset.{Offset}
 
 -- the offset rule: the only one that makes an offset of a counter
 abbrev pub offsetOf : ℕ → Counter → Offset

@@ -1,7 +1,8 @@
 -- The paper's table of the numbers that refuse, 1 to 8: when each is given, and with which values. docs/PAPER.md, "The numbers".
-use Prim.Native.Nat.{ℕ, _+_, _-_, _*_, _^_, _<_, _≤_}
+use Prim.Native.Nat.{ℕ, _-_, _*_, _^_, _<_, _≤_}
 use mathlib.Core.Path.{_≡_}
 use mathlib.Core.List.{List, [], _∷_}
+use Rattle.operations.specs.Given.{Verdict, accepted, refused, TypeNumber, GivenList}
 use Rattle.sched.specs.declared.block.BlockAnswer.{BlockAnswer}
 use Rattle.sched.specs.declared.block.BlockAnswer.the-variants as block
 use Rattle.sched.specs.declared.block.BlocksAnswer.{BlocksAnswer}
@@ -10,28 +11,18 @@ use Rattle.sched.specs.declared.block.FillStateAnswer.{FillStateAnswer}
 use Rattle.sched.specs.declared.block.FillStateAnswer.the-variants as fill
 use Rattle.sched.specs.declared.block.LayoutAnswer.{LayoutAnswer}
 use Rattle.sched.specs.declared.block.LayoutAnswer.the-variants as layout
-use Rattle.sched.specs.declared.counter.AmountAnswer.{AmountAnswer}
-use Rattle.sched.specs.declared.counter.AmountAnswer.the-variants as amount
-use Rattle.sched.specs.declared.counter.BoolAnswer.{BoolAnswer}
-use Rattle.sched.specs.declared.counter.BoolAnswer.the-variants as bool
-use Rattle.sched.specs.declared.counter.CounterAnswer.{CounterAnswer}
-use Rattle.sched.specs.declared.counter.CounterAnswer.the-variants as counter
-use Rattle.sched.specs.declared.counter.OffsetAnswer.{OffsetAnswer}
-use Rattle.sched.specs.declared.counter.OffsetAnswer.the-variants as offset
-use Rattle.sched.specs.declared.list.CumulativeOffsetsAnswer.{CumulativeOffsetsAnswer}
-use Rattle.sched.specs.declared.list.CumulativeOffsetsAnswer.the-variants as cumulatives
-use Rattle.sched.specs.declared.list.OperationsAnswer.{OperationsAnswer}
-use Rattle.sched.specs.declared.list.OperationsAnswer.the-variants as operations
-use Rattle.sched.specs.declared.list.OutsideRangesAnswer.{OutsideRangesAnswer}
-use Rattle.sched.specs.declared.list.OutsideRangesAnswer.the-variants as outsides
-use Rattle.sched.specs.declared.list.ScheduledOperations.{ScheduledOperations}
-use Rattle.sched.specs.declared.list.ScheduledOperations.the-variants as list
-use Rattle.sched.specs.declared.operation.NextOperationAnswer.{NextOperationAnswer}
-use Rattle.sched.specs.declared.operation.NextOperationAnswer.the-variants as nexts
-use Rattle.sched.specs.declared.operation.OperationType.{OperationType}
-use Rattle.sched.specs.declared.operation.OperationType.the-variants.{Read, Write}
-use Rattle.sched.specs.declared.operation.ScheduledOperation.{ScheduledOperation}
-use Rattle.sched.specs.declared.refusal.Refusal.{Refusal}
+use Rattle.operations.specs.declared.counter.BoolAnswer.{BoolAnswer}
+use Rattle.operations.specs.declared.counter.BoolAnswer.the-variants as bool
+use Rattle.operations.specs.declared.counter.CounterAnswer.{CounterAnswer}
+use Rattle.operations.specs.declared.counter.CounterAnswer.the-variants as counter
+use Rattle.operations.specs.declared.counter.OffsetAnswer.{OffsetAnswer}
+use Rattle.operations.specs.declared.counter.OffsetAnswer.the-variants as offset
+use Rattle.operations.specs.declared.list.ScheduledOperations.{ScheduledOperations}
+use Rattle.operations.specs.declared.list.ScheduledOperations.the-variants as list
+use Rattle.sched.specs.declared.schedule.NextOperationAnswer.{NextOperationAnswer}
+use Rattle.sched.specs.declared.schedule.NextOperationAnswer.the-variants as nexts
+use Rattle.operations.specs.declared.operation.OperationType.{OperationType}
+use Rattle.operations.specs.declared.operation.ScheduledOperation.{ScheduledOperation}
 use Rattle.sched.specs.declared.scheduler.Checked.{Checked}
 use Rattle.sched.specs.declared.scheduler.Checked.the-variants as checked
 use Rattle.sched.specs.declared.register.MoveAnswer.{MoveAnswer}
@@ -39,32 +30,7 @@ use Rattle.sched.specs.declared.register.MoveAnswer.the-variants as move
 use Rattle.sched.specs.declared.register.Registered.{Registered}
 use Rattle.sched.specs.declared.register.Registered.the-variants as registered
 use Rattle.sched.specs.declared.scheduler.RingBufferScheduler.{RingBufferScheduler}
-use Rattle.sched.specs.Refusal.{numberOf, valuesOf}
 use Rattle.sched.specs.Scheduler.{Sized, IsSound, dataIn, greatestIn, advancedIn}
-
--- ---- what a caller is told
-pub data Verdict : Type 0 where
-  accepted : Verdict
-  refused : Refusal → Verdict
-
--- 0 where nothing is refused
-abbrev pub numberIn : Verdict → ℕ
-numberIn accepted = 0
-numberIn (refused e) = numberOf e
-
-abbrev pub valuesIn : Verdict → List ℕ
-valuesIn accepted = []
-valuesIn (refused e) = valuesOf e
-
--- `G` says when a number is given, with which values: it is given only then, and always then
-pub record Exactly (G : ℕ → List ℕ → Type 0) (v : Verdict) : Type 0 where
-  pub only : G (numberIn v) (valuesIn v)
-  pub always : (k : ℕ) (vs : List ℕ) → G k vs → (numberIn v ≡ k) × (valuesIn v ≡ vs)
-
--- a type's number among the values
-pub data TypeNumber : OperationType → ℕ → Type 0 where
-  a-read : TypeNumber Read 0
-  a-write : TypeNumber Write 1
 
 -- ---- 1 to 5: a record, tested in this order; 0 where it is taken
 module _ (s : RingBufferScheduler) where
@@ -92,14 +58,6 @@ module _ (s : RingBufferScheduler) where
       given-6 : {no : ℕ} → IsSound s → TypeNumber t no → greatestIn s t < n → GivenRegister 6 (no ∷ n ∷ greatestIn s t ∷ [])
       fits : IsSound s → n ≤ greatestIn s t → GivenRegister 0 []
 
--- ---- 7, then 8: a list of two. None and one are never refused
-pub data GivenList : ScheduledOperations → ℕ → List ℕ → Type 0 where
-  list-none : GivenList list.None 0 []
-  list-one : {a : ScheduledOperation} → GivenList (list.One a) 0 []
-  list-two : {a b : ScheduledOperation} → a .len + b .len ≤ 2 ^ 64 - 1 → a .typ ≡ b .typ → GivenList (list.Two a b) 0 []
-  given-7 : {a b : ScheduledOperation} → 2 ^ 64 - 1 < a .len + b .len → GivenList (list.Two a b) 7 ((a .len + b .len - (2 ^ 64 - 1)) ∷ [])
-  given-8 : {a b : ScheduledOperation} → a .len + b .len ≤ 2 ^ 64 - 1 → (a .typ ≡ b .typ → ⊥) → GivenList (list.Two a b) 8 []
-
 -- ---- a list that is registered: the record's numbers, then the list's, then 6 operation by operation, where the second is
 -- held to what is left after the first
 module _ (s : RingBufferScheduler) where
@@ -123,10 +81,6 @@ ofRegistered (registered.Refused e) = refused e
 abbrev pub ofMove : MoveAnswer → Verdict
 ofMove (moves.Of v) = accepted
 ofMove (moves.Refused e) = refused e
-
-abbrev pub ofAmount : AmountAnswer → Verdict
-ofAmount (amount.Of n) = accepted
-ofAmount (amount.Refused e) = refused e
 
 abbrev pub ofBool : BoolAnswer → Verdict
 ofBool (bool.Of b) = accepted
@@ -159,15 +113,3 @@ ofBlocks (blocks.Refused e) = refused e
 abbrev pub ofNext : NextOperationAnswer → Verdict
 ofNext (nexts.Of o) = accepted
 ofNext (nexts.Refused e) = refused e
-
-abbrev pub ofOperations : OperationsAnswer → Verdict
-ofOperations (operations.Of ops) = accepted
-ofOperations (operations.Refused e) = refused e
-
-abbrev pub ofCumulativeOffsets : CumulativeOffsetsAnswer → Verdict
-ofCumulativeOffsets (cumulatives.Of c) = accepted
-ofCumulativeOffsets (cumulatives.Refused e) = refused e
-
-abbrev pub ofOutsideRanges : OutsideRangesAnswer → Verdict
-ofOutsideRanges (outsides.Of o) = accepted
-ofOutsideRanges (outsides.Refused e) = refused e

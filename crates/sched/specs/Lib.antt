@@ -1,10 +1,6 @@
-pub mod Refusal
 pub mod Counter
 pub mod Chunk
-pub mod Operation
 pub mod Block
-pub mod List
-pub mod Diff
 pub mod Scheduler
 pub mod Given
 pub mod Promise

@@ -3,16 +3,16 @@
 use Prim.Native.Nat.{ℕ, _+_, _-_, _*_, _^_, _≤_, _<_, min, max}
 use mathlib.Core.Bool.{cond}
 use lib.Dec.{ltb, leb, eqb}
-use Rattle.sched.specs.declared.counter.Counter.{Counter}
-use Rattle.sched.specs.declared.counter.Offset.{Offset}
-use Rattle.sched.specs.declared.counter.AmountAnswer.{AmountAnswer}
-use Rattle.sched.specs.declared.counter.AmountAnswer.the-variants as amount
-use Rattle.sched.specs.declared.counter.BoolAnswer.{BoolAnswer}
-use Rattle.sched.specs.declared.counter.BoolAnswer.the-variants as bool
-use Rattle.sched.specs.declared.counter.CounterAnswer.{CounterAnswer}
-use Rattle.sched.specs.declared.counter.CounterAnswer.the-variants as counter
-use Rattle.sched.specs.declared.counter.OffsetAnswer.{OffsetAnswer}
-use Rattle.sched.specs.declared.counter.OffsetAnswer.the-variants as offset
+use Rattle.operations.specs.declared.counter.Counter.{Counter}
+use Rattle.operations.specs.declared.counter.Offset.{Offset}
+use Rattle.operations.specs.declared.counter.AmountAnswer.{AmountAnswer}
+use Rattle.operations.specs.declared.counter.AmountAnswer.the-variants as amount
+use Rattle.operations.specs.declared.counter.BoolAnswer.{BoolAnswer}
+use Rattle.operations.specs.declared.counter.BoolAnswer.the-variants as bool
+use Rattle.operations.specs.declared.counter.CounterAnswer.{CounterAnswer}
+use Rattle.operations.specs.declared.counter.CounterAnswer.the-variants as counter
+use Rattle.operations.specs.declared.counter.OffsetAnswer.{OffsetAnswer}
+use Rattle.operations.specs.declared.counter.OffsetAnswer.the-variants as offset
 use Rattle.sched.specs.declared.block.Bit.the-variants.{Zero, One}
 use Rattle.sched.specs.declared.block.Block.{Block}
 use Rattle.sched.specs.declared.block.BlockAnswer.{BlockAnswer}
@@ -28,19 +28,19 @@ use Rattle.sched.specs.declared.block.FillStateAnswer.{FillStateAnswer}
 use Rattle.sched.specs.declared.block.FillStateAnswer.the-variants as fill
 use Rattle.sched.specs.declared.block.LayoutAnswer.{LayoutAnswer}
 use Rattle.sched.specs.declared.block.LayoutAnswer.the-variants as layout
-use Rattle.sched.specs.declared.list.OperationsAnswer.{OperationsAnswer}
-use Rattle.sched.specs.declared.list.OperationsAnswer.the-variants as operations
-use Rattle.sched.specs.declared.list.ScheduledOperations.{ScheduledOperations}
-use Rattle.sched.specs.declared.list.ScheduledOperations.the-variants as list
-use Rattle.sched.specs.declared.operation.NextOperation.{NextOperation}
-use Rattle.sched.specs.declared.operation.NextOperation.the-variants as next
-use Rattle.sched.specs.declared.operation.NextOperationAnswer.{NextOperationAnswer}
-use Rattle.sched.specs.declared.operation.NextOperationAnswer.the-variants as nexts
-use Rattle.sched.specs.declared.operation.OperationType.{OperationType}
-use Rattle.sched.specs.declared.operation.OperationType.the-variants.{Read, Write}
-use Rattle.sched.specs.declared.operation.ScheduledOperation.{ScheduledOperation}
-use Rattle.sched.specs.declared.refusal.Refusal.{Refusal}
-use Rattle.sched.specs.declared.refusal.Refusal.the-variants.{ZeroBufferLength, BufferTooLarge, ItemsWrittenOutOfBounds, ItemsReadOutofBounds, DataAvailOutOfBounds, OperationTooLarge}
+use Rattle.operations.specs.declared.list.OperationsAnswer.{OperationsAnswer}
+use Rattle.operations.specs.declared.list.OperationsAnswer.the-variants as operations
+use Rattle.operations.specs.declared.list.ScheduledOperations.{ScheduledOperations}
+use Rattle.operations.specs.declared.list.ScheduledOperations.the-variants as list
+use Rattle.sched.specs.declared.schedule.NextOperation.{NextOperation}
+use Rattle.sched.specs.declared.schedule.NextOperation.the-variants as next
+use Rattle.sched.specs.declared.schedule.NextOperationAnswer.{NextOperationAnswer}
+use Rattle.sched.specs.declared.schedule.NextOperationAnswer.the-variants as nexts
+use Rattle.operations.specs.declared.operation.OperationType.{OperationType}
+use Rattle.operations.specs.declared.operation.OperationType.the-variants.{Read, Write}
+use Rattle.operations.specs.declared.operation.ScheduledOperation.{ScheduledOperation}
+use Rattle.operations.specs.declared.refusal.Refusal.{Refusal}
+use Rattle.operations.specs.declared.refusal.Refusal.the-variants.{ZeroBufferLength, BufferTooLarge, ItemsWrittenOutOfBounds, ItemsReadOutofBounds, DataAvailOutOfBounds, OperationTooLarge}
 use Rattle.sched.specs.declared.scheduler.Checked.{Checked}
 use Rattle.sched.specs.declared.scheduler.Checked.the-variants as checked
 use Rattle.sched.specs.declared.register.Move.{Move}
@@ -50,9 +50,9 @@ use Rattle.sched.specs.declared.register.Registered.{Registered}
 use Rattle.sched.specs.declared.register.Registered.the-variants as registered
 use Rattle.sched.specs.declared.scheduler.RingBufferScheduler.{RingBufferScheduler}
 use Rattle.sched.specs.Counter.{offsetOf, dataOf, laterOf}
-use Rattle.sched.specs.Operation.{operationOf}
+use Rattle.operations.specs.Operation.{operationOf}
 use Rattle.sched.specs.Block.{blockOf, outerOf, innerOf}
-use Rattle.sched.specs.List.{soundListOf, listed}
+use Rattle.operations.specs.List.{soundListOf, listed}
 
 -- ---- soundness
 abbrev pub schedulerOf : ℕ → Counter → Counter → RingBufferScheduler

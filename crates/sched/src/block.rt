@@ -1,8 +1,8 @@
 // Blocks: the three parts that the two offsets cut the buffer into.
 ghost use mathlib.Core.Path.{_≡_};
 ghost use Rattle.sched.specs.Block.{blockOf};
-use crate::counter::Offset;
-use crate::refusal::Refusal;
+use operations::Offset;
+use operations::Refusal;
 
 pub enum Bit {
     Zero,

@@ -9,14 +9,14 @@ use crate::block::Blocks;
 use crate::block::BlocksAnswer;
 use crate::block::BufferLayout;
 use crate::block::LayoutAnswer;
-use crate::counter::AmountAnswer;
-use crate::counter::Offset;
-use crate::counter::OffsetAnswer;
-use crate::operation::OperationType;
 use crate::scheduler::Checked;
 use crate::scheduler::RingBufferScheduler;
 use crate::scheduler::least;
 use crate::scheduler::most;
+use operations::AmountAnswer;
+use operations::Offset;
+use operations::OffsetAnswer;
+use operations::OperationType;
 
 impl RingBufferScheduler {
     pub fn layout(self) -> LayoutAnswer

@@ -2,17 +2,17 @@
 ghost use mathlib.Core.Path.{_≡_};
 ghost use Rattle.sched.specs.Counter.{laterOf};
 ghost use Rattle.sched.specs.Scheduler.{Sized, IsSound, advancedIn, registerIn, registerListIn, registerOf, registerListOf, moveIn, moveOf};
-use crate::counter::Counter;
-use crate::counter::Offset;
-use crate::list::OperationsAnswer;
-use crate::list::ScheduledOperations;
-use crate::operation::OperationType;
-use crate::operation::ScheduledOperation;
-use crate::refusal::Refusal;
 use crate::scheduler::Checked;
 use crate::scheduler::RingBufferScheduler;
 use crate::scheduler::double_modulus;
 use crate::scheduler::least;
+use operations::Counter;
+use operations::Offset;
+use operations::OperationType;
+use operations::OperationsAnswer;
+use operations::Refusal;
+use operations::ScheduledOperation;
+use operations::ScheduledOperations;
 
 // The scheduler after an operation, or why there is none.
 pub enum Registered {

@@ -2,16 +2,26 @@
 ghost use mathlib.Core.Path.{_≡_};
 ghost use Prim.Native.Nat.{_<_, _≤_};
 ghost use Rattle.sched.specs.Scheduler.{cutOf, IsSound, someOf, nextIn, scheduleIn, nextOf, scheduleOf};
-use crate::counter::Offset;
-use crate::list::OperationsAnswer;
-use crate::list::ScheduledOperations;
-use crate::operation::NextOperation;
-use crate::operation::NextOperationAnswer;
-use crate::operation::OperationType;
-use crate::operation::ScheduledOperation;
 use crate::scheduler::Checked;
 use crate::scheduler::RingBufferScheduler;
 use crate::scheduler::least;
+use operations::Offset;
+use operations::OperationType;
+use operations::OperationsAnswer;
+use operations::Refusal;
+use operations::ScheduledOperation;
+use operations::ScheduledOperations;
+
+// The next operation; none where nothing can be moved.
+pub enum NextOperation {
+    Some(ScheduledOperation),
+    None,
+}
+
+pub enum NextOperationAnswer {
+    Of(NextOperation),
+    Refused(Refusal),
+}
 
 impl RingBufferScheduler {
     pub fn schedule_next_contiguous_operation(

@@ -7,16 +7,16 @@ ghost use Rattle.sched.specs.Counter.{offsetOf};
 ghost use Rattle.sched.specs.Scheduler.{schedulerOf, Sized, IsSound, soundOf, dataIn, counterIn, offsetIn, greatestIn, fillStateIn, bufLenOf, counterAnswerOf, offsetAnswerOf, greatestOf, isZeroFrom, isPositiveFrom, fillStateOf};
 use crate::block::BufferFillState;
 use crate::block::FillStateAnswer;
-use crate::counter::AmountAnswer;
-use crate::counter::BoolAnswer;
-use crate::counter::Counter;
-use crate::counter::CounterAnswer;
-use crate::counter::Offset;
-use crate::counter::OffsetAnswer;
-use crate::operation::OperationType;
-use crate::refusal::Refusal;
 use modular::Modulus;
 use modular::OptionModulus;
+use operations::AmountAnswer;
+use operations::BoolAnswer;
+use operations::Counter;
+use operations::CounterAnswer;
+use operations::Offset;
+use operations::OffsetAnswer;
+use operations::OperationType;
+use operations::Refusal;
 
 pub struct RingBufferScheduler {
     pub buf_len: u64,

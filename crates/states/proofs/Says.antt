@@ -1,6 +1,6 @@
 -- What each public call says, in the order of the paper: whatever its attached contract allows is this definition of its arguments.
 use Rattle.modular.proofs.Saying.{Says}
-use Rattle.sched.specs.Refusal.{packed}
+use Rattle.operations.specs.Refusal.{packed}
 use Rattle.states.specs.Answer.{interruptedOf, receivedOf, sentOf, shutOf}
 use Rattle.states.specs.Refusal.{numberOf, valuesOf}
 use Rattle.states.specs.State.{fitsState, failureIn, advanceIn, violationNumber, violationAt, isErrno, failureOf, withFailureOf, withPotentialFailureOf, normalizeOf, advanceOf, normalizeFailureOf, towardsErrorOf}

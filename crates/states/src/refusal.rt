@@ -1,6 +1,6 @@
 // Why a call of the receiver refuses: what the scheduler and the copies refuse, or 11 to 13. A failure is another kind of outcome.
 ghost use mathlib.Core.Path.{_≡_};
-ghost use Rattle.sched.specs.Refusal.{packed};
+ghost use Rattle.operations.specs.Refusal.{packed};
 ghost use Rattle.states.specs.Refusal.{numberOf, valuesOf};
 use sched::Values;
 

@@ -8,7 +8,7 @@ use Rattle.modular.specs.declared.OptionModulus.{OptionModulus}
 use Rattle.modular.specs.declared.OptionModulus.the-variants as modulus
 use Rattle.modular.specs.declared.OptionNumber.{OptionNumber}
 use Rattle.modular.specs.declared.OptionNumber.the-variants as number
-use Rattle.sched.specs.Refusal.{typeNumber}
+use Rattle.operations.specs.Refusal.{typeNumber}
 use Rattle.sched.specs.declared.block.Bit.{Bit}
 use Rattle.sched.specs.declared.block.Bit.the-variants.{Zero, One}
 use Rattle.sched.specs.declared.block.Block.{Block}
@@ -18,24 +18,24 @@ use Rattle.sched.specs.declared.block.BufferFillState.{BufferFillState}
 use Rattle.sched.specs.declared.block.BufferFillState.the-variants.{Empty, Partial, Full}
 use Rattle.sched.specs.declared.block.BufferLayout.{BufferLayout}
 use Rattle.sched.specs.declared.block.BufferLayout.the-variants.{DataFreeData, FreeDataFree}
-use Rattle.sched.specs.declared.diff.Diff.{Diff}
-use Rattle.sched.specs.declared.diff.Diff.the-variants.{Same, Different}
-use Rattle.sched.specs.declared.list.CumulativeOffset.{CumulativeOffset}
-use Rattle.sched.specs.declared.list.CumulativeOffsets.{CumulativeOffsets}
-use Rattle.sched.specs.declared.list.CumulativeOffsets.the-variants as starts
-use Rattle.sched.specs.declared.list.OutsideRange.{OutsideRange}
-use Rattle.sched.specs.declared.list.OutsideRanges.{OutsideRanges}
-use Rattle.sched.specs.declared.list.OutsideRanges.the-variants as ranges
-use Rattle.sched.specs.declared.list.ScheduledOperations.{ScheduledOperations}
-use Rattle.sched.specs.declared.list.ScheduledOperations.the-variants as list
-use Rattle.sched.specs.declared.operation.ScheduledOperation.{ScheduledOperation}
+use Rattle.operations.specs.declared.diff.Diff.{Diff}
+use Rattle.operations.specs.declared.diff.Diff.the-variants.{Same, Different}
+use Rattle.operations.specs.declared.list.CumulativeOffset.{CumulativeOffset}
+use Rattle.operations.specs.declared.list.CumulativeOffsets.{CumulativeOffsets}
+use Rattle.operations.specs.declared.list.CumulativeOffsets.the-variants as starts
+use Rattle.operations.specs.declared.list.OutsideRange.{OutsideRange}
+use Rattle.operations.specs.declared.list.OutsideRanges.{OutsideRanges}
+use Rattle.operations.specs.declared.list.OutsideRanges.the-variants as ranges
+use Rattle.operations.specs.declared.list.ScheduledOperations.{ScheduledOperations}
+use Rattle.operations.specs.declared.list.ScheduledOperations.the-variants as list
+use Rattle.operations.specs.declared.operation.ScheduledOperation.{ScheduledOperation}
 use Rattle.sched.specs.declared.scheduler.RingBufferScheduler.{RingBufferScheduler}
 use Rattle.ends.specs.declared.reading_end.ReadingEnd.{ReadingEnd}
 use Rattle.ends.specs.declared.writing_end.WritingEnd.{WritingEnd}
-use Rattle.sched.specs.declared.operation.OperationType.{OperationType}
-use Rattle.sched.specs.declared.operation.OperationType.the-variants.{Read, Write}
-use Rattle.sched.specs.declared.refusal.Refusal as sched
-use Rattle.sched.specs.declared.refusal.Refusal.the-variants.{ZeroBufferLength, BufferTooLarge, ItemsWrittenOutOfBounds, ItemsReadOutofBounds, DataAvailOutOfBounds, OperationTooLarge, OperationTooLong, InconsistentOperationType}
+use Rattle.operations.specs.declared.operation.OperationType.{OperationType}
+use Rattle.operations.specs.declared.operation.OperationType.the-variants.{Read, Write}
+use Rattle.operations.specs.declared.refusal.Refusal as sched
+use Rattle.operations.specs.declared.refusal.Refusal.the-variants.{ZeroBufferLength, BufferTooLarge, ItemsWrittenOutOfBounds, ItemsReadOutofBounds, DataAvailOutOfBounds, OperationTooLarge, OperationTooLong, InconsistentOperationType}
 use Rattle.copies.specs.declared.refusal.Refusal.the-variants.{Scheduler, RingMemory}
 use Rattle.receiver.specs.Call.{answeredOf}
 use Rattle.states.specs.declared.answer.Answer.{Answer}

@@ -4,6 +4,7 @@ use Prim.Native.Nat.{ℕ}
 use mathlib.Core.Path.{_≡_, refl, subst}
 use mathlib.Core.Bool.{Bool, true, false}
 use mathlib.Core.List.{List, [], _∷_}
+use Rattle.operations.specs.Given as verdict
 use Rattle.sched.specs.Given as sched
 use Rattle.copies.specs.Given.{Verdict, Exactly, ofCopied}
 use Rattle.ends.specs.Promises.{ofWritingEnd, ofReadingEnd, ofWrote, ofGot, ofWritten, ofRead}
@@ -11,14 +12,14 @@ use Rattle.sched.specs.declared.scheduler.Checked.{Checked}
 use Rattle.sched.specs.declared.scheduler.Checked.the-variants as checked
 use Rattle.sched.specs.declared.register.Registered.{Registered}
 use Rattle.sched.specs.declared.register.Registered.the-variants as registered
-use Rattle.sched.specs.declared.counter.CounterAnswer.{CounterAnswer}
-use Rattle.sched.specs.declared.counter.CounterAnswer.the-variants as counter
-use Rattle.sched.specs.declared.counter.OffsetAnswer.{OffsetAnswer}
-use Rattle.sched.specs.declared.counter.OffsetAnswer.the-variants as offset
-use Rattle.sched.specs.declared.counter.AmountAnswer.{AmountAnswer}
-use Rattle.sched.specs.declared.counter.AmountAnswer.the-variants as amount
-use Rattle.sched.specs.declared.counter.BoolAnswer.{BoolAnswer}
-use Rattle.sched.specs.declared.counter.BoolAnswer.the-variants as bool
+use Rattle.operations.specs.declared.counter.CounterAnswer.{CounterAnswer}
+use Rattle.operations.specs.declared.counter.CounterAnswer.the-variants as counter
+use Rattle.operations.specs.declared.counter.OffsetAnswer.{OffsetAnswer}
+use Rattle.operations.specs.declared.counter.OffsetAnswer.the-variants as offset
+use Rattle.operations.specs.declared.counter.AmountAnswer.{AmountAnswer}
+use Rattle.operations.specs.declared.counter.AmountAnswer.the-variants as amount
+use Rattle.operations.specs.declared.counter.BoolAnswer.{BoolAnswer}
+use Rattle.operations.specs.declared.counter.BoolAnswer.the-variants as bool
 use Rattle.sched.specs.declared.block.LayoutAnswer.{LayoutAnswer}
 use Rattle.sched.specs.declared.block.LayoutAnswer.the-variants as layout
 use Rattle.sched.specs.declared.block.FillStateAnswer.{FillStateAnswer}
@@ -27,16 +28,16 @@ use Rattle.sched.specs.declared.block.BlockAnswer.{BlockAnswer}
 use Rattle.sched.specs.declared.block.BlockAnswer.the-variants as block
 use Rattle.sched.specs.declared.block.BlocksAnswer.{BlocksAnswer}
 use Rattle.sched.specs.declared.block.BlocksAnswer.the-variants as blocks
-use Rattle.sched.specs.declared.operation.NextOperationAnswer.{NextOperationAnswer}
-use Rattle.sched.specs.declared.operation.NextOperationAnswer.the-variants as next
-use Rattle.sched.specs.declared.operation.NextOperation.the-variants as operation
-use Rattle.sched.specs.declared.list.OperationsAnswer.{OperationsAnswer}
-use Rattle.sched.specs.declared.list.OperationsAnswer.the-variants as operations
-use Rattle.sched.specs.declared.list.CumulativeOffsetsAnswer.{CumulativeOffsetsAnswer}
-use Rattle.sched.specs.declared.list.CumulativeOffsetsAnswer.the-variants as starts
-use Rattle.sched.specs.declared.list.CumulativeOffsets.the-variants as offsets
-use Rattle.sched.specs.declared.list.OutsideRangesAnswer.{OutsideRangesAnswer}
-use Rattle.sched.specs.declared.list.OutsideRangesAnswer.the-variants as ranges
+use Rattle.sched.specs.declared.schedule.NextOperationAnswer.{NextOperationAnswer}
+use Rattle.sched.specs.declared.schedule.NextOperationAnswer.the-variants as next
+use Rattle.sched.specs.declared.schedule.NextOperation.the-variants as operation
+use Rattle.operations.specs.declared.list.OperationsAnswer.{OperationsAnswer}
+use Rattle.operations.specs.declared.list.OperationsAnswer.the-variants as operations
+use Rattle.operations.specs.declared.list.CumulativeOffsetsAnswer.{CumulativeOffsetsAnswer}
+use Rattle.operations.specs.declared.list.CumulativeOffsetsAnswer.the-variants as starts
+use Rattle.operations.specs.declared.list.CumulativeOffsets.the-variants as offsets
+use Rattle.operations.specs.declared.list.OutsideRangesAnswer.{OutsideRangesAnswer}
+use Rattle.operations.specs.declared.list.OutsideRangesAnswer.the-variants as ranges
 use Rattle.copies.specs.declared.Copied.{Copied}
 use Rattle.copies.specs.declared.Copied.the-variants as copied
 use Rattle.ends.specs.declared.writing_end.WritingEndAnswer.{WritingEndAnswer}
@@ -93,11 +94,11 @@ use Rattle.stripring.proofs.SentLaws.{accepted, scheduler-refusal, copy
 
 module _ {G : ℕ → List ℕ → Type 0} where
   -- the scheduler's verdict, and that of the copies and the ends
-  given-so : (r : Refusal) (v : sched.Verdict) → RefusalStands r (sched.numberIn v) (sched.valuesIn v) → sched.Exactly G v → GivenAt G r
+  given-so : (r : Refusal) (v : verdict.Verdict) → RefusalStands r (verdict.numberIn v) (verdict.valuesIn v) → verdict.Exactly G v → GivenAt G r
   given-so r v p g =
       record {
-        only = (sched.numberIn v, sched.valuesIn v, p, g .only);
-        always = λ k vs h. subst (RefusalStands r k) (g .always k vs h .1) (subst (λ (n : ℕ). RefusalStands r n (sched.valuesIn v)) (g .always k vs h .0) p);
+        only = (verdict.numberIn v, verdict.valuesIn v, p, g .only);
+        always = λ k vs h. subst (RefusalStands r k) (g .always k vs h .1) (subst (λ (n : ℕ). RefusalStands r n (verdict.valuesIn v)) (g .always k vs h .0) p);
       }
 
   given-to : (r : Refusal) (v : Verdict) → RefusalStands r (v .number) (v .values) → Exactly G v → GivenAt G r
@@ -108,64 +109,64 @@ module _ {G : ℕ → List ℕ → Type 0} where
       }
 
   -- ---- the scheduler's
-  pub checked-given : (x : Checked) → sched.Exactly G (sched.ofChecked x) → GivenAt G (flatChecked x .refusal)
+  pub checked-given : (x : Checked) → verdict.Exactly G (sched.ofChecked x) → GivenAt G (flatChecked x .refusal)
   checked-given (checked.Sound s) g = given-so _ (sched.ofChecked (checked.Sound s)) accepted g
-  checked-given (checked.Refused e) g = given-so _ (sched.refused e) (scheduler-refusal e) g
+  checked-given (checked.Refused e) g = given-so _ (verdict.refused e) (scheduler-refusal e) g
 
-  pub registered-given : (x : Registered) → sched.Exactly G (sched.ofRegistered x) → GivenAt G (flatRegistered x .refusal)
+  pub registered-given : (x : Registered) → verdict.Exactly G (sched.ofRegistered x) → GivenAt G (flatRegistered x .refusal)
   registered-given (registered.Advanced s) g = given-so _ (sched.ofRegistered (registered.Advanced s)) accepted g
-  registered-given (registered.Refused e) g = given-so _ (sched.refused e) (scheduler-refusal e) g
+  registered-given (registered.Refused e) g = given-so _ (verdict.refused e) (scheduler-refusal e) g
 
-  pub counter-given : (x : CounterAnswer) → sched.Exactly G (sched.ofCounter x) → GivenAt G (flatCounter x .refusal)
+  pub counter-given : (x : CounterAnswer) → verdict.Exactly G (sched.ofCounter x) → GivenAt G (flatCounter x .refusal)
   counter-given (counter.Of c) g = given-so _ (sched.ofCounter (counter.Of c)) accepted g
-  counter-given (counter.Refused e) g = given-so _ (sched.refused e) (scheduler-refusal e) g
+  counter-given (counter.Refused e) g = given-so _ (verdict.refused e) (scheduler-refusal e) g
 
-  pub offset-given : (x : OffsetAnswer) → sched.Exactly G (sched.ofOffset x) → GivenAt G (flatOffset x .refusal)
+  pub offset-given : (x : OffsetAnswer) → verdict.Exactly G (sched.ofOffset x) → GivenAt G (flatOffset x .refusal)
   offset-given (offset.Of n) g = given-so _ (sched.ofOffset (offset.Of n)) accepted g
-  offset-given (offset.Refused e) g = given-so _ (sched.refused e) (scheduler-refusal e) g
+  offset-given (offset.Refused e) g = given-so _ (verdict.refused e) (scheduler-refusal e) g
 
-  pub amount-given : (x : AmountAnswer) → sched.Exactly G (sched.ofAmount x) → GivenAt G (flatAmount x .refusal)
-  amount-given (amount.Of n) g = given-so _ (sched.ofAmount (amount.Of n)) accepted g
-  amount-given (amount.Refused e) g = given-so _ (sched.refused e) (scheduler-refusal e) g
+  pub amount-given : (x : AmountAnswer) → verdict.Exactly G (verdict.ofAmount x) → GivenAt G (flatAmount x .refusal)
+  amount-given (amount.Of n) g = given-so _ (verdict.ofAmount (amount.Of n)) accepted g
+  amount-given (amount.Refused e) g = given-so _ (verdict.refused e) (scheduler-refusal e) g
 
-  pub bool-given : (x : BoolAnswer) → sched.Exactly G (sched.ofBool x) → GivenAt G (flatBool x .refusal)
+  pub bool-given : (x : BoolAnswer) → verdict.Exactly G (sched.ofBool x) → GivenAt G (flatBool x .refusal)
   bool-given (bool.Of b) g = given-so _ (sched.ofBool (bool.Of b)) accepted g
-  bool-given (bool.Refused e) g = given-so _ (sched.refused e) (scheduler-refusal e) g
+  bool-given (bool.Refused e) g = given-so _ (verdict.refused e) (scheduler-refusal e) g
 
-  pub layout-given : (x : LayoutAnswer) → sched.Exactly G (sched.ofLayout x) → GivenAt G (flatLayout x .refusal)
+  pub layout-given : (x : LayoutAnswer) → verdict.Exactly G (sched.ofLayout x) → GivenAt G (flatLayout x .refusal)
   layout-given (layout.Of l) g = given-so _ (sched.ofLayout (layout.Of l)) accepted g
-  layout-given (layout.Refused e) g = given-so _ (sched.refused e) (scheduler-refusal e) g
+  layout-given (layout.Refused e) g = given-so _ (verdict.refused e) (scheduler-refusal e) g
 
-  pub fill-given : (x : FillStateAnswer) → sched.Exactly G (sched.ofFillState x) → GivenAt G (flatFillState x .refusal)
+  pub fill-given : (x : FillStateAnswer) → verdict.Exactly G (sched.ofFillState x) → GivenAt G (flatFillState x .refusal)
   fill-given (fill.Of f) g = given-so _ (sched.ofFillState (fill.Of f)) accepted g
-  fill-given (fill.Refused e) g = given-so _ (sched.refused e) (scheduler-refusal e) g
+  fill-given (fill.Refused e) g = given-so _ (verdict.refused e) (scheduler-refusal e) g
 
-  pub block-given : (x : BlockAnswer) → sched.Exactly G (sched.ofBlock x) → GivenAt G (flatBlockAnswer x .refusal)
+  pub block-given : (x : BlockAnswer) → verdict.Exactly G (sched.ofBlock x) → GivenAt G (flatBlockAnswer x .refusal)
   block-given (block.Of b) g = given-so _ (sched.ofBlock (block.Of b)) accepted g
-  block-given (block.Refused e) g = given-so _ (sched.refused e) (scheduler-refusal e) g
+  block-given (block.Refused e) g = given-so _ (verdict.refused e) (scheduler-refusal e) g
 
-  pub blocks-given : (x : BlocksAnswer) → sched.Exactly G (sched.ofBlocks x) → GivenAt G (flatBlocks x .refusal)
+  pub blocks-given : (x : BlocksAnswer) → verdict.Exactly G (sched.ofBlocks x) → GivenAt G (flatBlocks x .refusal)
   blocks-given (blocks.Of b) g = given-so _ (sched.ofBlocks (blocks.Of b)) accepted g
-  blocks-given (blocks.Refused e) g = given-so _ (sched.refused e) (scheduler-refusal e) g
+  blocks-given (blocks.Refused e) g = given-so _ (verdict.refused e) (scheduler-refusal e) g
 
-  pub next-given : (x : NextOperationAnswer) → sched.Exactly G (sched.ofNext x) → GivenAt G (flatNext x .refusal)
+  pub next-given : (x : NextOperationAnswer) → verdict.Exactly G (sched.ofNext x) → GivenAt G (flatNext x .refusal)
   next-given (next.Of (operation.Some o)) g = given-so _ (sched.ofNext (next.Of (operation.Some o))) accepted g
   next-given (next.Of operation.None) g = given-so _ (sched.ofNext (next.Of operation.None)) accepted g
-  next-given (next.Refused e) g = given-so _ (sched.refused e) (scheduler-refusal e) g
+  next-given (next.Refused e) g = given-so _ (verdict.refused e) (scheduler-refusal e) g
 
-  pub operations-given : (x : OperationsAnswer) → sched.Exactly G (sched.ofOperations x) → GivenAt G (flatOperationsAnswer x .refusal)
-  operations-given (operations.Of ops) g = given-so _ (sched.ofOperations (operations.Of ops)) accepted g
-  operations-given (operations.Refused e) g = given-so _ (sched.refused e) (scheduler-refusal e) g
+  pub operations-given : (x : OperationsAnswer) → verdict.Exactly G (verdict.ofOperations x) → GivenAt G (flatOperationsAnswer x .refusal)
+  operations-given (operations.Of ops) g = given-so _ (verdict.ofOperations (operations.Of ops)) accepted g
+  operations-given (operations.Refused e) g = given-so _ (verdict.refused e) (scheduler-refusal e) g
 
-  pub starts-given : (x : CumulativeOffsetsAnswer) → sched.Exactly G (sched.ofCumulativeOffsets x) → GivenAt G (flatStartsAnswer x .refusal)
-  starts-given (starts.Of offsets.None) g = given-so _ (sched.ofCumulativeOffsets (starts.Of offsets.None)) accepted g
-  starts-given (starts.Of (offsets.One x)) g = given-so _ (sched.ofCumulativeOffsets (starts.Of (offsets.One x))) accepted g
-  starts-given (starts.Of (offsets.Two x y)) g = given-so _ (sched.ofCumulativeOffsets (starts.Of (offsets.Two x y))) accepted g
-  starts-given (starts.Refused e) g = given-so _ (sched.refused e) (scheduler-refusal e) g
+  pub starts-given : (x : CumulativeOffsetsAnswer) → verdict.Exactly G (verdict.ofCumulativeOffsets x) → GivenAt G (flatStartsAnswer x .refusal)
+  starts-given (starts.Of offsets.None) g = given-so _ (verdict.ofCumulativeOffsets (starts.Of offsets.None)) accepted g
+  starts-given (starts.Of (offsets.One x)) g = given-so _ (verdict.ofCumulativeOffsets (starts.Of (offsets.One x))) accepted g
+  starts-given (starts.Of (offsets.Two x y)) g = given-so _ (verdict.ofCumulativeOffsets (starts.Of (offsets.Two x y))) accepted g
+  starts-given (starts.Refused e) g = given-so _ (verdict.refused e) (scheduler-refusal e) g
 
-  pub ranges-given : (x : OutsideRangesAnswer) → sched.Exactly G (sched.ofOutsideRanges x) → GivenAt G (flatRangesAnswer x .refusal)
-  ranges-given (ranges.Of ops) g = given-so _ (sched.ofOutsideRanges (ranges.Of ops)) accepted g
-  ranges-given (ranges.Refused e) g = given-so _ (sched.refused e) (scheduler-refusal e) g
+  pub ranges-given : (x : OutsideRangesAnswer) → verdict.Exactly G (verdict.ofOutsideRanges x) → GivenAt G (flatRangesAnswer x .refusal)
+  ranges-given (ranges.Of ops) g = given-so _ (verdict.ofOutsideRanges (ranges.Of ops)) accepted g
+  ranges-given (ranges.Refused e) g = given-so _ (verdict.refused e) (scheduler-refusal e) g
 
   -- ---- of the copies and the ends
   pub copied-given : (x : Copied) → Exactly G (ofCopied x) → GivenAt G (flatCopied x .refusal)

@@ -10,8 +10,8 @@ use denote.Ref.{RefT}
 use denote.Triple.Clauses.{atExit}
 use borrow.Fn.Kinds.{endedOf}
 use Rattle.modular.proofs.Saying.{Says, Leaves}
-use Rattle.sched.specs.declared.refusal.Refusal as sched
-use Rattle.sched.specs.declared.refusal.Refusal.the-variants.{ZeroBufferLength, BufferTooLarge, ItemsWrittenOutOfBounds, ItemsReadOutofBounds, DataAvailOutOfBounds, OperationTooLarge, OperationTooLong, InconsistentOperationType}
+use Rattle.operations.specs.declared.refusal.Refusal as sched
+use Rattle.operations.specs.declared.refusal.Refusal.the-variants.{ZeroBufferLength, BufferTooLarge, ItemsWrittenOutOfBounds, ItemsReadOutofBounds, DataAvailOutOfBounds, OperationTooLarge, OperationTooLong, InconsistentOperationType}
 use Rattle.copies.specs.declared.refusal.Refusal.the-variants.{Scheduler, RingMemory}
 use Rattle.ends.specs.Refusal.{numberOf}
 use Rattle.ends.specs.Ends.{WroteLeft, wroteLeft, GotLeft, gotLeft}

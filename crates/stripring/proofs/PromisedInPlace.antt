@@ -6,7 +6,7 @@ use mathlib.Core.List.{List}
 use native.Mathlib.Omega.{arith}
 use Rattle.copies.proofs.Promised.{KeepsLeft}
 use Rattle.modular.proofs.Saying.{Keeps}
-use Rattle.sched.proofs.Given.{number-some}
+use Rattle.operations.proofs.Given.{number-some}
 use Rattle.copies.specs.declared.refusal.Refusal.the-variants as copies
 use Rattle.ends.specs.declared.reading_end.Got.{Got}
 use Rattle.ends.specs.declared.reading_end.Got.the-variants as got

@@ -3,7 +3,7 @@
 use mathlib.Core.Path.{refl}
 use lib.ListN.{length}
 use Rattle.modular.proofs.Saying.{Keeps}
-use Rattle.sched.specs.declared.operation.OperationType.the-variants.{Read, Write}
+use Rattle.operations.specs.declared.operation.OperationType.the-variants.{Read, Write}
 use Rattle.sched.specs.Given.{Given}
 use Rattle.sched.specs.Scheduler.{schedulerOf}
 use Rattle.copies.specs.Copies.{writeOf, readOf}

@@ -2,10 +2,12 @@
 -- refusal exactly when the paper's table gives it, of what the host's numbers stand for.
 use mathlib.Core.Path.{refl}
 use Rattle.modular.proofs.Saying.{Keeps}
+use Rattle.operations.proofs.Refuses as lists
 use Rattle.sched.proofs.Refuses as refuses
-use Rattle.sched.specs.declared.operation.OperationType.the-variants.{Read, Write}
-use Rattle.sched.specs.Given.{Given, GivenList, GivenOperations, GivenRegister}
-use Rattle.sched.specs.List.{cumulativeLengthOf, cumulativeOffsetsOf, outsideRangesOf, soundListOf}
+use Rattle.operations.specs.declared.operation.OperationType.the-variants.{Read, Write}
+use Rattle.operations.specs.Given.{GivenList}
+use Rattle.sched.specs.Given.{Given, GivenOperations, GivenRegister}
+use Rattle.operations.specs.List.{cumulativeLengthOf, cumulativeOffsetsOf, outsideRangesOf, soundListOf}
 use Rattle.sched.specs.Scheduler.{block0From, block1From, block2From, blocksOf, bufLenOf, counterAnswerOf, fillStateOf, greatestOf, isPositiveFrom, isZeroFrom, layoutOf, lenFrom, nextBlockOf, nextOf, offFrom, offsetAnswerOf, registerListOf, registerOf, scheduleOf, schedulerOf, soundOf}
 use Rattle.stripring.specs.List.{operationsAt}
 use Rattle.stripring.specs.Operation.{operationAt, typeAt}
@@ -255,19 +257,19 @@ schedule-writes-refuses κs a z (ws, p) = rw (schedule-writes-says κs a z ws p)
 
 -- ---- lists
 pub operations-try-new-refuses : Keeps 0 operations-try-new-kinds.ps operations-try-new-kinds.r operations-try-new.Learnt (λ κs a z. GivenAt (GivenList (operationsAt (a .0))) (z .refusal))
-operations-try-new-refuses κs a z (ws, p) = rw (operations-try-new-says κs a z ws p) (operations-given (soundListOf (operationsAt (a .0))) (refuses.ScheduledOperations-try-new-refuses tt (operationsAt (a .0), tt) (soundListOf (operationsAt (a .0))) ((tt, tt), refl)))
+operations-try-new-refuses κs a z (ws, p) = rw (operations-try-new-says κs a z ws p) (operations-given (soundListOf (operationsAt (a .0))) (lists.ScheduledOperations-try-new-refuses tt (operationsAt (a .0), tt) (soundListOf (operationsAt (a .0))) ((tt, tt), refl)))
 
 pub operations-container-refuses : Keeps 0 operations-container-kinds.ps operations-container-kinds.r operations-container.Learnt (λ κs a z. GivenAt (GivenList (operationsAt (a .0))) (z .refusal))
-operations-container-refuses κs a z (ws, p) = rw (operations-container-says κs a z ws p) (operations-given (soundListOf (operationsAt (a .0))) (refuses.container-refuses tt (operationsAt (a .0), tt) (soundListOf (operationsAt (a .0))) ((tt, tt), refl)))
+operations-container-refuses κs a z (ws, p) = rw (operations-container-says κs a z ws p) (operations-given (soundListOf (operationsAt (a .0))) (lists.container-refuses tt (operationsAt (a .0), tt) (soundListOf (operationsAt (a .0))) ((tt, tt), refl)))
 
 pub operations-into-container-refuses : Keeps 0 operations-into-container-kinds.ps operations-into-container-kinds.r operations-into-container.Learnt (λ κs a z. GivenAt (GivenList (operationsAt (a .0))) (z .refusal))
-operations-into-container-refuses κs a z (ws, p) = rw (operations-into-container-says κs a z ws p) (operations-given (soundListOf (operationsAt (a .0))) (refuses.into-container-refuses tt (operationsAt (a .0), tt) (soundListOf (operationsAt (a .0))) ((tt, tt), refl)))
+operations-into-container-refuses κs a z (ws, p) = rw (operations-into-container-says κs a z ws p) (operations-given (soundListOf (operationsAt (a .0))) (lists.into-container-refuses tt (operationsAt (a .0), tt) (soundListOf (operationsAt (a .0))) ((tt, tt), refl)))
 
 pub operations-cumulative-operation-length-refuses : Keeps 0 operations-cumulative-operation-length-kinds.ps operations-cumulative-operation-length-kinds.r operations-cumulative-operation-length.Learnt (λ κs a z. GivenAt (GivenList (operationsAt (a .0))) (z .refusal))
-operations-cumulative-operation-length-refuses κs a z (ws, p) = rw (operations-cumulative-operation-length-says κs a z ws p) (amount-given (cumulativeLengthOf (operationsAt (a .0))) (refuses.cumulative-operation-length-refuses tt (operationsAt (a .0), tt) (cumulativeLengthOf (operationsAt (a .0))) ((tt, tt), refl)))
+operations-cumulative-operation-length-refuses κs a z (ws, p) = rw (operations-cumulative-operation-length-says κs a z ws p) (amount-given (cumulativeLengthOf (operationsAt (a .0))) (lists.cumulative-operation-length-refuses tt (operationsAt (a .0), tt) (cumulativeLengthOf (operationsAt (a .0))) ((tt, tt), refl)))
 
 pub operations-with-cumulative-offset-refuses : Keeps 0 operations-with-cumulative-offset-kinds.ps operations-with-cumulative-offset-kinds.r operations-with-cumulative-offset.Learnt (λ κs a z. GivenAt (GivenList (operationsAt (a .0))) (z .refusal))
-operations-with-cumulative-offset-refuses κs a z (ws, p) = rw (operations-with-cumulative-offset-says κs a z ws p) (starts-given (cumulativeOffsetsOf (operationsAt (a .0))) (refuses.with-cumulative-offset-refuses tt (operationsAt (a .0), tt) (cumulativeOffsetsOf (operationsAt (a .0))) ((tt, tt), refl)))
+operations-with-cumulative-offset-refuses κs a z (ws, p) = rw (operations-with-cumulative-offset-says κs a z ws p) (starts-given (cumulativeOffsetsOf (operationsAt (a .0))) (lists.with-cumulative-offset-refuses tt (operationsAt (a .0), tt) (cumulativeOffsetsOf (operationsAt (a .0))) ((tt, tt), refl)))
 
 pub operations-with-outside-buffer-range-refuses : Keeps 0 operations-with-outside-buffer-range-kinds.ps operations-with-outside-buffer-range-kinds.r operations-with-outside-buffer-range.Learnt (λ κs a z. GivenAt (GivenList (operationsAt (a .0))) (z .refusal))
-operations-with-outside-buffer-range-refuses κs a z (ws, p) = rw (operations-with-outside-buffer-range-says κs a z ws p) (ranges-given (outsideRangesOf (operationsAt (a .0))) (refuses.with-outside-buffer-range-refuses tt (operationsAt (a .0), tt) (outsideRangesOf (operationsAt (a .0))) ((tt, tt), refl)))
+operations-with-outside-buffer-range-refuses κs a z (ws, p) = rw (operations-with-outside-buffer-range-says κs a z ws p) (ranges-given (outsideRangesOf (operationsAt (a .0))) (lists.with-outside-buffer-range-refuses tt (operationsAt (a .0), tt) (outsideRangesOf (operationsAt (a .0))) ((tt, tt), refl)))

@@ -1,6 +1,6 @@
 -- What each export of the scheduler says, in the order of the C header; see SaysEnds.antt.
 use Rattle.modular.proofs.Saying.{Says}
-use Rattle.sched.specs.declared.operation.OperationType.the-variants.{Read, Write}
+use Rattle.operations.specs.declared.operation.OperationType.the-variants.{Read, Write}
 use Rattle.sched.specs.Scheduler.{block0From, block1From, block2From, blocksOf, bufLenOf, counterAnswerOf, fillStateOf, greatestOf, isPositiveFrom, isZeroFrom, layoutOf, lenFrom, nextBlockOf, nextOf, offFrom, offsetAnswerOf, registerListOf, registerOf, scheduleOf, schedulerOf, soundOf}
 use Rattle.stripring.specs.Block.{flatBlockAnswer, flatBlocks, flatFillState, flatLayout}
 use Rattle.stripring.specs.Counter.{flatAmount, flatBool, flatCounter, flatOffset}

@@ -3,9 +3,9 @@ use Prim.Native.Nat.{_%_}
 use Rattle.modular.proofs.Saying.{Says}
 use Rattle.modular.specs.Modulus.{addMod, containsOf, doubleAt, fullRange, isFullRangeOf, modulusOf, negMod, subMod, tryNewNumberOf, tryNewOf, wholeOf}
 use Rattle.sched.specs.Block.{blockOf}
-use Rattle.sched.specs.Diff.{diffOf, isDifferentOf, isSameOf, newValueOf, oldValueOf}
-use Rattle.sched.specs.List.{cumulativeLengthOf, cumulativeOffsetsOf, outsideRangesOf, soundListOf}
-use Rattle.sched.specs.Operation.{defaultOperation, operationOf}
+use Rattle.operations.specs.Diff.{diffOf, isDifferentOf, isSameOf, newValueOf, oldValueOf}
+use Rattle.operations.specs.List.{cumulativeLengthOf, cumulativeOffsetsOf, outsideRangesOf, soundListOf}
+use Rattle.operations.specs.Operation.{defaultOperation, operationOf}
 use Rattle.stripring.specs.Block.{bitAt, blockTypeAt, flatBlock}
 use Rattle.stripring.specs.Counter.{flatAmount}
 use Rattle.stripring.specs.Diff.{diffAt, flatDiff}

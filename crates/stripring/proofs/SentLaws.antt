@@ -4,8 +4,8 @@ use mathlib.Core.Path.{_≡_, refl, ap}
 use mathlib.Core.List.{List, [], _∷_}
 use native.Mathlib.Omega.{arith}
 use borrow.Author.Tests.{ne-eqb}
-use Rattle.sched.proofs.Given.{number-some as scheduler-refusal-some}
-use Rattle.sched.specs.Refusal as of-sched
+use Rattle.operations.proofs.Given.{number-some as scheduler-refusal-some}
+use Rattle.operations.specs.Refusal as of-sched
 use Rattle.sched.specs.declared.block.BlockAnswer.{BlockAnswer}
 use Rattle.sched.specs.declared.block.BlockAnswer.the-variants as block
 use Rattle.sched.specs.declared.block.BlocksAnswer.{BlocksAnswer}
@@ -14,28 +14,28 @@ use Rattle.sched.specs.declared.block.FillStateAnswer.{FillStateAnswer}
 use Rattle.sched.specs.declared.block.FillStateAnswer.the-variants as fill
 use Rattle.sched.specs.declared.block.LayoutAnswer.{LayoutAnswer}
 use Rattle.sched.specs.declared.block.LayoutAnswer.the-variants as layout
-use Rattle.sched.specs.declared.counter.AmountAnswer.{AmountAnswer}
-use Rattle.sched.specs.declared.counter.AmountAnswer.the-variants as amount
-use Rattle.sched.specs.declared.counter.BoolAnswer.{BoolAnswer}
-use Rattle.sched.specs.declared.counter.BoolAnswer.the-variants as bool
-use Rattle.sched.specs.declared.counter.CounterAnswer.{CounterAnswer}
-use Rattle.sched.specs.declared.counter.CounterAnswer.the-variants as counter
-use Rattle.sched.specs.declared.counter.OffsetAnswer.{OffsetAnswer}
-use Rattle.sched.specs.declared.counter.OffsetAnswer.the-variants as offset
-use Rattle.sched.specs.declared.list.CumulativeOffsets.the-variants as offsets
-use Rattle.sched.specs.declared.list.CumulativeOffsetsAnswer.{CumulativeOffsetsAnswer}
-use Rattle.sched.specs.declared.list.CumulativeOffsetsAnswer.the-variants as starts
-use Rattle.sched.specs.declared.list.OperationsAnswer.{OperationsAnswer}
-use Rattle.sched.specs.declared.list.OperationsAnswer.the-variants as operations
-use Rattle.sched.specs.declared.list.OutsideRanges.the-variants as outside
-use Rattle.sched.specs.declared.list.OutsideRangesAnswer.{OutsideRangesAnswer}
-use Rattle.sched.specs.declared.list.OutsideRangesAnswer.the-variants as ranges
-use Rattle.sched.specs.declared.list.ScheduledOperations.the-variants as list
-use Rattle.sched.specs.declared.operation.NextOperation.the-variants as operation
-use Rattle.sched.specs.declared.operation.NextOperationAnswer.{NextOperationAnswer}
-use Rattle.sched.specs.declared.operation.NextOperationAnswer.the-variants as next
-use Rattle.sched.specs.declared.refusal.Refusal as sched
-use Rattle.sched.specs.declared.refusal.Refusal.the-variants.{ZeroBufferLength, BufferTooLarge, ItemsWrittenOutOfBounds, ItemsReadOutofBounds, DataAvailOutOfBounds, OperationTooLarge, OperationTooLong, InconsistentOperationType}
+use Rattle.operations.specs.declared.counter.AmountAnswer.{AmountAnswer}
+use Rattle.operations.specs.declared.counter.AmountAnswer.the-variants as amount
+use Rattle.operations.specs.declared.counter.BoolAnswer.{BoolAnswer}
+use Rattle.operations.specs.declared.counter.BoolAnswer.the-variants as bool
+use Rattle.operations.specs.declared.counter.CounterAnswer.{CounterAnswer}
+use Rattle.operations.specs.declared.counter.CounterAnswer.the-variants as counter
+use Rattle.operations.specs.declared.counter.OffsetAnswer.{OffsetAnswer}
+use Rattle.operations.specs.declared.counter.OffsetAnswer.the-variants as offset
+use Rattle.operations.specs.declared.list.CumulativeOffsets.the-variants as offsets
+use Rattle.operations.specs.declared.list.CumulativeOffsetsAnswer.{CumulativeOffsetsAnswer}
+use Rattle.operations.specs.declared.list.CumulativeOffsetsAnswer.the-variants as starts
+use Rattle.operations.specs.declared.list.OperationsAnswer.{OperationsAnswer}
+use Rattle.operations.specs.declared.list.OperationsAnswer.the-variants as operations
+use Rattle.operations.specs.declared.list.OutsideRanges.the-variants as outside
+use Rattle.operations.specs.declared.list.OutsideRangesAnswer.{OutsideRangesAnswer}
+use Rattle.operations.specs.declared.list.OutsideRangesAnswer.the-variants as ranges
+use Rattle.operations.specs.declared.list.ScheduledOperations.the-variants as list
+use Rattle.sched.specs.declared.schedule.NextOperation.the-variants as operation
+use Rattle.sched.specs.declared.schedule.NextOperationAnswer.{NextOperationAnswer}
+use Rattle.sched.specs.declared.schedule.NextOperationAnswer.the-variants as next
+use Rattle.operations.specs.declared.refusal.Refusal as sched
+use Rattle.operations.specs.declared.refusal.Refusal.the-variants.{ZeroBufferLength, BufferTooLarge, ItemsWrittenOutOfBounds, ItemsReadOutofBounds, DataAvailOutOfBounds, OperationTooLarge, OperationTooLong, InconsistentOperationType}
 use Rattle.sched.specs.declared.scheduler.Checked.{Checked}
 use Rattle.sched.specs.declared.scheduler.Checked.the-variants as checked
 use Rattle.sched.specs.declared.register.Registered.{Registered}

@@ -5,7 +5,7 @@ use Rattle.modular.specs.declared.OptionModulus.{OptionModulus}
 use Rattle.modular.specs.declared.OptionModulus.the-variants as modulus
 use Rattle.modular.specs.declared.OptionNumber.{OptionNumber}
 use Rattle.modular.specs.declared.OptionNumber.the-variants as number
-use Rattle.sched.specs.Refusal.{typeNumber}
+use Rattle.operations.specs.Refusal.{typeNumber}
 use Rattle.sched.specs.declared.block.Bit.{Bit}
 use Rattle.sched.specs.declared.block.Bit.the-variants.{Zero, One}
 use Rattle.sched.specs.declared.block.Block.{Block}
@@ -15,16 +15,16 @@ use Rattle.sched.specs.declared.block.BufferFillState.{BufferFillState}
 use Rattle.sched.specs.declared.block.BufferFillState.the-variants.{Empty, Partial, Full}
 use Rattle.sched.specs.declared.block.BufferLayout.{BufferLayout}
 use Rattle.sched.specs.declared.block.BufferLayout.the-variants.{DataFreeData, FreeDataFree}
-use Rattle.sched.specs.declared.diff.Diff.{Diff}
-use Rattle.sched.specs.declared.diff.Diff.the-variants.{Same, Different}
-use Rattle.sched.specs.declared.list.OutsideRange.{OutsideRange}
-use Rattle.sched.specs.declared.list.OutsideRanges.{OutsideRanges}
-use Rattle.sched.specs.declared.list.OutsideRanges.the-variants as outside
-use Rattle.sched.specs.declared.list.ScheduledOperations.{ScheduledOperations}
-use Rattle.sched.specs.declared.list.ScheduledOperations.the-variants as list
-use Rattle.sched.specs.declared.operation.OperationType.{OperationType}
-use Rattle.sched.specs.declared.operation.OperationType.the-variants.{Read, Write}
-use Rattle.sched.specs.declared.operation.ScheduledOperation.{ScheduledOperation}
+use Rattle.operations.specs.declared.diff.Diff.{Diff}
+use Rattle.operations.specs.declared.diff.Diff.the-variants.{Same, Different}
+use Rattle.operations.specs.declared.list.OutsideRange.{OutsideRange}
+use Rattle.operations.specs.declared.list.OutsideRanges.{OutsideRanges}
+use Rattle.operations.specs.declared.list.OutsideRanges.the-variants as outside
+use Rattle.operations.specs.declared.list.ScheduledOperations.{ScheduledOperations}
+use Rattle.operations.specs.declared.list.ScheduledOperations.the-variants as list
+use Rattle.operations.specs.declared.operation.OperationType.{OperationType}
+use Rattle.operations.specs.declared.operation.OperationType.the-variants.{Read, Write}
+use Rattle.operations.specs.declared.operation.ScheduledOperation.{ScheduledOperation}
 use Rattle.sched.specs.declared.scheduler.RingBufferScheduler.{RingBufferScheduler}
 use Rattle.states.proofs.Rules.{numbered}
 use Rattle.receiver.specs.declared.call.Call.{Call}

@@ -10,7 +10,7 @@ use borrow.Fn.Kinds.{PK, RK, Out, Dens, resT}
 use Rattle.modular.specs.Modulus.{subMod}
 use Rattle.modular.proofs.Saying.{Allows, Keeps}
 use Rattle.sched.specs.Scheduler.{schedulerOf, soundOf}
-use Rattle.sched.specs.declared.refusal.Refusal.the-variants.{BufferTooLarge}
+use Rattle.operations.specs.declared.refusal.Refusal.the-variants.{BufferTooLarge}
 use Rattle.sched.specs.declared.scheduler.Checked.the-variants.{Sound, Refused}
 use Rattle.sched.specs.declared.scheduler.RingBufferScheduler.{RingBufferScheduler}
 use Rattle.copies.specs.Copies.{Left}

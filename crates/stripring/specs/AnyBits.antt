@@ -4,9 +4,9 @@ use mathlib.Core.Path.{_≡_}
 use mathlib.Core.Bool.{true}
 use Rattle.sched.specs.declared.block.Bit.the-variants.{One}
 use Rattle.sched.specs.declared.block.BlockType.the-variants.{Data}
-use Rattle.sched.specs.declared.diff.Diff.the-variants.{Same, Different}
-use Rattle.sched.specs.declared.list.ScheduledOperations.the-variants.{Two}
-use Rattle.sched.specs.declared.operation.OperationType.the-variants.{Write}
+use Rattle.operations.specs.declared.diff.Diff.the-variants.{Same, Different}
+use Rattle.operations.specs.declared.list.ScheduledOperations.the-variants.{Two}
+use Rattle.operations.specs.declared.operation.OperationType.the-variants.{Write}
 use Rattle.receiver.specs.declared.call.Ending.the-variants.{Told}
 use Rattle.receiver.specs.declared.call.Phase.the-variants.{Finished}
 use Rattle.receiver.specs.declared.receiver.Came.the-variants.{Failed}

@@ -17,16 +17,16 @@ use Rattle.sched.specs.declared.block.BufferFillState.{BufferFillState}
 use Rattle.sched.specs.declared.block.BufferFillState.the-variants.{Empty, Partial, Full}
 use Rattle.sched.specs.declared.block.BufferLayout.{BufferLayout}
 use Rattle.sched.specs.declared.block.BufferLayout.the-variants.{DataFreeData, FreeDataFree}
-use Rattle.sched.specs.declared.list.CumulativeOffset.{CumulativeOffset}
-use Rattle.sched.specs.declared.list.CumulativeOffsets.{CumulativeOffsets}
-use Rattle.sched.specs.declared.list.CumulativeOffsets.the-variants as starts
-use Rattle.sched.specs.declared.list.OutsideRange.{OutsideRange}
-use Rattle.sched.specs.declared.list.OutsideRanges.{OutsideRanges}
-use Rattle.sched.specs.declared.list.OutsideRanges.the-variants as ranges
-use Rattle.sched.specs.declared.list.ScheduledOperations.{ScheduledOperations}
-use Rattle.sched.specs.declared.list.ScheduledOperations.the-variants as list
-use Rattle.sched.specs.declared.operation.NextOperation.{NextOperation}
-use Rattle.sched.specs.declared.operation.NextOperation.the-variants as next
+use Rattle.operations.specs.declared.list.CumulativeOffset.{CumulativeOffset}
+use Rattle.operations.specs.declared.list.CumulativeOffsets.{CumulativeOffsets}
+use Rattle.operations.specs.declared.list.CumulativeOffsets.the-variants as starts
+use Rattle.operations.specs.declared.list.OutsideRange.{OutsideRange}
+use Rattle.operations.specs.declared.list.OutsideRanges.{OutsideRanges}
+use Rattle.operations.specs.declared.list.OutsideRanges.the-variants as ranges
+use Rattle.operations.specs.declared.list.ScheduledOperations.{ScheduledOperations}
+use Rattle.operations.specs.declared.list.ScheduledOperations.the-variants as list
+use Rattle.sched.specs.declared.schedule.NextOperation.{NextOperation}
+use Rattle.sched.specs.declared.schedule.NextOperation.the-variants as next
 use Rattle.sched.specs.declared.scheduler.RingBufferScheduler.{RingBufferScheduler}
 use Rattle.ends.specs.declared.reading_end.ReadCounter as ends-read
 use Rattle.ends.specs.declared.reading_end.ReadingEnd as ends-reading

@@ -1,15 +1,15 @@
 -- The flat forms of the answers that are one number. A bool is 0 or 1.
 use Prim.Native.Nat.{ℕ}
 use mathlib.Core.Bool.{Bool, true, false}
-use Rattle.sched.specs.declared.counter.AmountAnswer.{AmountAnswer}
-use Rattle.sched.specs.declared.counter.AmountAnswer.the-variants as amount
-use Rattle.sched.specs.declared.counter.BoolAnswer.{BoolAnswer}
-use Rattle.sched.specs.declared.counter.BoolAnswer.the-variants as bool
-use Rattle.sched.specs.declared.counter.CounterAnswer.{CounterAnswer}
-use Rattle.sched.specs.declared.counter.CounterAnswer.the-variants as counter
-use Rattle.sched.specs.declared.counter.OffsetAnswer.{OffsetAnswer}
-use Rattle.sched.specs.declared.counter.OffsetAnswer.the-variants as offset
-use Rattle.sched.specs.declared.refusal.Refusal.{Refusal}
+use Rattle.operations.specs.declared.counter.AmountAnswer.{AmountAnswer}
+use Rattle.operations.specs.declared.counter.AmountAnswer.the-variants as amount
+use Rattle.operations.specs.declared.counter.BoolAnswer.{BoolAnswer}
+use Rattle.operations.specs.declared.counter.BoolAnswer.the-variants as bool
+use Rattle.operations.specs.declared.counter.CounterAnswer.{CounterAnswer}
+use Rattle.operations.specs.declared.counter.CounterAnswer.the-variants as counter
+use Rattle.operations.specs.declared.counter.OffsetAnswer.{OffsetAnswer}
+use Rattle.operations.specs.declared.counter.OffsetAnswer.the-variants as offset
+use Rattle.operations.specs.declared.refusal.Refusal.{Refusal}
 use Rattle.stripring.specs.declared.flat.U64Answer.{U64Answer}
 use Rattle.stripring.specs.Flat.{noRefusal, flatRefusal}
 

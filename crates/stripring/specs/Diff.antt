@@ -1,8 +1,8 @@
 -- What a host's difference stands for, and the flat form of one.
 use mathlib.Core.Bool.{cond}
 use lib.Dec.{eqb}
-use Rattle.sched.specs.declared.diff.Diff as sched
-use Rattle.sched.specs.declared.diff.Diff.the-variants.{Same, Different}
+use Rattle.operations.specs.declared.diff.Diff as sched
+use Rattle.operations.specs.declared.diff.Diff.the-variants.{Same, Different}
 use Rattle.stripring.specs.declared.flat.Diff.{Diff}
 
 -- where `different` is 0 only `old` is looked at

@@ -1,9 +1,9 @@
 -- The flat forms of refusals. Their numbers and values stand in the crates that refuse; a value that a refusal lacks is 0.
 use Prim.Native.Nat.{ℕ}
-use Rattle.sched.specs.declared.refusal.Refusal as sched
-use Rattle.sched.specs.declared.values.Values.{Values}
-use Rattle.sched.specs.Refusal as of-sched
-use Rattle.sched.specs.Refusal.{packed}
+use Rattle.operations.specs.declared.refusal.Refusal as sched
+use Rattle.operations.specs.declared.values.Values.{Values}
+use Rattle.operations.specs.Refusal as of-sched
+use Rattle.operations.specs.Refusal.{packed}
 use Rattle.copies.specs.declared.refusal.Refusal as copies
 use Rattle.copies.specs.Refusal as of-copies
 use Rattle.ends.specs.declared.refusal.Refusal as ends

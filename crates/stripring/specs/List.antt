@@ -2,19 +2,19 @@
 use Prim.Native.Nat.{ℕ}
 use mathlib.Core.Bool.{cond}
 use lib.Dec.{eqb}
-use Rattle.sched.specs.declared.list.CumulativeOffsets.{CumulativeOffsets}
-use Rattle.sched.specs.declared.list.CumulativeOffsets.the-variants as cumulative
-use Rattle.sched.specs.declared.list.CumulativeOffsetsAnswer.{CumulativeOffsetsAnswer}
-use Rattle.sched.specs.declared.list.CumulativeOffsetsAnswer.the-variants as cumulatives
-use Rattle.sched.specs.declared.list.OperationsAnswer as sched
-use Rattle.sched.specs.declared.list.OperationsAnswer.the-variants as operations
-use Rattle.sched.specs.declared.list.OutsideRange.{OutsideRange}
-use Rattle.sched.specs.declared.list.OutsideRanges.{OutsideRanges}
-use Rattle.sched.specs.declared.list.OutsideRanges.the-variants as outside
-use Rattle.sched.specs.declared.list.OutsideRangesAnswer.{OutsideRangesAnswer}
-use Rattle.sched.specs.declared.list.OutsideRangesAnswer.the-variants as outsides
-use Rattle.sched.specs.declared.list.ScheduledOperations.{ScheduledOperations}
-use Rattle.sched.specs.declared.list.ScheduledOperations.the-variants.{None, One, Two}
+use Rattle.operations.specs.declared.list.CumulativeOffsets.{CumulativeOffsets}
+use Rattle.operations.specs.declared.list.CumulativeOffsets.the-variants as cumulative
+use Rattle.operations.specs.declared.list.CumulativeOffsetsAnswer.{CumulativeOffsetsAnswer}
+use Rattle.operations.specs.declared.list.CumulativeOffsetsAnswer.the-variants as cumulatives
+use Rattle.operations.specs.declared.list.OperationsAnswer as sched
+use Rattle.operations.specs.declared.list.OperationsAnswer.the-variants as operations
+use Rattle.operations.specs.declared.list.OutsideRange.{OutsideRange}
+use Rattle.operations.specs.declared.list.OutsideRanges.{OutsideRanges}
+use Rattle.operations.specs.declared.list.OutsideRanges.the-variants as outside
+use Rattle.operations.specs.declared.list.OutsideRangesAnswer.{OutsideRangesAnswer}
+use Rattle.operations.specs.declared.list.OutsideRangesAnswer.the-variants as outsides
+use Rattle.operations.specs.declared.list.ScheduledOperations.{ScheduledOperations}
+use Rattle.operations.specs.declared.list.ScheduledOperations.the-variants.{None, One, Two}
 use Rattle.stripring.specs.declared.flat.Operation.{Operation}
 use Rattle.stripring.specs.declared.flat.Operations.{Operations}
 use Rattle.stripring.specs.declared.flat.OperationsAnswer.{OperationsAnswer}

@@ -2,14 +2,14 @@
 use Prim.Native.Nat.{ℕ}
 use mathlib.Core.Bool.{cond}
 use lib.Dec.{eqb}
-use Rattle.sched.specs.declared.operation.NextOperation.the-variants as next
-use Rattle.sched.specs.declared.operation.NextOperationAnswer.{NextOperationAnswer}
-use Rattle.sched.specs.declared.operation.NextOperationAnswer.the-variants as nexts
-use Rattle.sched.specs.declared.operation.OperationType.{OperationType}
-use Rattle.sched.specs.declared.operation.OperationType.the-variants.{Read, Write}
-use Rattle.sched.specs.declared.operation.ScheduledOperation.{ScheduledOperation}
-use Rattle.sched.specs.Operation.{operationOf}
-use Rattle.sched.specs.Refusal.{typeNumber}
+use Rattle.sched.specs.declared.schedule.NextOperation.the-variants as next
+use Rattle.sched.specs.declared.schedule.NextOperationAnswer.{NextOperationAnswer}
+use Rattle.sched.specs.declared.schedule.NextOperationAnswer.the-variants as nexts
+use Rattle.operations.specs.declared.operation.OperationType.{OperationType}
+use Rattle.operations.specs.declared.operation.OperationType.the-variants.{Read, Write}
+use Rattle.operations.specs.declared.operation.ScheduledOperation.{ScheduledOperation}
+use Rattle.operations.specs.Operation.{operationOf}
+use Rattle.operations.specs.Refusal.{typeNumber}
 use Rattle.stripring.specs.declared.flat.NextAnswer.{NextAnswer}
 use Rattle.stripring.specs.declared.flat.Operation.{Operation}
 use Rattle.stripring.specs.Flat.{noRefusal, flatRefusal}

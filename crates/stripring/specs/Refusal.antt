@@ -1,8 +1,8 @@
 -- What the refusal in a host's call stands for. Any number but 1 to 7, 9 and 11 to 13 is 8.
 use mathlib.Core.Bool.{cond}
 use lib.Dec.{eqb}
-use Rattle.sched.specs.declared.refusal.Refusal as sched
-use Rattle.sched.specs.declared.refusal.Refusal.the-variants.{ZeroBufferLength, BufferTooLarge, ItemsWrittenOutOfBounds, ItemsReadOutofBounds, DataAvailOutOfBounds, OperationTooLarge, OperationTooLong, InconsistentOperationType}
+use Rattle.operations.specs.declared.refusal.Refusal as sched
+use Rattle.operations.specs.declared.refusal.Refusal.the-variants.{ZeroBufferLength, BufferTooLarge, ItemsWrittenOutOfBounds, ItemsReadOutofBounds, DataAvailOutOfBounds, OperationTooLarge, OperationTooLong, InconsistentOperationType}
 use Rattle.copies.specs.declared.refusal.Refusal.the-variants.{Scheduler, RingMemory}
 use Rattle.states.specs.declared.refusal.Refusal as receiver
 use Rattle.states.specs.declared.refusal.Refusal.the-variants.{Copy, AnswerMissing, Misfit, PendingFull}

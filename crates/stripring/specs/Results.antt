@@ -3,7 +3,7 @@
 use Prim.Native.Nat.{ℕ}
 use mathlib.Core.Bool.{Bool}
 use mathlib.Core.List.{List}
-use Rattle.sched.specs.Refusal as of-sched
+use Rattle.operations.specs.Refusal as of-sched
 use Rattle.sched.specs.declared.block.Block.{Block}
 use Rattle.sched.specs.declared.block.BlockAnswer.the-variants as block
 use Rattle.sched.specs.declared.block.BlockAnswer.{BlockAnswer}
@@ -16,27 +16,27 @@ use Rattle.sched.specs.declared.block.FillStateAnswer.the-variants as fill
 use Rattle.sched.specs.declared.block.FillStateAnswer.{FillStateAnswer}
 use Rattle.sched.specs.declared.block.LayoutAnswer.the-variants as layout
 use Rattle.sched.specs.declared.block.LayoutAnswer.{LayoutAnswer}
-use Rattle.sched.specs.declared.counter.AmountAnswer.the-variants as amount
-use Rattle.sched.specs.declared.counter.AmountAnswer.{AmountAnswer}
-use Rattle.sched.specs.declared.counter.BoolAnswer.the-variants as bool
-use Rattle.sched.specs.declared.counter.BoolAnswer.{BoolAnswer}
-use Rattle.sched.specs.declared.counter.CounterAnswer.the-variants as counter
-use Rattle.sched.specs.declared.counter.CounterAnswer.{CounterAnswer}
-use Rattle.sched.specs.declared.counter.OffsetAnswer.the-variants as offset
-use Rattle.sched.specs.declared.counter.OffsetAnswer.{OffsetAnswer}
-use Rattle.sched.specs.declared.list.CumulativeOffsets.{CumulativeOffsets}
-use Rattle.sched.specs.declared.list.CumulativeOffsetsAnswer.the-variants as starts
-use Rattle.sched.specs.declared.list.CumulativeOffsetsAnswer.{CumulativeOffsetsAnswer}
-use Rattle.sched.specs.declared.list.OperationsAnswer.the-variants as operations
-use Rattle.sched.specs.declared.list.OperationsAnswer.{OperationsAnswer}
-use Rattle.sched.specs.declared.list.OutsideRanges.{OutsideRanges}
-use Rattle.sched.specs.declared.list.OutsideRangesAnswer.the-variants as ranges
-use Rattle.sched.specs.declared.list.OutsideRangesAnswer.{OutsideRangesAnswer}
-use Rattle.sched.specs.declared.list.ScheduledOperations.{ScheduledOperations}
-use Rattle.sched.specs.declared.operation.NextOperation.{NextOperation}
-use Rattle.sched.specs.declared.operation.NextOperationAnswer.the-variants as next
-use Rattle.sched.specs.declared.operation.NextOperationAnswer.{NextOperationAnswer}
-use Rattle.sched.specs.declared.refusal.Refusal as sched
+use Rattle.operations.specs.declared.counter.AmountAnswer.the-variants as amount
+use Rattle.operations.specs.declared.counter.AmountAnswer.{AmountAnswer}
+use Rattle.operations.specs.declared.counter.BoolAnswer.the-variants as bool
+use Rattle.operations.specs.declared.counter.BoolAnswer.{BoolAnswer}
+use Rattle.operations.specs.declared.counter.CounterAnswer.the-variants as counter
+use Rattle.operations.specs.declared.counter.CounterAnswer.{CounterAnswer}
+use Rattle.operations.specs.declared.counter.OffsetAnswer.the-variants as offset
+use Rattle.operations.specs.declared.counter.OffsetAnswer.{OffsetAnswer}
+use Rattle.operations.specs.declared.list.CumulativeOffsets.{CumulativeOffsets}
+use Rattle.operations.specs.declared.list.CumulativeOffsetsAnswer.the-variants as starts
+use Rattle.operations.specs.declared.list.CumulativeOffsetsAnswer.{CumulativeOffsetsAnswer}
+use Rattle.operations.specs.declared.list.OperationsAnswer.the-variants as operations
+use Rattle.operations.specs.declared.list.OperationsAnswer.{OperationsAnswer}
+use Rattle.operations.specs.declared.list.OutsideRanges.{OutsideRanges}
+use Rattle.operations.specs.declared.list.OutsideRangesAnswer.the-variants as ranges
+use Rattle.operations.specs.declared.list.OutsideRangesAnswer.{OutsideRangesAnswer}
+use Rattle.operations.specs.declared.list.ScheduledOperations.{ScheduledOperations}
+use Rattle.sched.specs.declared.schedule.NextOperation.{NextOperation}
+use Rattle.sched.specs.declared.schedule.NextOperationAnswer.the-variants as next
+use Rattle.sched.specs.declared.schedule.NextOperationAnswer.{NextOperationAnswer}
+use Rattle.operations.specs.declared.refusal.Refusal as sched
 use Rattle.sched.specs.declared.scheduler.Checked.the-variants as checked
 use Rattle.sched.specs.declared.scheduler.Checked.{Checked}
 use Rattle.sched.specs.declared.register.Registered.the-variants as registered

@@ -1,6 +1,6 @@
 -- What a host's scheduler stands for, and the flat forms of the answers that are one.
 use Prim.Native.Nat.{ℕ, _^_}
-use Rattle.sched.specs.declared.refusal.Refusal.{Refusal}
+use Rattle.operations.specs.declared.refusal.Refusal.{Refusal}
 use Rattle.sched.specs.declared.scheduler.Checked.{Checked}
 use Rattle.sched.specs.declared.scheduler.Checked.the-variants as checked
 use Rattle.sched.specs.declared.register.Registered.{Registered}

@@ -18,16 +18,16 @@ use Rattle.sched.specs.declared.block.BufferFillState.{BufferFillState}
 use Rattle.sched.specs.declared.block.BufferFillState.the-variants.{Empty, Partial, Full}
 use Rattle.sched.specs.declared.block.BufferLayout.{BufferLayout}
 use Rattle.sched.specs.declared.block.BufferLayout.the-variants.{DataFreeData, FreeDataFree}
-use Rattle.sched.specs.declared.diff.Diff as sched-diff
-use Rattle.sched.specs.declared.diff.Diff.the-variants.{Same, Different}
-use Rattle.sched.specs.declared.list.OutsideRange.{OutsideRange}
-use Rattle.sched.specs.declared.list.OutsideRanges.{OutsideRanges}
-use Rattle.sched.specs.declared.list.OutsideRanges.the-variants as outside
-use Rattle.sched.specs.declared.list.ScheduledOperations.{ScheduledOperations}
-use Rattle.sched.specs.declared.list.ScheduledOperations.the-variants as list
-use Rattle.sched.specs.declared.operation.OperationType.{OperationType}
-use Rattle.sched.specs.declared.operation.OperationType.the-variants.{Read, Write}
-use Rattle.sched.specs.declared.operation.ScheduledOperation.{ScheduledOperation}
+use Rattle.operations.specs.declared.diff.Diff as sched-diff
+use Rattle.operations.specs.declared.diff.Diff.the-variants.{Same, Different}
+use Rattle.operations.specs.declared.list.OutsideRange.{OutsideRange}
+use Rattle.operations.specs.declared.list.OutsideRanges.{OutsideRanges}
+use Rattle.operations.specs.declared.list.OutsideRanges.the-variants as outside
+use Rattle.operations.specs.declared.list.ScheduledOperations.{ScheduledOperations}
+use Rattle.operations.specs.declared.list.ScheduledOperations.the-variants as list
+use Rattle.operations.specs.declared.operation.OperationType.{OperationType}
+use Rattle.operations.specs.declared.operation.OperationType.the-variants.{Read, Write}
+use Rattle.operations.specs.declared.operation.ScheduledOperation.{ScheduledOperation}
 use Rattle.sched.specs.declared.scheduler.RingBufferScheduler.{RingBufferScheduler}
 use Rattle.ends.specs.declared.reading_end.ReadCounter as ends-read
 use Rattle.ends.specs.declared.reading_end.ReadingEnd as ends-reading

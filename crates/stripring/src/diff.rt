@@ -1,6 +1,6 @@
 // Whether two values are the same or different.
 ghost use mathlib.Core.Path.{_≡_};
-ghost use Rattle.sched.specs.Diff.{diffOf, isSameOf, isDifferentOf, oldValueOf, newValueOf};
+ghost use Rattle.operations.specs.Diff.{diffOf, isSameOf, isDifferentOf, oldValueOf, newValueOf};
 ghost use Rattle.stripring.specs.Diff.{diffAt, flatDiff};
 use crate::flat::Diff;
 

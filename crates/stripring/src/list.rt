@@ -1,6 +1,6 @@
 // The two-place list of operations.
 ghost use mathlib.Core.Path.{_≡_};
-ghost use Rattle.sched.specs.List.{soundListOf, cumulativeLengthOf, cumulativeOffsetsOf, outsideRangesOf};
+ghost use Rattle.operations.specs.List.{soundListOf, cumulativeLengthOf, cumulativeOffsetsOf, outsideRangesOf};
 ghost use Rattle.stripring.specs.Counter.{flatAmount};
 ghost use Rattle.stripring.specs.List.{operationsAt, flatOperations, flatOperationsAnswer, flatStarts, flatStartsAnswer, noRange, flatRange, flatRanges, flatRangesAnswer};
 use crate::counter::flat_amount;

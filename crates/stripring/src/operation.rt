@@ -1,6 +1,6 @@
 // Operations.
 ghost use mathlib.Core.Path.{_≡_};
-ghost use Rattle.sched.specs.Operation.{operationOf, defaultOperation};
+ghost use Rattle.operations.specs.Operation.{operationOf, defaultOperation};
 ghost use Rattle.stripring.specs.Operation.{typeAt, operationAt, noOperation, flatOperation, flatNext};
 use crate::flat::NextAnswer;
 use crate::flat::Operation;

@@ -1,7 +1,7 @@
 -- The record's refusal, then that of the memory, leave all as it was; else the scheduler's move is made.
 use mathlib.Core.Path.{sym, _∙_}
 use Rattle.copies.proofs.Laws.{refused-by-record, refused-by-memory, move-fits, got}
-use Rattle.sched.specs.declared.operation.OperationType.the-variants.{Read}
+use Rattle.operations.specs.declared.operation.OperationType.the-variants.{Read}
 use borrow.Author.Needs.{needs}
 use Rattle.copies.proofs.read.Statement.{statement}
 use Rattle.copies.proofs.read.Tie as tie

@@ -1,7 +1,7 @@
 -- The record's refusal, then that of the memory, leave all as it was; else the scheduler's move is made.
 use mathlib.Core.Path.{sym, _∙_}
 use Rattle.copies.proofs.Laws.{refused-by-record, refused-by-memory, move-fits, written}
-use Rattle.sched.specs.declared.operation.OperationType.the-variants.{Write}
+use Rattle.operations.specs.declared.operation.OperationType.the-variants.{Write}
 use borrow.Author.Needs.{needs}
 use Rattle.copies.proofs.write.Statement.{statement}
 use Rattle.copies.proofs.write.Tie as tie

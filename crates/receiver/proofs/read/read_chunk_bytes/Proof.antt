@@ -1,7 +1,7 @@
 -- By the parts. What a sound record is after a move is sound.
 use native.Mathlib.Omega.{arith}
 use Rattle.sched.proofs.RegisterLaws.{advanced-sound}
-use Rattle.sched.specs.declared.operation.OperationType.the-variants.{Read}
+use Rattle.operations.specs.declared.operation.OperationType.the-variants.{Read}
 use borrow.Author.Needs.{needs}
 use Rattle.receiver.proofs.read.read_chunk_bytes.Statement.{statement}
 use Rattle.receiver.proofs.read.read_chunk_bytes.Tie as tie

@@ -2,7 +2,7 @@
 use mathlib.Core.Path.{sym, _∙_}
 use native.Mathlib.Omega.{arith}
 use Rattle.sched.proofs.Laws.{offset-lt}
-use Rattle.sched.specs.declared.operation.OperationType.the-variants.{Read, Write}
+use Rattle.operations.specs.declared.operation.OperationType.the-variants.{Read, Write}
 use borrow.Author.Needs.{needs}
 use Rattle.sched.proofs.scheduler.RingBufferScheduler.blocks_in.Statement.{statement}
 use Rattle.sched.proofs.scheduler.RingBufferScheduler.blocks_in.Tie as tie

@@ -1,0 +1,6 @@
+pub mod ListLaws
+pub mod Says
+pub mod Given
+pub mod Refuses
+pub mod Promised
+pub mod PromisedValues

@@ -1,0 +1,6 @@
+pub mod Refusal
+pub mod Operation
+pub mod List
+pub mod Diff
+pub mod Given
+pub mod Promise

@@ -42,17 +42,17 @@ use Rattle.receiver.proofs.receiver.Ended.Laws as E′
 use Rattle.receiver.proofs.receiver.ReceiverState as Q
 use Rattle.receiver.proofs.receiver.ReceiverState.Laws as Q′
 use Rattle.driver.proofs.service_chunk_acknowledgements as g₁
-use Rattle.stripring.specs.Receiver.{receiverAt, flatEnded}
-use Rattle.stripring.specs.declared.flat.EndedAnswer.{EndedAnswer}
-use Rattle.stripring.specs.declared.flat.Receiver.{Receiver}
-use Rattle.stripring.proofs.flat.EndedAnswer as Z
-use Rattle.stripring.proofs.flat.EndedAnswer.Laws as Z′
-use Rattle.stripring.proofs.flat.Receiver as F
-use Rattle.stripring.proofs.flat.Receiver.Laws as F′
-use Rattle.stripring.proofs.receiver_record.receiver_state as g₀
-use Rattle.stripring.proofs.receiver_record.receiver_state.Symbol as g₀-def
-use Rattle.stripring.proofs.receiver_record.flat_ended as g₂
-use Rattle.stripring.proofs.receiver_record.flat_ended.Symbol as g₂-def
+use Rattle.flat.specs.Receiver.{receiverAt, flatEnded}
+use Rattle.flat.specs.declared.structs.EndedAnswer.{EndedAnswer}
+use Rattle.flat.specs.declared.structs.Receiver.{Receiver}
+use Rattle.flat.proofs.structs.EndedAnswer as Z
+use Rattle.flat.proofs.structs.EndedAnswer.Laws as Z′
+use Rattle.flat.proofs.structs.Receiver as F
+use Rattle.flat.proofs.structs.Receiver.Laws as F′
+use Rattle.flat.proofs.receiver_record.receiver_state as g₀
+use Rattle.flat.proofs.receiver_record.receiver_state.Symbol as g₀-def
+use Rattle.flat.proofs.receiver_record.flat_ended as g₂
+use Rattle.flat.proofs.receiver_record.flat_ended.Symbol as g₂-def
 use Rattle.stripring.proofs.receiver_run.stripring_receiver_service_chunk_acknowledgements as f
 
 abbrev pub Fl : RattleType

@@ -73,24 +73,24 @@ use Rattle.states.specs.declared.state.PotentialFailureAnswer.the-variants as p
 use Rattle.states.specs.declared.state.StateAnswer.{StateAnswer}
 use Rattle.states.specs.declared.state.StateAnswer.the-variants as state
 use Rattle.states.proofs.AnswerSays.{failure-fits, state-fits}
-use Rattle.stripring.specs.Back.{RefusalStands}
-use Rattle.stripring.specs.Block.{flatLayout, flatFillState, flatBlockAnswer, flatBlocks}
-use Rattle.stripring.specs.Call.{flatStep}
-use Rattle.stripring.specs.Copy.{flatCopied}
-use Rattle.stripring.specs.Counter.{flatCounter, flatOffset, flatAmount, flatBool}
-use Rattle.stripring.specs.Failure.{flatFailureAnswer, flatPotentialFailure}
-use Rattle.stripring.specs.Flat.{noRefusal, flatReceiverRefusal}
+use Rattle.flat.specs.Back.{RefusalStands}
+use Rattle.flat.specs.Block.{flatLayout, flatFillState, flatBlockAnswer, flatBlocks}
+use Rattle.flat.specs.Call.{flatStep}
+use Rattle.flat.specs.Copy.{flatCopied}
+use Rattle.flat.specs.Counter.{flatCounter, flatOffset, flatAmount, flatBool}
+use Rattle.flat.specs.Failure.{flatFailureAnswer, flatPotentialFailure}
+use Rattle.flat.specs.Flat.{noRefusal, flatReceiverRefusal}
 use Rattle.stripring.specs.Given.{GivenAt, GivenStored, fits, given-12-stored}
 use Rattle.stripring.specs.GivenRun.{ofEnded}
-use Rattle.stripring.specs.List.{flatOperationsAnswer, flatStartsAnswer, flatRangesAnswer}
-use Rattle.stripring.specs.Operation.{flatNext}
-use Rattle.stripring.specs.ReadingEnd.{flatReadingEndAnswer, flatGot, flatReadCounter}
-use Rattle.stripring.specs.Receiver.{flatReceiverAnswer, flatEnded}
-use Rattle.stripring.specs.Scheduler.{flatChecked, flatRegistered}
-use Rattle.stripring.specs.State.{flatStateAnswer}
-use Rattle.stripring.specs.WritingEnd.{flatWritingEndAnswer, flatWrote, flatWrittenCounter}
-use Rattle.stripring.specs.declared.flat.Refusal.{Refusal}
-use Rattle.stripring.proofs.SentLaws.{accepted, scheduler-refusal, copy-refusal, end-refusal, receiver-refusal}
+use Rattle.flat.specs.List.{flatOperationsAnswer, flatStartsAnswer, flatRangesAnswer}
+use Rattle.flat.specs.Operation.{flatNext}
+use Rattle.flat.specs.ReadingEnd.{flatReadingEndAnswer, flatGot, flatReadCounter}
+use Rattle.flat.specs.Receiver.{flatReceiverAnswer, flatEnded}
+use Rattle.flat.specs.Scheduler.{flatChecked, flatRegistered}
+use Rattle.flat.specs.State.{flatStateAnswer}
+use Rattle.flat.specs.WritingEnd.{flatWritingEndAnswer, flatWrote, flatWrittenCounter}
+use Rattle.flat.specs.declared.structs.Refusal.{Refusal}
+use Rattle.flat.proofs.SentLaws.{accepted, scheduler-refusal, copy-refusal, end-refusal, receiver-refusal}
 
 module _ {G : ℕ → List ℕ → Type 0} where
   -- the scheduler's verdict, and that of the copies and the ends

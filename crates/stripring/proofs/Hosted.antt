@@ -34,20 +34,20 @@ use Rattle.ends.specs.declared.writing_end.Wrote.{Wrote}
 use Rattle.ends.specs.declared.writing_end.Wrote.the-variants as wrote
 use Rattle.ends.specs.declared.writing_end.WrittenCounterAnswer as ends-written-answer
 use Rattle.ends.specs.declared.writing_end.WrittenCounterAnswer.the-variants as writtenCounter
-use Rattle.stripring.specs.Flat.{flatRefusal, flatEndRefusal}
+use Rattle.flat.specs.Flat.{flatRefusal, flatEndRefusal}
 use Rattle.stripring.specs.Hosted.{FlatCalls, endRefusalAt, byNumber, wroteAt, gotAt, wroteLeftAt, gotLeftAt, writtenAt, readAt, writingAt, readingAt, writtenIn, readIn, hosted}
-use Rattle.stripring.specs.ReadingEnd.{readCounterAt, readingEndAt, flatReadingEnd, flatReadingEndAnswer, flatReadCounter, flatGot, GotAnswerLeft, flatGotLeft}
-use Rattle.stripring.specs.Refusal.{schedulerRefusalAt}
-use Rattle.stripring.specs.WritingEnd.{writtenCounterAt, writingEndAt, flatWritingEnd, flatWritingEndAnswer, flatWrittenCounter, flatWrote, WroteAnswerLeft, flatWroteLeft}
-use Rattle.stripring.specs.declared.flat.ReadCounter.{ReadCounter}
-use Rattle.stripring.specs.declared.flat.ReadCounterAnswer.{ReadCounterAnswer}
-use Rattle.stripring.specs.declared.flat.ReadingEnd.{ReadingEnd}
-use Rattle.stripring.specs.declared.flat.ReadingEndAnswer.{ReadingEndAnswer}
-use Rattle.stripring.specs.declared.flat.WritingEnd.{WritingEnd}
-use Rattle.stripring.specs.declared.flat.WritingEndAnswer.{WritingEndAnswer}
-use Rattle.stripring.specs.declared.flat.WrittenCounter.{WrittenCounter}
-use Rattle.stripring.specs.declared.flat.WrittenCounterAnswer.{WrittenCounterAnswer}
-use Rattle.stripring.proofs.BackLaws.{scheduler-refusal-back}
+use Rattle.flat.specs.ReadingEnd.{readCounterAt, readingEndAt, flatReadingEnd, flatReadingEndAnswer, flatReadCounter, flatGot, GotAnswerLeft, flatGotLeft}
+use Rattle.flat.specs.Refusal.{schedulerRefusalAt}
+use Rattle.flat.specs.WritingEnd.{writtenCounterAt, writingEndAt, flatWritingEnd, flatWritingEndAnswer, flatWrittenCounter, flatWrote, WroteAnswerLeft, flatWroteLeft}
+use Rattle.flat.specs.declared.structs.ReadCounter.{ReadCounter}
+use Rattle.flat.specs.declared.structs.ReadCounterAnswer.{ReadCounterAnswer}
+use Rattle.flat.specs.declared.structs.ReadingEnd.{ReadingEnd}
+use Rattle.flat.specs.declared.structs.ReadingEndAnswer.{ReadingEndAnswer}
+use Rattle.flat.specs.declared.structs.WritingEnd.{WritingEnd}
+use Rattle.flat.specs.declared.structs.WritingEndAnswer.{WritingEndAnswer}
+use Rattle.flat.specs.declared.structs.WrittenCounter.{WrittenCounter}
+use Rattle.flat.specs.declared.structs.WrittenCounterAnswer.{WrittenCounterAnswer}
+use Rattle.flat.proofs.BackLaws.{scheduler-refusal-back}
 use Rattle.stripring.proofs.SaysEnds.{writing-end-write-says, writing-end-send-says, writing-end-take-says, reading-end-read-says, reading-end-send-says, reading-end-take-says}
 use Rattle.stripring.proofs.writing_end.stripring_writing_end_write.Kinds as write-kinds
 use Rattle.stripring.proofs.writing_end.stripring_writing_end_write.Reads as write

@@ -11,15 +11,15 @@ use Rattle.ends.specs.declared.writing_end.WritingEndAnswer as ends-writing-ans
 use Rattle.ends.specs.declared.writing_end.WrittenCounter as ends-written
 use Rattle.ends.specs.declared.writing_end.Wrote.{Wrote}
 use Rattle.ends.specs.Ends.{WroteLeft, wroteLeft, wroteOf, GotLeft, gotLeft, gotOf, takeReadOf, takeWrittenOf}
-use Rattle.stripring.specs.declared.flat.MovedAnswer.{MovedAnswer}
-use Rattle.stripring.specs.declared.flat.ReadCounter.{ReadCounter}
-use Rattle.stripring.specs.declared.flat.ReadingEnd.{ReadingEnd}
-use Rattle.stripring.specs.declared.flat.Refusal.{Refusal}
-use Rattle.stripring.specs.declared.flat.WritingEnd.{WritingEnd}
-use Rattle.stripring.specs.declared.flat.WrittenCounter.{WrittenCounter}
+use Rattle.flat.specs.declared.structs.MovedAnswer.{MovedAnswer}
+use Rattle.flat.specs.declared.structs.ReadCounter.{ReadCounter}
+use Rattle.flat.specs.declared.structs.ReadingEnd.{ReadingEnd}
+use Rattle.flat.specs.declared.structs.Refusal.{Refusal}
+use Rattle.flat.specs.declared.structs.WritingEnd.{WritingEnd}
+use Rattle.flat.specs.declared.structs.WrittenCounter.{WrittenCounter}
 use Rattle.stripring.specs.InPlace.{movedWrote, writerAfter, WriteInPlace, writerRefusal, writerTook, TakeReadInPlace, movedGot, readerAfter, ReadInPlace, readerRefusal, readerTook, TakeWrittenInPlace}
-use Rattle.stripring.specs.ReadingEnd.{readCounterAt, readingEndAt}
-use Rattle.stripring.specs.WritingEnd.{writtenCounterAt, writingEndAt}
+use Rattle.flat.specs.ReadingEnd.{readCounterAt, readingEndAt}
+use Rattle.flat.specs.WritingEnd.{writtenCounterAt, writingEndAt}
 
 -- x is the end that the host's struct stands for
 pub kept-writer : (e : WritingEnd) (ring src : List ℕ) (x : ends-writing.WritingEnd) (answer : Wrote) (memory : List ℕ) (r : MovedAnswer) (after : WritingEnd) → x ≡ writingEndAt e →

@@ -10,14 +10,14 @@ use denote.Laws.{Is}
 use denote.Steps.{only}
 use denote.Struct.Laws as LL
 use Rattle.copies.proofs.Lending.{Types, Returned}
-use Rattle.stripring.proofs.flat.WritingEnd as We
-use Rattle.stripring.proofs.flat.WritingEnd.Laws as We′
-use Rattle.stripring.proofs.flat.ReadingEnd as Re
-use Rattle.stripring.proofs.flat.ReadingEnd.Laws as Re′
-use Rattle.stripring.proofs.flat.MovedAnswer as Mo
-use Rattle.stripring.proofs.flat.MovedAnswer.Laws as Mo′
-use Rattle.stripring.proofs.flat.Refusal as Rf
-use Rattle.stripring.proofs.flat.Refusal.Laws as Rf′
+use Rattle.flat.proofs.structs.WritingEnd as We
+use Rattle.flat.proofs.structs.WritingEnd.Laws as We′
+use Rattle.flat.proofs.structs.ReadingEnd as Re
+use Rattle.flat.proofs.structs.ReadingEnd.Laws as Re′
+use Rattle.flat.proofs.structs.MovedAnswer as Mo
+use Rattle.flat.proofs.structs.MovedAnswer.Laws as Mo′
+use Rattle.flat.proofs.structs.Refusal as Rf
+use Rattle.flat.proofs.structs.Refusal.Laws as Rf′
 use Rattle.stripring.proofs.in_place.KeptWriter as KW
 use Rattle.stripring.proofs.in_place.KeptWriter.Laws as KW′
 use Rattle.stripring.proofs.in_place.KeptReader as KR

@@ -1,7 +1,3 @@
-pub mod StandsLaws
-pub mod BackLaws
-pub mod AnyBits
-pub mod SentLaws
 pub mod FlatRun
 pub mod FlatReading
 mod InPlaceLaws

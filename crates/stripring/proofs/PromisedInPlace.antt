@@ -1,7 +1,7 @@
 -- Of the calls in place: whatever the attached contract of the call by value allows, the call in place tells, and leaves in the host's
 -- struct and in the memory. So what is promised of the one holds of the other.
 use Prim.Native.Nat.{ℕ}
-use mathlib.Core.Path.{_≡_, refl, ap}
+use mathlib.Core.Path.{_≡_, ap}
 use mathlib.Core.List.{List}
 use native.Mathlib.Omega.{arith}
 use Rattle.copies.proofs.Promised.{KeepsLeft}
@@ -20,14 +20,14 @@ use Rattle.ends.specs.declared.writing_end.Wrote.{Wrote}
 use Rattle.ends.specs.declared.writing_end.Wrote.the-variants as wrote
 use Rattle.ends.specs.Refusal.{numberOf}
 use Rattle.ends.specs.Ends.{wroteOf, gotOf, takeReadOf, takeWrittenOf}
-use Rattle.stripring.specs.declared.flat.MovedAnswer.{MovedAnswer}
-use Rattle.stripring.specs.declared.flat.ReadingEnd.{ReadingEnd}
-use Rattle.stripring.specs.declared.flat.Refusal.{Refusal}
-use Rattle.stripring.specs.declared.flat.WritingEnd.{WritingEnd}
+use Rattle.flat.specs.declared.structs.MovedAnswer.{MovedAnswer}
+use Rattle.flat.specs.declared.structs.ReadingEnd.{ReadingEnd}
+use Rattle.flat.specs.declared.structs.Refusal.{Refusal}
+use Rattle.flat.specs.declared.structs.WritingEnd.{WritingEnd}
 use Rattle.stripring.specs.InPlace.{movedWrote, writerAfter, WriteInPlace, writerRefusal, writerTook, TakeReadInPlace, movedGot, readerAfter, ReadInPlace, readerRefusal, readerTook, TakeWrittenInPlace}
 use Rattle.stripring.specs.PromiseInPlace.{AsByValue}
-use Rattle.stripring.specs.ReadingEnd.{readCounterAt, readingEndAt, flatGot, flatReadingEndAnswer}
-use Rattle.stripring.specs.WritingEnd.{writtenCounterAt, writingEndAt, flatWrote, flatWritingEndAnswer}
+use Rattle.flat.specs.ReadingEnd.{readCounterAt, readingEndAt, flatGot, flatReadingEndAnswer}
+use Rattle.flat.specs.WritingEnd.{writtenCounterAt, writingEndAt, flatWrote, flatWritingEndAnswer}
 use Rattle.stripring.proofs.SaysEnds.{writing-end-write-says, writing-end-take-says, reading-end-read-says, reading-end-take-says, writing-end-write-in-place-says, writing-end-take-in-place-says, reading-end-read-in-place-says, reading-end-take-in-place-says}
 use Rattle.stripring.proofs.writing_end.stripring_writing_end_write.Kinds as write-kinds
 use Rattle.stripring.proofs.writing_end.stripring_writing_end_write.Reads as write

@@ -13,9 +13,9 @@ use Rattle.ends.specs.Ends.{writingEndOf, readingEndOf, wroteOf, gotOf, written
 use Rattle.ends.specs.Promises.{GivenTake, withRead, withWritten}
 use Rattle.ends.proofs.Promised as promised
 use Rattle.stripring.specs.Given.{GivenAt}
-use Rattle.stripring.specs.ReadingEnd.{readCounterAt, readingEndAt}
-use Rattle.stripring.specs.Scheduler.{schedulerAt}
-use Rattle.stripring.specs.WritingEnd.{writtenCounterAt, writingEndAt}
+use Rattle.flat.specs.ReadingEnd.{readCounterAt, readingEndAt}
+use Rattle.flat.specs.Scheduler.{schedulerAt}
+use Rattle.flat.specs.WritingEnd.{writtenCounterAt, writingEndAt}
 use Rattle.stripring.proofs.GivenLaws.{copied-given, writing-given, wrote-given, written-given, reading-given, got-given, read-given}
 use Rattle.stripring.proofs.SaysEnds.{writing-end-new-says, writing-end-from-counters-says, writing-end-from-scheduler-says, writing-end-write-says, writing-end-send-says, writing-end-take-says, reading-end-new-says, reading-end-from-counters-says, reading-end-from-scheduler-says, reading-end-read-says, reading-end-send-says, reading-end-take-says, copies-write-says, copies-read-says}
 use Rattle.stripring.proofs.writing_end.stripring_writing_end_new.Kinds as writing-end-new-kinds

@@ -30,16 +30,16 @@ use Rattle.states.proofs.Promised as promised
 use Rattle.receiver.proofs.PromisedCalls as calls
 use Rattle.states.proofs.PromisedStates as states
 use Rattle.driver.proofs.Promised.{delivered}
-use Rattle.stripring.specs.Call.{callAt}
-use Rattle.stripring.specs.Failure.{failureAt, potentialFailureAt}
+use Rattle.flat.specs.Call.{callAt}
+use Rattle.flat.specs.Failure.{failureAt, potentialFailureAt}
 use Rattle.stripring.specs.Given.{GivenAt, GivenStored, PotentialFits}
 use Rattle.stripring.specs.GivenRun.{GivenRun, ofEnded}
-use Rattle.stripring.specs.Receiver.{receiverAt}
+use Rattle.flat.specs.Receiver.{receiverAt}
 use Rattle.stripring.specs.Run.{FlatReadImplLeaves, FlatReadLeaves, FlatServiceLeaves, FlatShutdownLeaves}
-use Rattle.stripring.specs.Scheduler.{schedulerAt}
-use Rattle.stripring.specs.State.{flatStateAnswer, stateAt}
-use Rattle.stripring.specs.declared.flat.EndedAnswer.{EndedAnswer}
-use Rattle.stripring.specs.declared.flat.Receiver.{Receiver}
+use Rattle.flat.specs.Scheduler.{schedulerAt}
+use Rattle.flat.specs.State.{flatStateAnswer, stateAt}
+use Rattle.flat.specs.declared.structs.EndedAnswer.{EndedAnswer}
+use Rattle.flat.specs.declared.structs.Receiver.{Receiver}
 use Rattle.stripring.proofs.GivenLaws.{made-given, step-given, ended-given, failure-decided, state-decided, failure-given, potential-given, state-given}
 use Rattle.stripring.proofs.GivenRun.{run-exactly}
 use Rattle.stripring.proofs.SaysReceiver.{receiver-new-says, receiver-read-with-fds-says, receiver-read-with-fds-impl-says, receiver-service-chunk-acknowledgements-says, receiver-shutdown-says, call-begin-read-says, call-begin-service-says, call-begin-shutdown-says, call-answered-says, state-failure-says, state-with-failure-says, state-with-potential-failure-says, state-normalize-says, state-advance-state-towards-termination-says, failure-normalize-says, failure-advance-failure-towards-error-says}

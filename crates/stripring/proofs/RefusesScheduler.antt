@@ -9,9 +9,9 @@ use Rattle.operations.specs.Given.{GivenList}
 use Rattle.sched.specs.Given.{Given, GivenOperations, GivenRegister}
 use Rattle.operations.specs.List.{cumulativeLengthOf, cumulativeOffsetsOf, outsideRangesOf, soundListOf}
 use Rattle.sched.specs.Scheduler.{block0From, block1From, block2From, blocksOf, bufLenOf, counterAnswerOf, fillStateOf, greatestOf, isPositiveFrom, isZeroFrom, layoutOf, lenFrom, nextBlockOf, nextOf, offFrom, offsetAnswerOf, registerListOf, registerOf, scheduleOf, schedulerOf, soundOf}
-use Rattle.stripring.specs.List.{operationsAt}
-use Rattle.stripring.specs.Operation.{operationAt, typeAt}
-use Rattle.stripring.specs.Scheduler.{schedulerAt}
+use Rattle.flat.specs.List.{operationsAt}
+use Rattle.flat.specs.Operation.{operationAt, typeAt}
+use Rattle.flat.specs.Scheduler.{schedulerAt}
 use Rattle.stripring.specs.Given.{GivenAt}
 use Rattle.stripring.proofs.GivenLaws.{checked-given, registered-given, counter-given, offset-given, amount-given, bool-given, fill-given, layout-given, blocks-given, block-given, next-given, operations-given, starts-given, ranges-given}
 use Rattle.stripring.proofs.SaysScheduler.{try-new-says, try-from-counters-says, demand-soundness-says, try-register-read-says, try-register-write-says, try-register-operation-manually-says, try-register-operation-says, try-register-operations-says, items-read-says, items-written-says, operation-counter-says, read-off-says, write-off-says, operation-offset-says, buf-len-says, is-zero-sized-says, data-avail-says, space-avail-says, max-operation-len-says, fill-state-says, is-empty-says, is-full-says, is-nonempty-says, is-nonfull-says, layout-says, blocks-says, block-0-says, block-1-says, block-2-says, block-0-off-says, block-1-off-says, block-2-off-says, block-0-len-says, block-1-len-says, block-2-len-says, next-operation-block-says, next-read-block-says, next-write-block-says, schedule-next-contiguous-operation-says, schedule-next-read-says, schedule-next-write-says, schedule-contiguous-operations-says, schedule-reads-says, schedule-writes-says}

@@ -7,17 +7,17 @@ use Rattle.modular.proofs.Saying.{Says, Leaves}
 use Rattle.copies.specs.Copies.{readOf, writeOf}
 use Rattle.ends.specs.Ends.{gotOf, readingEndOf, readSentOf, takeReadOf, takeWrittenOf, writingEndOf, writtenSentOf, wroteOf}
 use Rattle.sched.specs.Scheduler.{schedulerOf}
-use Rattle.stripring.specs.Copy.{CopyAnswerLeft, flatCopied}
-use Rattle.stripring.specs.declared.flat.MovedAnswer.{MovedAnswer}
-use Rattle.stripring.specs.declared.flat.ReadCounter.{ReadCounter}
-use Rattle.stripring.specs.declared.flat.ReadingEnd.{ReadingEnd}
-use Rattle.stripring.specs.declared.flat.Refusal.{Refusal}
-use Rattle.stripring.specs.declared.flat.WritingEnd.{WritingEnd}
-use Rattle.stripring.specs.declared.flat.WrittenCounter.{WrittenCounter}
+use Rattle.flat.specs.Copy.{CopyAnswerLeft, flatCopied}
+use Rattle.flat.specs.declared.structs.MovedAnswer.{MovedAnswer}
+use Rattle.flat.specs.declared.structs.ReadCounter.{ReadCounter}
+use Rattle.flat.specs.declared.structs.ReadingEnd.{ReadingEnd}
+use Rattle.flat.specs.declared.structs.Refusal.{Refusal}
+use Rattle.flat.specs.declared.structs.WritingEnd.{WritingEnd}
+use Rattle.flat.specs.declared.structs.WrittenCounter.{WrittenCounter}
 use Rattle.stripring.specs.InPlace.{movedWrote, writerAfter, WriteInPlace, writerRefusal, writerTook, TakeReadInPlace, movedGot, readerAfter, ReadInPlace, readerRefusal, readerTook, TakeWrittenInPlace}
-use Rattle.stripring.specs.ReadingEnd.{flatGot, flatReadCounter, flatReadingEndAnswer, GotAnswerLeft, readCounterAt, readingEndAt}
-use Rattle.stripring.specs.Scheduler.{schedulerAt}
-use Rattle.stripring.specs.WritingEnd.{flatWritingEndAnswer, flatWrittenCounter, flatWrote, writingEndAt, writtenCounterAt, WroteAnswerLeft}
+use Rattle.flat.specs.ReadingEnd.{flatGot, flatReadCounter, flatReadingEndAnswer, GotAnswerLeft, readCounterAt, readingEndAt}
+use Rattle.flat.specs.Scheduler.{schedulerAt}
+use Rattle.flat.specs.WritingEnd.{flatWritingEndAnswer, flatWrittenCounter, flatWrote, writingEndAt, writtenCounterAt, WroteAnswerLeft}
 use Rattle.stripring.proofs.writing_end.stripring_writing_end_new.Kinds as writing-end-new-kinds
 use Rattle.stripring.proofs.writing_end.stripring_writing_end_new.Reads as writing-end-new
 use Rattle.stripring.proofs.writing_end.stripring_writing_end_from_counters.Kinds as writing-end-from-counters-kinds

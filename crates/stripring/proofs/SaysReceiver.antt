@@ -8,14 +8,14 @@ use Rattle.receiver.specs.Call.{answeredOf, beginReadOf, beginServiceOf, beginS
 use Rattle.receiver.specs.Receiver.{receiverOf}
 use Rattle.driver.specs.Run.{serviceOf, shutdownOf, readImplDelivery, readDelivery}
 use Rattle.states.specs.State.{advanceOf, failureOf, normalizeFailureOf, normalizeOf, towardsErrorOf, withFailureOf, withPotentialFailureOf}
-use Rattle.stripring.specs.Call.{callAt, flatStep}
-use Rattle.stripring.specs.Failure.{failureAt, flatFailureAnswer, flatPotentialFailure, potentialFailureAt}
-use Rattle.stripring.specs.Receiver.{flatEnded, flatReceiverAnswer, receiverAt}
+use Rattle.flat.specs.Call.{callAt, flatStep}
+use Rattle.flat.specs.Failure.{failureAt, flatFailureAnswer, flatPotentialFailure, potentialFailureAt}
+use Rattle.flat.specs.Receiver.{flatEnded, flatReceiverAnswer, receiverAt}
 use Rattle.stripring.specs.Run.{EndedAnswerLeft, FlatReadLeaves, FlatReadImplLeaves, FlatServiceLeaves, FlatShutdownLeaves}
-use Rattle.stripring.specs.Scheduler.{schedulerAt}
-use Rattle.stripring.specs.State.{flatStateAnswer, stateAt}
-use Rattle.stripring.specs.declared.flat.EndedAnswer.{EndedAnswer}
-use Rattle.stripring.specs.declared.flat.Receiver.{Receiver}
+use Rattle.flat.specs.Scheduler.{schedulerAt}
+use Rattle.flat.specs.State.{flatStateAnswer, stateAt}
+use Rattle.flat.specs.declared.structs.EndedAnswer.{EndedAnswer}
+use Rattle.flat.specs.declared.structs.Receiver.{Receiver}
 use Rattle.stripring.proofs.receiver_record.stripring_receiver_new.Kinds as receiver-new-kinds
 use Rattle.stripring.proofs.receiver_record.stripring_receiver_new.Reads as receiver-new
 use Rattle.stripring.proofs.call.stripring_call_begin_read.Kinds as call-begin-read-kinds

@@ -2,11 +2,11 @@
 use Rattle.modular.proofs.Saying.{Says}
 use Rattle.operations.specs.declared.operation.OperationType.the-variants.{Read, Write}
 use Rattle.sched.specs.Scheduler.{block0From, block1From, block2From, blocksOf, bufLenOf, counterAnswerOf, fillStateOf, greatestOf, isPositiveFrom, isZeroFrom, layoutOf, lenFrom, nextBlockOf, nextOf, offFrom, offsetAnswerOf, registerListOf, registerOf, scheduleOf, schedulerOf, soundOf}
-use Rattle.stripring.specs.Block.{flatBlockAnswer, flatBlocks, flatFillState, flatLayout}
-use Rattle.stripring.specs.Counter.{flatAmount, flatBool, flatCounter, flatOffset}
-use Rattle.stripring.specs.List.{flatOperationsAnswer, operationsAt}
-use Rattle.stripring.specs.Operation.{flatNext, operationAt, typeAt}
-use Rattle.stripring.specs.Scheduler.{flatChecked, flatRegistered, maxBufLen, schedulerAt}
+use Rattle.flat.specs.Block.{flatBlockAnswer, flatBlocks, flatFillState, flatLayout}
+use Rattle.flat.specs.Counter.{flatAmount, flatBool, flatCounter, flatOffset}
+use Rattle.flat.specs.List.{flatOperationsAnswer, operationsAt}
+use Rattle.flat.specs.Operation.{flatNext, operationAt, typeAt}
+use Rattle.flat.specs.Scheduler.{flatChecked, flatRegistered, maxBufLen, schedulerAt}
 use Rattle.stripring.proofs.scheduler.stripring_scheduler_max_buf_len.Kinds as max-buf-len-kinds
 use Rattle.stripring.proofs.scheduler.stripring_scheduler_max_buf_len.Reads as max-buf-len
 use Rattle.stripring.proofs.scheduler.stripring_scheduler_try_new.Kinds as try-new-kinds

@@ -6,12 +6,12 @@ use Rattle.sched.specs.Block.{blockOf}
 use Rattle.operations.specs.Diff.{diffOf, isDifferentOf, isSameOf, newValueOf, oldValueOf}
 use Rattle.operations.specs.List.{cumulativeLengthOf, cumulativeOffsetsOf, outsideRangesOf, soundListOf}
 use Rattle.operations.specs.Operation.{defaultOperation, operationOf}
-use Rattle.stripring.specs.Block.{bitAt, blockTypeAt, flatBlock}
-use Rattle.stripring.specs.Counter.{flatAmount}
-use Rattle.stripring.specs.Diff.{diffAt, flatDiff}
-use Rattle.stripring.specs.List.{flatOperationsAnswer, flatRangesAnswer, flatStartsAnswer, operationsAt}
-use Rattle.stripring.specs.Modulus.{flatModulus, flatNumber, modulusAt}
-use Rattle.stripring.specs.Operation.{flatOperation, typeAt}
+use Rattle.flat.specs.Block.{bitAt, blockTypeAt, flatBlock}
+use Rattle.flat.specs.Counter.{flatAmount}
+use Rattle.flat.specs.Diff.{diffAt, flatDiff}
+use Rattle.flat.specs.List.{flatOperationsAnswer, flatRangesAnswer, flatStartsAnswer, operationsAt}
+use Rattle.flat.specs.Modulus.{flatModulus, flatNumber, modulusAt}
+use Rattle.flat.specs.Operation.{flatOperation, typeAt}
 use Rattle.stripring.proofs.list.stripring_operations_try_new.Kinds as operations-try-new-kinds
 use Rattle.stripring.proofs.list.stripring_operations_try_new.Reads as operations-try-new
 use Rattle.stripring.proofs.list.stripring_operations_container.Kinds as operations-container-kinds

@@ -22,12 +22,12 @@ use Rattle.driver.specs.Drive.{Delivery, delivery}
 use Rattle.states.specs.declared.answer.Answer.{Answer}
 use Rattle.receiver.specs.declared.receiver.Ended.{Ended}
 use Rattle.driver.specs.Run.{ServiceLeaves, ShutdownLeaves, ReadImplLeaves, ReadLeaves}
-use Rattle.stripring.specs.Copy.{CopyAnswerLeft, flatCopied}
-use Rattle.stripring.specs.Receiver.{receiverAt, flatEnded}
+use Rattle.flat.specs.Copy.{CopyAnswerLeft, flatCopied}
+use Rattle.flat.specs.Receiver.{receiverAt, flatEnded}
 use Rattle.stripring.specs.Run.{EndedAnswerLeft, endedAnswerLeft, flatDelivery, FlatServiceLeaves, FlatShutdownLeaves, FlatReadImplLeaves, FlatReadLeaves}
-use Rattle.stripring.specs.Scheduler.{schedulerAt}
-use Rattle.stripring.specs.declared.flat.EndedAnswer.{EndedAnswer}
-use Rattle.stripring.specs.declared.flat.Receiver.{Receiver}
+use Rattle.flat.specs.Scheduler.{schedulerAt}
+use Rattle.flat.specs.declared.structs.EndedAnswer.{EndedAnswer}
+use Rattle.flat.specs.declared.structs.Receiver.{Receiver}
 use Rattle.stripring.proofs.copy.stripring_copies_read.Kinds as copies-read-kinds
 use Rattle.stripring.proofs.copy.stripring_copies_read.Reads as copies-read
 use Rattle.stripring.proofs.copy.stripring_copies_write.Kinds as copies-write-kinds

@@ -1,11 +1,11 @@
 -- Thin.antt, of the scheduler: blocks and scheduling; of its lists, operations, blocks and differences, in the order of the C header.
 use mathlib.Core.Path.{sym, ap, _∙_}
-use Rattle.stripring.specs.Block.{bitAt, blockTypeAt, flatBlock, flatBlockAnswer, flatBlocks, flatLayout}
-use Rattle.stripring.specs.Counter.{flatAmount, flatOffset}
-use Rattle.stripring.specs.Diff.{diffAt, flatDiff}
-use Rattle.stripring.specs.List.{flatOperationsAnswer, flatRangesAnswer, flatStartsAnswer, operationsAt}
-use Rattle.stripring.specs.Operation.{flatNext, flatOperation, typeAt}
-use Rattle.stripring.specs.Scheduler.{schedulerAt}
+use Rattle.flat.specs.Block.{bitAt, blockTypeAt, flatBlock, flatBlockAnswer, flatBlocks, flatLayout}
+use Rattle.flat.specs.Counter.{flatAmount, flatOffset}
+use Rattle.flat.specs.Diff.{diffAt, flatDiff}
+use Rattle.flat.specs.List.{flatOperationsAnswer, flatRangesAnswer, flatStartsAnswer, operationsAt}
+use Rattle.flat.specs.Operation.{flatNext, flatOperation, typeAt}
+use Rattle.flat.specs.Scheduler.{schedulerAt}
 use Rattle.stripring.proofs.Thin.{Thin}
 use Rattle.stripring.proofs.schedule.stripring_scheduler_layout.Kinds as layout-kinds
 use Rattle.stripring.proofs.schedule.stripring_scheduler_layout.Reads as layout

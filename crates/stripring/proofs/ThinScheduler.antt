@@ -1,10 +1,10 @@
 -- Thin.antt, of the scheduler: its record, counters, data and space, in the order of the C header.
 use mathlib.Core.Path.{sym, ap, _∙_}
-use Rattle.stripring.specs.Block.{flatFillState}
-use Rattle.stripring.specs.Counter.{flatAmount, flatBool, flatCounter, flatOffset}
-use Rattle.stripring.specs.List.{operationsAt}
-use Rattle.stripring.specs.Operation.{operationAt, typeAt}
-use Rattle.stripring.specs.Scheduler.{flatChecked, flatRegistered, schedulerAt}
+use Rattle.flat.specs.Block.{flatFillState}
+use Rattle.flat.specs.Counter.{flatAmount, flatBool, flatCounter, flatOffset}
+use Rattle.flat.specs.List.{operationsAt}
+use Rattle.flat.specs.Operation.{operationAt, typeAt}
+use Rattle.flat.specs.Scheduler.{flatChecked, flatRegistered, schedulerAt}
 use Rattle.stripring.proofs.Thin.{Thin}
 use Rattle.stripring.proofs.scheduler.stripring_scheduler_try_new.Kinds as try-new-kinds
 use Rattle.stripring.proofs.scheduler.stripring_scheduler_try_new.Reads as try-new

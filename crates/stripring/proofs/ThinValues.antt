@@ -1,14 +1,14 @@
 -- Thin.antt, of the ends, the receiver and the moduli, in the order of the C header.
 use mathlib.Core.Path.{sym, ap, _∙_}
 use Rattle.modular.specs.declared.Modulus.{Modulus}
-use Rattle.stripring.specs.Call.{callAt, flatStep}
-use Rattle.stripring.specs.Failure.{failureAt, flatFailureAnswer, flatPotentialFailure, potentialFailureAt}
-use Rattle.stripring.specs.Modulus.{flatModulus, flatNumber, modulusAt}
-use Rattle.stripring.specs.ReadingEnd.{flatReadCounter, flatReadingEndAnswer, readCounterAt, readingEndAt}
-use Rattle.stripring.specs.Receiver.{flatReceiverAnswer, receiverAt}
-use Rattle.stripring.specs.Scheduler.{schedulerAt}
-use Rattle.stripring.specs.State.{flatStateAnswer, stateAt}
-use Rattle.stripring.specs.WritingEnd.{flatWritingEndAnswer, flatWrittenCounter, writingEndAt, writtenCounterAt}
+use Rattle.flat.specs.Call.{callAt, flatStep}
+use Rattle.flat.specs.Failure.{failureAt, flatFailureAnswer, flatPotentialFailure, potentialFailureAt}
+use Rattle.flat.specs.Modulus.{flatModulus, flatNumber, modulusAt}
+use Rattle.flat.specs.ReadingEnd.{flatReadCounter, flatReadingEndAnswer, readCounterAt, readingEndAt}
+use Rattle.flat.specs.Receiver.{flatReceiverAnswer, receiverAt}
+use Rattle.flat.specs.Scheduler.{schedulerAt}
+use Rattle.flat.specs.State.{flatStateAnswer, stateAt}
+use Rattle.flat.specs.WritingEnd.{flatWritingEndAnswer, flatWrittenCounter, writingEndAt, writtenCounterAt}
 use Rattle.stripring.proofs.Thin.{Thin}
 use Rattle.stripring.proofs.writing_end.stripring_writing_end_new.Kinds as writing-end-new-kinds
 use Rattle.stripring.proofs.writing_end.stripring_writing_end_new.Reads as writing-end-new

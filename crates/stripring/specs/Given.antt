@@ -5,8 +5,8 @@ use mathlib.Core.List.{List, [], _∷_}
 use Rattle.states.specs.Promise.{FailureFits}
 use Rattle.states.specs.declared.state.PotentialFailure.{PotentialFailure}
 use Rattle.states.specs.declared.state.PotentialFailure.the-variants.{Some, None}
-use Rattle.stripring.specs.Back.{RefusalStands}
-use Rattle.stripring.specs.declared.flat.Refusal.{Refusal}
+use Rattle.flat.specs.Back.{RefusalStands}
+use Rattle.flat.specs.declared.structs.Refusal.{Refusal}
 
 pub record GivenAt (G : ℕ → List ℕ → Type 0) (r : Refusal) : Type 0 where
   pub only : (k : ℕ) × (vs : List ℕ) × (p : RefusalStands r k vs) × G k vs

@@ -22,20 +22,20 @@ use Rattle.ends.specs.declared.writing_end.Wrote.the-variants as wrote
 use Rattle.ends.specs.declared.writing_end.WrittenCounter as ends-written
 use Rattle.ends.specs.declared.writing_end.WrittenCounterAnswer as ends-written-answer
 use Rattle.ends.specs.declared.writing_end.WrittenCounterAnswer.the-variants as written
-use Rattle.stripring.specs.ReadingEnd.{readCounterAt, readingEndAt, flatReadingEnd, GotAnswerLeft}
-use Rattle.stripring.specs.Refusal.{schedulerRefusalAt}
-use Rattle.stripring.specs.WritingEnd.{writtenCounterAt, writingEndAt, flatWritingEnd, WroteAnswerLeft}
-use Rattle.stripring.specs.declared.flat.GotAnswer.{GotAnswer}
-use Rattle.stripring.specs.declared.flat.ReadCounter.{ReadCounter}
-use Rattle.stripring.specs.declared.flat.ReadCounterAnswer.{ReadCounterAnswer}
-use Rattle.stripring.specs.declared.flat.ReadingEnd.{ReadingEnd}
-use Rattle.stripring.specs.declared.flat.ReadingEndAnswer.{ReadingEndAnswer}
-use Rattle.stripring.specs.declared.flat.Refusal.{Refusal}
-use Rattle.stripring.specs.declared.flat.WritingEnd.{WritingEnd}
-use Rattle.stripring.specs.declared.flat.WritingEndAnswer.{WritingEndAnswer}
-use Rattle.stripring.specs.declared.flat.WrittenCounter.{WrittenCounter}
-use Rattle.stripring.specs.declared.flat.WrittenCounterAnswer.{WrittenCounterAnswer}
-use Rattle.stripring.specs.declared.flat.WroteAnswer.{WroteAnswer}
+use Rattle.flat.specs.ReadingEnd.{readCounterAt, readingEndAt, flatReadingEnd, GotAnswerLeft}
+use Rattle.flat.specs.Refusal.{schedulerRefusalAt}
+use Rattle.flat.specs.WritingEnd.{writtenCounterAt, writingEndAt, flatWritingEnd, WroteAnswerLeft}
+use Rattle.flat.specs.declared.structs.GotAnswer.{GotAnswer}
+use Rattle.flat.specs.declared.structs.ReadCounter.{ReadCounter}
+use Rattle.flat.specs.declared.structs.ReadCounterAnswer.{ReadCounterAnswer}
+use Rattle.flat.specs.declared.structs.ReadingEnd.{ReadingEnd}
+use Rattle.flat.specs.declared.structs.ReadingEndAnswer.{ReadingEndAnswer}
+use Rattle.flat.specs.declared.structs.Refusal.{Refusal}
+use Rattle.flat.specs.declared.structs.WritingEnd.{WritingEnd}
+use Rattle.flat.specs.declared.structs.WritingEndAnswer.{WritingEndAnswer}
+use Rattle.flat.specs.declared.structs.WrittenCounter.{WrittenCounter}
+use Rattle.flat.specs.declared.structs.WrittenCounterAnswer.{WrittenCounterAnswer}
+use Rattle.flat.specs.declared.structs.WroteAnswer.{WroteAnswer}
 
 -- the six exports, as functions
 pub record FlatCalls : Type 0 where

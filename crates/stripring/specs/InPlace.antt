@@ -12,15 +12,15 @@ use Rattle.ends.specs.declared.writing_end.WritingEndAnswer.the-variants as wri
 use Rattle.ends.specs.declared.writing_end.Wrote.{Wrote}
 use Rattle.ends.specs.declared.writing_end.Wrote.the-variants as wrote
 use Rattle.ends.specs.Ends.{wroteOf, gotOf, takeReadOf, takeWrittenOf}
-use Rattle.stripring.specs.declared.flat.MovedAnswer.{MovedAnswer}
-use Rattle.stripring.specs.declared.flat.ReadCounter.{ReadCounter}
-use Rattle.stripring.specs.declared.flat.ReadingEnd.{ReadingEnd}
-use Rattle.stripring.specs.declared.flat.Refusal.{Refusal}
-use Rattle.stripring.specs.declared.flat.WritingEnd.{WritingEnd}
-use Rattle.stripring.specs.declared.flat.WrittenCounter.{WrittenCounter}
-use Rattle.stripring.specs.Flat.{noRefusal, flatEndRefusal}
-use Rattle.stripring.specs.ReadingEnd.{readCounterAt, readingEndAt, flatReadingEnd}
-use Rattle.stripring.specs.WritingEnd.{writtenCounterAt, writingEndAt, flatWritingEnd}
+use Rattle.flat.specs.declared.structs.MovedAnswer.{MovedAnswer}
+use Rattle.flat.specs.declared.structs.ReadCounter.{ReadCounter}
+use Rattle.flat.specs.declared.structs.ReadingEnd.{ReadingEnd}
+use Rattle.flat.specs.declared.structs.Refusal.{Refusal}
+use Rattle.flat.specs.declared.structs.WritingEnd.{WritingEnd}
+use Rattle.flat.specs.declared.structs.WrittenCounter.{WrittenCounter}
+use Rattle.flat.specs.Flat.{noRefusal, flatEndRefusal}
+use Rattle.flat.specs.ReadingEnd.{readCounterAt, readingEndAt, flatReadingEnd}
+use Rattle.flat.specs.WritingEnd.{writtenCounterAt, writingEndAt, flatWritingEnd}
 
 -- ---- the writing end
 abbrev pub movedWrote : Wrote → MovedAnswer

@@ -2,7 +2,7 @@
 -- number is 0, and as it was where it is not.
 use Prim.Native.Nat.{ℕ, _<_}
 use mathlib.Core.Path.{_≡_}
-use Rattle.stripring.specs.declared.flat.Refusal.{Refusal}
+use Rattle.flat.specs.declared.structs.Refusal.{Refusal}
 
 -- e is the struct before; the call by value answers `refusal` and `end`; the call in place answers `told` and leaves `after`
 pub record AsByValue {E : Type 0} (e : E) (refusal : Refusal) (end : E) (told : Refusal) (after : E) : Type 0 where

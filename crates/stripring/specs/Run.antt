@@ -5,9 +5,9 @@ use mathlib.Core.List.{List}
 use Rattle.driver.specs.Drive.{Delivery}
 use Rattle.driver.specs.Run.{serviceOf, shutdownOf, readImplDelivery, readDelivery}
 use Rattle.states.specs.declared.answer.Answer.{Answer}
-use Rattle.stripring.specs.declared.flat.EndedAnswer.{EndedAnswer}
-use Rattle.stripring.specs.declared.flat.Receiver.{Receiver}
-use Rattle.stripring.specs.Receiver.{receiverAt, flatEnded}
+use Rattle.flat.specs.declared.structs.EndedAnswer.{EndedAnswer}
+use Rattle.flat.specs.declared.structs.Receiver.{Receiver}
+use Rattle.flat.specs.Receiver.{receiverAt, flatEnded}
 
 abbrev pub FlatServiceLeaves : Receiver → List Answer → EndedAnswer → Type 0
 FlatServiceLeaves r answers a = a ≡ flatEnded (serviceOf (receiverAt r) answers)

@@ -1,34 +1,10 @@
 // Whether two values are the same or different.
 ghost use mathlib.Core.Path.{_≡_};
 ghost use Rattle.operations.specs.Diff.{diffOf, isSameOf, isDifferentOf, oldValueOf, newValueOf};
-ghost use Rattle.stripring.specs.Diff.{diffAt, flatDiff};
-use crate::flat::Diff;
-
-fn diff(d: Diff) -> sched::Diff
-    ensures { λ r. ⌜ r ≡ diffAt d ⌝ }
-{
-    if d.different == 0 {
-        return sched::Diff::Same(d.old);
-    }
-    sched::Diff::Different(d.old, d.new)
-}
-
-fn flat_diff(d: sched::Diff) -> Diff
-    ensures { λ r. ⌜ r ≡ flatDiff d ⌝ }
-{
-    match d {
-        sched::Diff::Same(v) => Diff {
-            different: 0,
-            old: v,
-            new: v,
-        },
-        sched::Diff::Different(old, new) => Diff {
-            different: 1,
-            old,
-            new,
-        },
-    }
-}
+ghost use Rattle.flat.specs.Diff.{diffAt, flatDiff};
+use flat::diff::diff;
+use flat::diff::flat_diff;
+use flat::structs::Diff;
 
 #[no_mangle]
 pub extern "C" fn stripring_diff_new(old: u64, new: u64) -> Diff

@@ -2,22 +2,22 @@
 // A refused call leaves the struct's bits as they are.
 ghost use mathlib.Core.Path.{_≡_};
 ghost use Rattle.stripring.specs.InPlace.{movedWrote, writerAfter, WriteInPlace, TakeReadInPlace, movedGot, readerAfter, ReadInPlace, TakeWrittenInPlace};
-use crate::flat::MovedAnswer;
-use crate::flat::ReadCounter;
-use crate::flat::ReadingEnd;
-use crate::flat::Refusal;
-use crate::flat::WritingEnd;
-use crate::flat::WrittenCounter;
-use crate::flat::flat_end_refusal;
-use crate::flat::no_refusal;
-use crate::reading_end::flat_reading_end;
-use crate::reading_end::read_counter;
-use crate::reading_end::reading_end;
-use crate::writing_end::flat_writing_end;
-use crate::writing_end::writing_end;
-use crate::writing_end::written_counter;
 use ends::Got;
 use ends::Wrote;
+use flat::reading_end::flat_reading_end;
+use flat::reading_end::read_counter;
+use flat::reading_end::reading_end;
+use flat::refusal::flat_end_refusal;
+use flat::refusal::no_refusal;
+use flat::structs::MovedAnswer;
+use flat::structs::ReadCounter;
+use flat::structs::ReadingEnd;
+use flat::structs::Refusal;
+use flat::structs::WritingEnd;
+use flat::structs::WrittenCounter;
+use flat::writing_end::flat_writing_end;
+use flat::writing_end::writing_end;
+use flat::writing_end::written_counter;
 
 // The struct after a call, and what the host is told.
 pub struct KeptWriter {

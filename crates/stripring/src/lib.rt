@@ -2,15 +2,12 @@
 mod block;
 mod call;
 mod copy;
-mod counter;
 mod diff;
 mod failure;
-mod flat;
 mod in_place;
 mod list;
 mod modulus;
 mod operation;
-mod outcome;
 mod reading_end;
 mod receiver_record;
 mod receiver_run;

@@ -2,38 +2,11 @@
 ghost use mathlib.Core.Path.{_≡_};
 ghost use Prim.Native.Nat.{_%_};
 ghost use Rattle.modular.specs.Modulus.{wholeOf, tryNewOf, isFullRangeOf, modulusOf, containsOf, doubleAt, tryNewNumberOf, negMod, subMod, addMod};
-ghost use Rattle.stripring.specs.Modulus.{modulusAt, flatModulus, flatNumber};
+ghost use Rattle.flat.specs.Modulus.{modulusAt, flatModulus, flatNumber};
+use flat::modulus::OptionU64;
+use flat::modulus::flat_modulus;
+use flat::modulus::flat_number;
 use modular::Modulus;
-use modular::OptionModulus;
-use modular::OptionNumber;
-
-// A number where `some` is 1; none where it is 0, and then `value` is 0.
-#[repr(C)]
-pub struct OptionU64 {
-    pub some: u64,
-    pub value: u64,
-}
-
-fn flat_modulus(m: OptionModulus) -> OptionU64
-    ensures { λ r. ⌜ r ≡ flatModulus m ⌝ }
-{
-    match m {
-        OptionModulus::Some(m) => OptionU64 {
-            some: 1,
-            value: m.0,
-        },
-        OptionModulus::None => OptionU64 { some: 0, value: 0 },
-    }
-}
-
-fn flat_number(n: OptionNumber) -> OptionU64
-    ensures { λ r. ⌜ r ≡ flatNumber n ⌝ }
-{
-    match n {
-        OptionNumber::Some(value) => OptionU64 { some: 1, value },
-        OptionNumber::None => OptionU64 { some: 0, value: 0 },
-    }
-}
 
 #[no_mangle]
 pub extern "C" fn stripring_modulus_new_full_range() -> u64

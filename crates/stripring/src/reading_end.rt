@@ -2,103 +2,22 @@
 ghost use mathlib.Core.Path.{_≡_};
 ghost use Rattle.sched.specs.Scheduler.{schedulerOf};
 ghost use Rattle.ends.specs.Ends.{readingEndOf, gotOf, readSentOf, takeWrittenOf};
-ghost use Rattle.stripring.specs.ReadingEnd.{readCounterAt, readingEndAt, noReadingEnd, flatReadingEnd, flatReadingEndAnswer, flatGot, gotAnswerLeft, flatGotLeft, flatReadCounter};
-ghost use Rattle.stripring.specs.Scheduler.{schedulerAt};
-ghost use Rattle.stripring.specs.WritingEnd.{writtenCounterAt};
-use crate::flat::GotAnswer;
-use crate::flat::ReadCounter;
-use crate::flat::ReadCounterAnswer;
-use crate::flat::ReadingEnd;
-use crate::flat::ReadingEndAnswer;
-use crate::flat::Scheduler;
-use crate::flat::WrittenCounter;
-use crate::flat::flat_end_refusal;
-use crate::flat::no_refusal;
-use crate::scheduler::flat_scheduler;
-use crate::scheduler::no_scheduler;
-use crate::scheduler::scheduler;
-use crate::writing_end::written_counter;
-use ends::Got;
+ghost use Rattle.flat.specs.ReadingEnd.{readingEndAt, flatReadingEndAnswer, gotAnswerLeft, flatGotLeft, flatReadCounter};
+ghost use Rattle.flat.specs.Scheduler.{schedulerAt};
+ghost use Rattle.flat.specs.WritingEnd.{writtenCounterAt};
+use flat::reading_end::flat_got;
+use flat::reading_end::flat_read_counter;
+use flat::reading_end::flat_reading_end_answer;
+use flat::reading_end::reading_end;
+use flat::scheduler::scheduler;
+use flat::structs::GotAnswer;
+use flat::structs::ReadCounterAnswer;
+use flat::structs::ReadingEnd;
+use flat::structs::ReadingEndAnswer;
+use flat::structs::Scheduler;
+use flat::structs::WrittenCounter;
+use flat::writing_end::written_counter;
 use sched::Counter;
-
-pub(crate) fn read_counter(c: ReadCounter) -> ends::ReadCounter
-    ensures { λ r. ⌜ r ≡ readCounterAt c ⌝ }
-{
-    ends::ReadCounter(Counter(c.counter))
-}
-
-pub(crate) fn reading_end(e: ReadingEnd) -> ends::ReadingEnd
-    ensures { λ r. ⌜ r ≡ readingEndAt e ⌝ }
-{
-    let s = e.scheduler;
-    ends::ReadingEnd {
-        scheduler: scheduler(s),
-    }
-}
-
-fn no_reading_end() -> ReadingEnd
-    ensures { λ r. ⌜ r ≡ noReadingEnd ⌝ }
-{
-    ReadingEnd {
-        scheduler: no_scheduler(),
-    }
-}
-
-pub(crate) fn flat_reading_end(e: ends::ReadingEnd) -> ReadingEnd
-    ensures { λ r. ⌜ r ≡ flatReadingEnd e ⌝ }
-{
-    let s = e.scheduler;
-    ReadingEnd {
-        scheduler: flat_scheduler(s),
-    }
-}
-
-fn flat_reading_end_answer(a: ends::ReadingEndAnswer) -> ReadingEndAnswer
-    ensures { λ r. ⌜ r ≡ flatReadingEndAnswer a ⌝ }
-{
-    match a {
-        ends::ReadingEndAnswer::Of(e) => ReadingEndAnswer {
-            refusal: no_refusal(),
-            end: flat_reading_end(e),
-        },
-        ends::ReadingEndAnswer::Refused(e) => ReadingEndAnswer {
-            refusal: flat_end_refusal(e),
-            end: no_reading_end(),
-        },
-    }
-}
-
-fn flat_got(a: Got) -> GotAnswer
-    ensures { λ r. ⌜ r ≡ flatGot a ⌝ }
-{
-    match a {
-        Got::Moved { end, n } => GotAnswer {
-            refusal: no_refusal(),
-            end: flat_reading_end(end),
-            n,
-        },
-        Got::Refused(e) => GotAnswer {
-            refusal: flat_end_refusal(e),
-            end: no_reading_end(),
-            n: 0,
-        },
-    }
-}
-
-fn flat_read_counter(a: ends::ReadCounterAnswer) -> ReadCounterAnswer
-    ensures { λ r. ⌜ r ≡ flatReadCounter a ⌝ }
-{
-    match a {
-        ends::ReadCounterAnswer::Of(c) => ReadCounterAnswer {
-            refusal: no_refusal(),
-            counter: ReadCounter { counter: c.0.0 },
-        },
-        ends::ReadCounterAnswer::Refused(e) => ReadCounterAnswer {
-            refusal: flat_end_refusal(e),
-            counter: ReadCounter { counter: 0 },
-        },
-    }
-}
 
 // ---- making one
 

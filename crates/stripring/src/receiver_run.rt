@@ -1,9 +1,9 @@
 // The receiver's calls over a whole run of the socket's answers.
 ghost use Rattle.stripring.specs.Run.{FlatReadLeaves, FlatReadImplLeaves, FlatServiceLeaves, FlatShutdownLeaves};
-use crate::flat::EndedAnswer;
-use crate::flat::Receiver;
-use crate::receiver_record::flat_ended;
-use crate::receiver_record::receiver_state;
+use flat::receiver_record::flat_ended;
+use flat::receiver_record::receiver_state;
+use flat::structs::EndedAnswer;
+use flat::structs::Receiver;
 use states::Answer;
 
 #[no_mangle]

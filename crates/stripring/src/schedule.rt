@@ -1,26 +1,26 @@
 // The calls of the scheduler that lay the ring out and schedule. Every one tests the scheduler that it is given anew.
 ghost use mathlib.Core.Path.{_≡_};
 ghost use Rattle.sched.specs.Scheduler.{layoutOf, blocksOf, block0From, block1From, block2From, offFrom, lenFrom, nextBlockOf, nextOf, scheduleOf};
-ghost use Rattle.stripring.specs.Block.{flatBlockAnswer, flatBlocks, flatLayout};
-ghost use Rattle.stripring.specs.Counter.{flatOffset, flatAmount};
-ghost use Rattle.stripring.specs.List.{flatOperationsAnswer};
-ghost use Rattle.stripring.specs.Operation.{typeAt, flatNext};
-ghost use Rattle.stripring.specs.Scheduler.{schedulerAt};
-use crate::block::flat_block_answer;
-use crate::block::flat_blocks;
-use crate::block::flat_layout;
-use crate::counter::flat_amount;
-use crate::counter::flat_offset;
-use crate::flat::BlockAnswer;
-use crate::flat::BlocksAnswer;
-use crate::flat::NextAnswer;
-use crate::flat::OperationsAnswer;
-use crate::flat::Scheduler;
-use crate::flat::U64Answer;
-use crate::list::flat_operations_answer;
-use crate::operation::flat_next;
-use crate::operation::operation_type;
-use crate::scheduler::scheduler;
+ghost use Rattle.flat.specs.Block.{flatBlockAnswer, flatBlocks, flatLayout};
+ghost use Rattle.flat.specs.Counter.{flatOffset, flatAmount};
+ghost use Rattle.flat.specs.List.{flatOperationsAnswer};
+ghost use Rattle.flat.specs.Operation.{typeAt, flatNext};
+ghost use Rattle.flat.specs.Scheduler.{schedulerAt};
+use flat::block::flat_block_answer;
+use flat::block::flat_blocks;
+use flat::block::flat_layout;
+use flat::counter::flat_amount;
+use flat::counter::flat_offset;
+use flat::list::flat_operations_answer;
+use flat::operation::flat_next;
+use flat::operation::operation_type;
+use flat::scheduler::scheduler;
+use flat::structs::BlockAnswer;
+use flat::structs::BlocksAnswer;
+use flat::structs::NextAnswer;
+use flat::structs::OperationsAnswer;
+use flat::structs::Scheduler;
+use flat::structs::U64Answer;
 use sched::OperationType;
 
 // ---- layout and blocks

@@ -2,91 +2,30 @@
 ghost use mathlib.Core.Path.{_≡_};
 ghost use Prim.Native.Nat.{_^_};
 ghost use Rattle.sched.specs.Scheduler.{schedulerOf, soundOf, bufLenOf, counterAnswerOf, offsetAnswerOf, greatestOf, isZeroFrom, isPositiveFrom, fillStateOf, registerOf, registerListOf};
-ghost use Rattle.stripring.specs.Block.{flatFillState};
-ghost use Rattle.stripring.specs.Counter.{flatCounter, flatOffset, flatAmount, flatBool};
-ghost use Rattle.stripring.specs.List.{operationsAt};
-ghost use Rattle.stripring.specs.Operation.{typeAt, operationAt};
-ghost use Rattle.stripring.specs.Scheduler.{schedulerAt, noScheduler, flatScheduler, flatChecked, flatRegistered};
-use crate::block::flat_fill_state;
-use crate::counter::flat_amount;
-use crate::counter::flat_bool;
-use crate::counter::flat_counter;
-use crate::counter::flat_offset;
-use crate::flat::Operation;
-use crate::flat::Operations;
-use crate::flat::Scheduler;
-use crate::flat::SchedulerAnswer;
-use crate::flat::U64Answer;
-use crate::flat::flat_refusal;
-use crate::flat::no_refusal;
-use crate::list::operations;
-use crate::operation::operation;
-use crate::operation::operation_type;
-use sched::Checked;
+ghost use Rattle.flat.specs.Block.{flatFillState};
+ghost use Rattle.flat.specs.Counter.{flatCounter, flatOffset, flatAmount, flatBool};
+ghost use Rattle.flat.specs.List.{operationsAt};
+ghost use Rattle.flat.specs.Operation.{typeAt, operationAt};
+ghost use Rattle.flat.specs.Scheduler.{schedulerAt, flatChecked, flatRegistered};
+use flat::block::flat_fill_state;
+use flat::counter::flat_amount;
+use flat::counter::flat_bool;
+use flat::counter::flat_counter;
+use flat::counter::flat_offset;
+use flat::list::operations;
+use flat::operation::operation;
+use flat::operation::operation_type;
+use flat::scheduler::flat_checked;
+use flat::scheduler::flat_registered;
+use flat::scheduler::scheduler;
+use flat::structs::Operation;
+use flat::structs::Operations;
+use flat::structs::Scheduler;
+use flat::structs::SchedulerAnswer;
+use flat::structs::U64Answer;
 use sched::Counter;
 use sched::OperationType;
-use sched::Registered;
 use sched::RingBufferScheduler;
-
-pub(crate) fn scheduler(s: Scheduler) -> RingBufferScheduler
-    ensures { λ r. ⌜ r ≡ schedulerAt s ⌝ }
-{
-    RingBufferScheduler {
-        buf_len: s.buf_len,
-        items_read: Counter(s.items_read),
-        items_written: Counter(s.items_written),
-    }
-}
-
-pub(crate) fn no_scheduler() -> Scheduler
-    ensures { λ r. ⌜ r ≡ noScheduler ⌝ }
-{
-    Scheduler {
-        buf_len: 0,
-        items_written: 0,
-        items_read: 0,
-    }
-}
-
-pub(crate) fn flat_scheduler(s: RingBufferScheduler) -> Scheduler
-    ensures { λ r. ⌜ r ≡ flatScheduler s ⌝ }
-{
-    Scheduler {
-        buf_len: s.buf_len,
-        items_written: s.items_written.0,
-        items_read: s.items_read.0,
-    }
-}
-
-fn flat_checked(a: Checked) -> SchedulerAnswer
-    ensures { λ r. ⌜ r ≡ flatChecked a ⌝ }
-{
-    match a {
-        Checked::Sound(s) => SchedulerAnswer {
-            refusal: no_refusal(),
-            scheduler: flat_scheduler(s),
-        },
-        Checked::Refused(e) => SchedulerAnswer {
-            refusal: flat_refusal(e),
-            scheduler: no_scheduler(),
-        },
-    }
-}
-
-fn flat_registered(a: Registered) -> SchedulerAnswer
-    ensures { λ r. ⌜ r ≡ flatRegistered a ⌝ }
-{
-    match a {
-        Registered::Advanced(s) => SchedulerAnswer {
-            refusal: no_refusal(),
-            scheduler: flat_scheduler(s),
-        },
-        Registered::Refused(e) => SchedulerAnswer {
-            refusal: flat_refusal(e),
-            scheduler: no_scheduler(),
-        },
-    }
-}
 
 // ---- making one
 

@@ -1,6 +1,6 @@
 -- The flat form of what the copy answers on the scheduler that the numbers stand for, with the memory that the copy leaves.
 use mathlib.Core.Path.{ap}
-use Rattle.stripring.specs.Copy.{flatLeft}
+use Rattle.flat.specs.Copy.{flatLeft}
 use borrow.Author.Needs.{needs}
 use Rattle.stripring.proofs.copy.stripring_copies_read.Statement.{statement}
 use Rattle.stripring.proofs.copy.stripring_copies_read.Tie as tie

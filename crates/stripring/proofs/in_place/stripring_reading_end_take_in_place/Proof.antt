@@ -6,8 +6,8 @@ use mathlib.Core.Path.{refl}
 use Rattle.ends.proofs.LentTake.{ByValue, takes}
 use Rattle.stripring.specs.InPlace.{TakeWrittenInPlace}
 use Rattle.stripring.proofs.InPlaceTypes.{reading-taker, reading-taker-returned}
-use Rattle.stripring.proofs.flat.WrittenCounter as P
-use Rattle.stripring.proofs.flat.WrittenCounter.Laws as P′
+use Rattle.flat.proofs.structs.WrittenCounter as P
+use Rattle.flat.proofs.structs.WrittenCounter.Laws as P′
 use Rattle.stripring.proofs.in_place.take_written_kept.Symbol as g-def
 use Rattle.stripring.proofs.in_place.take_written_kept.Met as g-thm
 use Rattle.stripring.proofs.in_place.stripring_reading_end_take_in_place as f

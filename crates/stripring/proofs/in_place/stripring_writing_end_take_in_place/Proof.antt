@@ -6,8 +6,8 @@ use mathlib.Core.Path.{refl}
 use Rattle.ends.proofs.LentTake.{ByValue, takes}
 use Rattle.stripring.specs.InPlace.{TakeReadInPlace}
 use Rattle.stripring.proofs.InPlaceTypes.{writing-taker, writing-taker-returned}
-use Rattle.stripring.proofs.flat.ReadCounter as P
-use Rattle.stripring.proofs.flat.ReadCounter.Laws as P′
+use Rattle.flat.proofs.structs.ReadCounter as P
+use Rattle.flat.proofs.structs.ReadCounter.Laws as P′
 use Rattle.stripring.proofs.in_place.take_read_kept.Symbol as g-def
 use Rattle.stripring.proofs.in_place.take_read_kept.Met as g-thm
 use Rattle.stripring.proofs.in_place.stripring_writing_end_take_in_place as f

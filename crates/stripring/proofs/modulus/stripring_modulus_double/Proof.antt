@@ -1,6 +1,6 @@
 -- The flat form of what `modular`'s call answers.
 use mathlib.Core.Path.{ap, _∙_}
-use Rattle.stripring.specs.Modulus.{flatModulus}
+use Rattle.flat.specs.Modulus.{flatModulus}
 use borrow.Author.Needs.{needs}
 use Rattle.stripring.proofs.modulus.stripring_modulus_double.Statement.{statement}
 use Rattle.stripring.proofs.modulus.stripring_modulus_double.Tie as tie

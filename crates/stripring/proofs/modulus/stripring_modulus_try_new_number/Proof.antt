@@ -1,6 +1,6 @@
 -- The flat form of what `modular`'s call answers.
 use mathlib.Core.Path.{ap, _∙_}
-use Rattle.stripring.specs.Modulus.{flatNumber}
+use Rattle.flat.specs.Modulus.{flatNumber}
 use borrow.Author.Needs.{needs}
 use Rattle.stripring.proofs.modulus.stripring_modulus_try_new_number.Statement.{statement}
 use Rattle.stripring.proofs.modulus.stripring_modulus_try_new_number.Tie as tie

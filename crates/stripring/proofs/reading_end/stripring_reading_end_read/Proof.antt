@@ -1,6 +1,6 @@
 -- The flat form of what `ends`' call answers on the end that the numbers stand for, with the memory that it leaves.
 use mathlib.Core.Path.{ap}
-use Rattle.stripring.specs.ReadingEnd.{flatGotLeft}
+use Rattle.flat.specs.ReadingEnd.{flatGotLeft}
 use borrow.Author.Needs.{needs}
 use Rattle.stripring.proofs.reading_end.stripring_reading_end_read.Statement.{statement}
 use Rattle.stripring.proofs.reading_end.stripring_reading_end_read.Tie as tie

@@ -1,6 +1,6 @@
 -- The flat form of what `ends`' call answers on the end that the numbers stand for, with the memory that it leaves.
 use mathlib.Core.Path.{ap}
-use Rattle.stripring.specs.WritingEnd.{flatWroteLeft}
+use Rattle.flat.specs.WritingEnd.{flatWroteLeft}
 use borrow.Author.Needs.{needs}
 use Rattle.stripring.proofs.writing_end.stripring_writing_end_write.Statement.{statement}
 use Rattle.stripring.proofs.writing_end.stripring_writing_end_write.Tie as tie

@@ -1,0 +1,27 @@
+// Copies between the ring's lent memory and a host's slice.
+ghost use mathlib.Core.Path.{_≡_};
+ghost use Rattle.flat.specs.Copy.{flatCopied};
+use crate::refusal::flat_copy_refusal;
+use crate::refusal::no_refusal;
+use crate::scheduler::flat_scheduler;
+use crate::scheduler::no_scheduler;
+use crate::scheduler::scheduler;
+use crate::structs::CopyAnswer;
+use copies::Copied;
+
+pub fn flat_copied(a: Copied) -> CopyAnswer
+    ensures { λ r. ⌜ r ≡ flatCopied a ⌝ }
+{
+    match a {
+        Copied::Moved { scheduler, n } => CopyAnswer {
+            refusal: no_refusal(),
+            scheduler: flat_scheduler(scheduler),
+            n,
+        },
+        Copied::Refused(e) => CopyAnswer {
+            refusal: flat_copy_refusal(e),
+            scheduler: no_scheduler(),
+            n: 0,
+        },
+    }
+}

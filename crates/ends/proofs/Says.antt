@@ -1,18 +1,9 @@
 -- What each public call says, in the order of the paper: whatever its attached contract allows is this definition of its
 -- arguments, and what it leaves in the lent memory is this one.
-use Prim.Native.Nat.{ℕ}
-use mathlib.Core.Path.{_≡_, ap}
-use mathlib.Core.List.{List}
+use mathlib.Core.Path.{ap}
 use Rattle.modular.proofs.Saying.{Says, Leaves}
 use Rattle.operations.specs.Refusal.{packed}
 use Rattle.sched.specs.Scheduler.{schedulerOf}
-use Rattle.ends.specs.declared.lent.Told.{Told}
-use Rattle.ends.specs.declared.reading_end.ReadCounter.{ReadCounter}
-use Rattle.ends.specs.declared.reading_end.ReadingEnd.{ReadingEnd}
-use Rattle.ends.specs.declared.refusal.Taken.{Taken}
-use Rattle.ends.specs.declared.writing_end.WrittenCounter.{WrittenCounter}
-use Rattle.ends.specs.declared.writing_end.WritingEnd.{WritingEnd}
-use Rattle.ends.specs.Lent.{toldWrote, writerAfter, WriteLeaves, toldGot, readerAfter, ReadLeaves, takenOfWriting, writerTook, TakeReadLeaves, takenOfReading, readerTook, TakeWrittenLeaves}
 use Rattle.ends.specs.Refusal.{numberOf, valuesOf}
 use Rattle.ends.specs.Ends.{writingEndOf, readingEndOf, WroteLeft, wroteOf, GotLeft, gotOf, writtenSentOf, readSentOf, takeReadOf, takeWrittenOf}
 use Rattle.ends.proofs.writing_end.WritingEnd.new.Kinds as WritingEnd-new-kinds
@@ -86,23 +77,6 @@ WritingEnd-take-says κs a z ws p = p
 
 pub ReadingEnd-take-says : Says 0 ReadingEnd-take-kinds.ps ReadingEnd-take-kinds.r ReadingEnd-take.Learnt (λ κs a. takeWrittenOf (a .0) (a .1 .0))
 ReadingEnd-take-says κs a z ws p = p
-
--- ---- the calls over a lent end: the toolchain reads no such contract, so each cites one predicate of its outcome
-pub write-lent-says : (e : WritingEnd) (ring src : List ℕ) (r : Told) (after : WritingEnd) (memory : List ℕ) → WriteLeaves e ring src r after memory →
-    (r ≡ toldWrote (wroteOf e ring src .answer)) × (after ≡ writerAfter e (wroteOf e ring src .answer)) × (memory ≡ wroteOf e ring src .memory)
-write-lent-says e ring src r after memory p = p
-
-pub read-lent-says : (e : ReadingEnd) (ring dst : List ℕ) (r : Told) (after : ReadingEnd) (memory : List ℕ) → ReadLeaves e ring dst r after memory →
-    (r ≡ toldGot (gotOf e ring dst .answer)) × (after ≡ readerAfter e (gotOf e ring dst .answer)) × (memory ≡ gotOf e ring dst .memory)
-read-lent-says e ring dst r after memory p = p
-
-pub take-read-lent-says : (e : WritingEnd) (c : ReadCounter) (r : Taken) (after : WritingEnd) → TakeReadLeaves e c r after →
-    (r ≡ takenOfWriting (takeReadOf e c)) × (after ≡ writerTook e (takeReadOf e c))
-take-read-lent-says e c r after p = p
-
-pub take-written-lent-says : (e : ReadingEnd) (c : WrittenCounter) (r : Taken) (after : ReadingEnd) → TakeWrittenLeaves e c r after →
-    (r ≡ takenOfReading (takeWrittenOf e c)) × (after ≡ readerTook e (takeWrittenOf e c))
-take-written-lent-says e c r after p = p
 
 -- ---- refusals in numbers
 pub Refusal-number-says : Says 0 Refusal-number-kinds.ps Refusal-number-kinds.r Refusal-number.Learnt (λ κs a. numberOf (a .0))

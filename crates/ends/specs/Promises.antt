@@ -11,11 +11,7 @@ use Rattle.sched.specs.Given.{Given}
 use Rattle.copies.specs.declared.lent.Told.the-variants as told
 use Rattle.copies.specs.Given.{Verdict, verdict, Exactly}
 use Rattle.copies.specs.Promises.{Writes, Reads}
-use Rattle.ends.specs.declared.lent.Told.{Told}
-use Rattle.ends.specs.declared.lent.Told.the-variants as lent
 use Rattle.ends.specs.declared.refusal.Refusal.{Refusal}
-use Rattle.ends.specs.declared.refusal.Taken.{Taken}
-use Rattle.ends.specs.declared.refusal.Taken.the-variants as taken
 use Rattle.ends.specs.declared.writing_end.WrittenCounter.{WrittenCounter}
 use Rattle.ends.specs.declared.writing_end.WrittenCounterAnswer.{WrittenCounterAnswer}
 use Rattle.ends.specs.declared.writing_end.WrittenCounterAnswer.the-variants as writtenCounter
@@ -106,20 +102,3 @@ withWritten e c = schedulerOf (e .scheduler .«buf_len») (c .0) (e .scheduler .
 
 abbrev pub TookR : ReadingEnd → WrittenCounter → ReadingEndAnswer → Type 0
 TookR e c z = Exactly (GivenTake (e .scheduler) (withWritten e c) Read) (ofReadingEnd z) × ((f : ReadingEnd) → z ≡ reading.Of f → f .scheduler ≡ withWritten e c)
-
--- ---- a call over a lent end tells what the call by value answers, and the end is then the answer's; a refused one leaves it as it was
-abbrev pub AsWrote : WritingEnd → Wrote → Told → WritingEnd → Type 0
-AsWrote e (wrote.Moved f n) r after = (r ≡ lent.Moved n) × (after ≡ f)
-AsWrote e (wrote.Refused x) r after = (r ≡ lent.Refused x) × (after ≡ e)
-
-abbrev pub AsGot : ReadingEnd → Got → Told → ReadingEnd → Type 0
-AsGot e (got.Moved f n) r after = (r ≡ lent.Moved n) × (after ≡ f)
-AsGot e (got.Refused x) r after = (r ≡ lent.Refused x) × (after ≡ e)
-
-abbrev pub AsTookRead : WritingEnd → WritingEndAnswer → Taken → WritingEnd → Type 0
-AsTookRead e (writing.Of f) r after = (r ≡ taken.Accepted) × (after ≡ f)
-AsTookRead e (writing.Refused x) r after = (r ≡ taken.Refused x) × (after ≡ e)
-
-abbrev pub AsTookWritten : ReadingEnd → ReadingEndAnswer → Taken → ReadingEnd → Type 0
-AsTookWritten e (reading.Of f) r after = (r ≡ taken.Accepted) × (after ≡ f)
-AsTookWritten e (reading.Refused x) r after = (r ≡ taken.Refused x) × (after ≡ e)

@@ -1,16 +1,10 @@
 // The two linked ends of a ring: a writing and a reading end, two kinds of record, so that a write cannot be asked of a reading
-// end. Each sends its own counter and takes the other's. A call takes an end by value and hands back the end after it; `lent` changes one
-// that is lent.
-mod lent;
+// end. Each sends its own counter and takes the other's. A call takes an end by value and hands back the end after it; the crate
+// `lent` changes one that is lent.
 mod reading_end;
 mod refusal;
 mod writing_end;
 
-pub use lent::Told;
-pub use lent::read_lent;
-pub use lent::take_read_lent;
-pub use lent::take_written_lent;
-pub use lent::write_lent;
 pub use reading_end::Got;
 pub use reading_end::ReadCounter;
 pub use reading_end::ReadCounterAnswer;

@@ -3,7 +3,7 @@ use contract.Running.{givenOf, tables, tablesOf}
 use denote.Triple.Spec.{tripleOf}
 use denote.Triple.Table.{entered, cited}
 use mathlib.Core.Path.{refl}
-use Rattle.ends.proofs.LentTake.{ByValue, takes}
+use Rattle.lent.proofs.LentTake.{ByValue, takes}
 use Rattle.stripring.specs.InPlace.{TakeWrittenInPlace}
 use Rattle.stripring.proofs.InPlaceTypes.{reading-taker, reading-taker-returned}
 use Rattle.flat.proofs.structs.WrittenCounter as P

@@ -1,8 +1,8 @@
 -- What is kept of the answer of `read` is what the lent call leaves.
-use Rattle.ends.proofs.LentLaws.{kept-reader}
+use Rattle.lent.proofs.LentLaws.{kept-reader}
 use borrow.Author.Needs.{needs}
-use Rattle.ends.proofs.lent.read_kept.Statement.{statement}
-use Rattle.ends.proofs.lent.read_kept.Tie as tie
+use Rattle.lent.proofs.read_kept.Statement.{statement}
+use Rattle.lent.proofs.read_kept.Tie as tie
 
 returns : tie.Need-returns
 returns c =

@@ -11,22 +11,22 @@ use denote.Steps.{only}
 use denote.Struct.Laws as LL
 use denote.Enum.Laws as EL
 use Rattle.copies.proofs.Lending.{Types, Returned}
 use Rattle.ends.proofs.writing_end.WritingEnd as We
 use Rattle.ends.proofs.writing_end.WritingEnd.Laws as We′
 use Rattle.ends.proofs.reading_end.ReadingEnd as Re
 use Rattle.ends.proofs.reading_end.ReadingEnd.Laws as Re′
-use Rattle.ends.proofs.lent.Told as To
-use Rattle.ends.proofs.lent.Told.Laws as To′
+use Rattle.lent.proofs.Told as To
+use Rattle.lent.proofs.Told.Laws as To′
 use Rattle.ends.proofs.refusal.Taken as Ta
 use Rattle.ends.proofs.refusal.Taken.Laws as Ta′
-use Rattle.ends.proofs.lent.KeptWriter as KW
-use Rattle.ends.proofs.lent.KeptWriter.Laws as KW′
-use Rattle.ends.proofs.lent.KeptReader as KR
-use Rattle.ends.proofs.lent.KeptReader.Laws as KR′
-use Rattle.ends.proofs.lent.TookWriter as TW
-use Rattle.ends.proofs.lent.TookWriter.Laws as TW′
-use Rattle.ends.proofs.lent.TookReader as TR
-use Rattle.ends.proofs.lent.TookReader.Laws as TR′
+use Rattle.lent.proofs.KeptWriter as KW
+use Rattle.lent.proofs.KeptWriter.Laws as KW′
+use Rattle.lent.proofs.KeptReader as KR
+use Rattle.lent.proofs.KeptReader.Laws as KR′
+use Rattle.lent.proofs.TookWriter as TW
+use Rattle.lent.proofs.TookWriter.Laws as TW′
+use Rattle.lent.proofs.TookReader as TR
+use Rattle.lent.proofs.TookReader.Laws as TR′
 
 -- ---- writer
 abbrev pub writer : Types

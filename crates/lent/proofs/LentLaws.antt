@@ -2,13 +2,13 @@
 use Prim.Native.Nat.{ℕ}
 use mathlib.Core.Path.{_≡_, ap, _∙_}
 use mathlib.Core.List.{List}
-use Rattle.ends.specs.declared.lent.Told.{Told}
+use Rattle.lent.specs.declared.Told.{Told}
 use Rattle.ends.specs.declared.reading_end.Got.{Got}
 use Rattle.ends.specs.declared.reading_end.ReadingEnd.{ReadingEnd}
 use Rattle.ends.specs.declared.writing_end.Wrote.{Wrote}
 use Rattle.ends.specs.declared.writing_end.WritingEnd.{WritingEnd}
 use Rattle.ends.specs.Ends.{WroteLeft, wroteLeft, wroteOf, GotLeft, gotLeft, gotOf}
-use Rattle.ends.specs.Lent.{toldWrote, writerAfter, WriteLeaves, toldGot, readerAfter, ReadLeaves}
+use Rattle.lent.specs.Lent.{toldWrote, writerAfter, WriteLeaves, toldGot, readerAfter, ReadLeaves}
 
 pub kept-writer : (e : WritingEnd) (ring src : List ℕ) (answer : Wrote) (memory : List ℕ) (r : Told) (after : WritingEnd) →
     wroteLeft answer memory ≡ wroteOf e ring src → (r ≡ toldWrote answer) × (after ≡ writerAfter e answer) → WriteLeaves e ring src r after memory

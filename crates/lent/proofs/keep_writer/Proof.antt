@@ -1,7 +1,7 @@
 -- What is told and which end is kept, by the answer's two cases.
 use borrow.Author.Needs.{needs}
-use Rattle.ends.proofs.lent.keep_writer.Statement.{statement}
-use Rattle.ends.proofs.lent.keep_writer.Tie as tie
+use Rattle.lent.proofs.keep_writer.Statement.{statement}
+use Rattle.lent.proofs.keep_writer.Tie as tie
 
 returns : tie.Need-returns
 returns c = (rw (c .before .answer .given .1), rw (c .before .answer .given .1))

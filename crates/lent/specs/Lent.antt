@@ -2,23 +2,23 @@
 use Prim.Native.Nat.{ℕ}
 use mathlib.Core.Path.{_≡_}
 use mathlib.Core.List.{List}
-use Rattle.ends.specs.declared.lent.Told.{Told}
-use Rattle.ends.specs.declared.lent.Told.the-variants as told
+use Rattle.lent.specs.declared.Told.{Told}
+use Rattle.lent.specs.declared.Told.the-variants as told
 use Rattle.ends.specs.declared.reading_end.Got.{Got}
 use Rattle.ends.specs.declared.reading_end.Got.the-variants as got
 use Rattle.ends.specs.declared.reading_end.ReadCounter.{ReadCounter}
 use Rattle.ends.specs.declared.reading_end.ReadingEnd.{ReadingEnd}
 use Rattle.ends.specs.declared.reading_end.ReadingEndAnswer.{ReadingEndAnswer}
 use Rattle.ends.specs.declared.reading_end.ReadingEndAnswer.the-variants as reading
 use Rattle.ends.specs.declared.refusal.Taken.{Taken}
 use Rattle.ends.specs.declared.refusal.Taken.the-variants as taken
 use Rattle.ends.specs.declared.writing_end.Wrote.{Wrote}
 use Rattle.ends.specs.declared.writing_end.Wrote.the-variants as wrote
 use Rattle.ends.specs.declared.writing_end.WrittenCounter.{WrittenCounter}
 use Rattle.ends.specs.declared.writing_end.WritingEnd.{WritingEnd}
 use Rattle.ends.specs.declared.writing_end.WritingEndAnswer.{WritingEndAnswer}
 use Rattle.ends.specs.declared.writing_end.WritingEndAnswer.the-variants as writing
 use Rattle.ends.specs.Ends.{wroteOf, gotOf, takeReadOf, takeWrittenOf}
 
 -- ---- writing and reading
 abbrev pub toldWrote : Wrote → Told

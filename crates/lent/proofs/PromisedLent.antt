@@ -5,30 +5,31 @@ use mathlib.Core.Path.{_≡_}
 use mathlib.Core.List.{List}
 use Rattle.copies.proofs.Promised.{KeepsLeft}
 use Rattle.modular.proofs.Saying.{Keeps}
-use Rattle.ends.specs.declared.lent.Told.{Told}
+use Rattle.lent.specs.declared.Told.{Told}
 use Rattle.ends.specs.declared.reading_end.Got.{Got}
 use Rattle.ends.specs.declared.reading_end.Got.the-variants as got
 use Rattle.ends.specs.declared.reading_end.ReadingEnd.{ReadingEnd}
 use Rattle.ends.specs.declared.reading_end.ReadingEndAnswer.{ReadingEndAnswer}
 use Rattle.ends.specs.declared.reading_end.ReadingEndAnswer.the-variants as reading
 use Rattle.ends.specs.declared.refusal.Taken.{Taken}
 use Rattle.ends.specs.declared.writing_end.Wrote.{Wrote}
 use Rattle.ends.specs.declared.writing_end.Wrote.the-variants as wrote
 use Rattle.ends.specs.declared.writing_end.WritingEnd.{WritingEnd}
 use Rattle.ends.specs.declared.writing_end.WritingEndAnswer.{WritingEndAnswer}
 use Rattle.ends.specs.declared.writing_end.WritingEndAnswer.the-variants as writing
 use Rattle.ends.specs.Ends.{wroteOf, gotOf, takeReadOf, takeWrittenOf}
-use Rattle.ends.specs.Lent.{toldWrote, writerAfter, WriteLeaves, toldGot, readerAfter, ReadLeaves, takenOfWriting, writerTook, TakeReadLeaves, takenOfReading, readerTook, TakeWrittenLeaves}
-use Rattle.ends.specs.Promises.{AsWrote, AsGot, AsTookRead, AsTookWritten}
-use Rattle.ends.proofs.Says.{WritingEnd-write-says, ReadingEnd-read-says, WritingEnd-take-says, ReadingEnd-take-says, write-lent-says, read-lent-says, take-read-lent-says, take-written-lent-says}
+use Rattle.lent.specs.Lent.{toldWrote, writerAfter, WriteLeaves, toldGot, readerAfter, ReadLeaves, takenOfWriting, writerTook, TakeReadLeaves, takenOfReading, readerTook, TakeWrittenLeaves}
+use Rattle.lent.specs.Promise.{AsWrote, AsGot, AsTookRead, AsTookWritten}
+use Rattle.lent.proofs.Says.{write-lent-says, read-lent-says, take-read-lent-says, take-written-lent-says}
+use Rattle.ends.proofs.Says.{WritingEnd-write-says, ReadingEnd-read-says, WritingEnd-take-says, ReadingEnd-take-says}
 use Rattle.ends.proofs.writing_end.WritingEnd.write.Kinds as write-kinds
 use Rattle.ends.proofs.writing_end.WritingEnd.write.Reads as write
 use Rattle.ends.proofs.reading_end.ReadingEnd.read.Kinds as read-kinds
 use Rattle.ends.proofs.reading_end.ReadingEnd.read.Reads as read
 use Rattle.ends.proofs.writing_end.WritingEnd.take.Kinds as takeW-kinds
 use Rattle.ends.proofs.writing_end.WritingEnd.take.Reads as takeW
 use Rattle.ends.proofs.reading_end.ReadingEnd.take.Kinds as takeR-kinds
 use Rattle.ends.proofs.reading_end.ReadingEnd.take.Reads as takeR
 
 -- by the two cases of the answer
 as-wrote : (e : WritingEnd) (z : Wrote) (r : Told) (after : WritingEnd) → r ≡ toldWrote z → after ≡ writerAfter e z → AsWrote e z r after

@@ -3,14 +3,14 @@ use contract.Running.{givenOf, tables, tablesOf}
 use denote.Triple.Spec.{tripleOf}
 use denote.Triple.Table.{entered, cited}
 use Rattle.copies.proofs.LentRead.{ByValue, reads}
-use Rattle.ends.specs.Lent.{ReadLeaves}
-use Rattle.ends.proofs.LendingEnds.{reader, reader-returned}
-use Rattle.ends.proofs.lent.read_kept.Symbol as g-def
-use Rattle.ends.proofs.lent.read_kept.Met as g-thm
-use Rattle.ends.proofs.lent.read_lent as f
-use Rattle.ends.proofs.lent.read_lent.Key.{name}
-use Rattle.ends.proofs.lent.read_lent.Statement as stated
-use Rattle.ends.proofs.lent.read_lent.Code as code
+use Rattle.lent.specs.Lent.{ReadLeaves}
+use Rattle.lent.proofs.LendingEnds.{reader, reader-returned}
+use Rattle.lent.proofs.read_kept.Symbol as g-def
+use Rattle.lent.proofs.read_kept.Met as g-thm
+use Rattle.lent.proofs.read_lent as f
+use Rattle.lent.proofs.read_lent.Key.{name}
+use Rattle.lent.proofs.read_lent.Statement as stated
+use Rattle.lent.proofs.read_lent.Code as code
 
 pub read-lent-spec : {M : Type 1} → stated.statement M
 unfolding code.routine tablesOf
@@ -18,4 +18,4 @@ read-lent-spec 𝓤 H 𝓜 𝓖 𝓡 =
     entered 𝓤 H (tripleOf 𝓤 H (𝓖 .A) f.signature (f.spec 𝓤 H (𝓖 .A) (𝓜 .mem) (𝓡 .run)))
     (tables 𝓤 H 𝓜 𝓡 code.env .C) (tables 𝓤 H 𝓜 𝓡 code.env .Λ) name code.function (code.unfolded 𝓤 H 𝓜 𝓡)
     (reads reader g-def.name ReadLeaves 𝓤 H (𝓖 .A) (givenOf 𝓤 H 𝓜 𝓖) (reader-returned 𝓤 H (𝓖 .A) (givenOf 𝓤 H 𝓜 𝓖)) (tablesOf 𝓤 H 𝓜 (tables 𝓤 H 𝓜 𝓡 code.env))
-    (cited 𝓤 H (ByValue reader g-def.name ReadLeaves 𝓤 H (𝓖 .A)) 𝓜 𝓡 code.env g-def.name g-def.routine code.calls-ends·lent·read-kept (g-thm.met 𝓤 H 𝓜 𝓖 𝓡)))
+    (cited 𝓤 H (ByValue reader g-def.name ReadLeaves 𝓤 H (𝓖 .A)) 𝓜 𝓡 code.env g-def.name g-def.routine code.calls-lent·read-kept (g-thm.met 𝓤 H 𝓜 𝓖 𝓡)))

@@ -1,8 +1,8 @@
 -- What is kept of the answer of `write` is what the lent call leaves.
-use Rattle.ends.proofs.LentLaws.{kept-writer}
+use Rattle.lent.proofs.LentLaws.{kept-writer}
 use borrow.Author.Needs.{needs}
-use Rattle.ends.proofs.lent.write_kept.Statement.{statement}
-use Rattle.ends.proofs.lent.write_kept.Tie as tie
+use Rattle.lent.proofs.write_kept.Statement.{statement}
+use Rattle.lent.proofs.write_kept.Tie as tie
 
 returns : tie.Need-returns
 returns c =

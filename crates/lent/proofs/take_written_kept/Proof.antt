@@ -1,8 +1,8 @@
 -- Whether the counter is taken and which end is kept, by the answer's two cases.
 use mathlib.Core.Path.{refl, sym, _∙_}
 use borrow.Author.Needs.{needs}
-use Rattle.ends.proofs.lent.take_written_kept.Statement.{statement}
-use Rattle.ends.proofs.lent.take_written_kept.Tie as tie
+use Rattle.lent.proofs.take_written_kept.Statement.{statement}
+use Rattle.lent.proofs.take_written_kept.Tie as tie
 
 returns : tie.Need-returns
 returns c = rw (← (sym (c .before .next .given .1) ∙ c .before .before .before .take .ensures)) (refl, refl)

@@ -1,17 +1,17 @@
 // The calls that change a lent end: its record is copied out, the call is made by value, and the end after it is stored back.
 // Where the call is refused the end is what it was, and no byte changes.
 ghost use mathlib.Core.Path.{_≡_};
-ghost use Rattle.ends.specs.Lent.{toldWrote, writerAfter, WriteLeaves, toldGot, readerAfter, ReadLeaves, takenOfWriting, writerTook, TakeReadLeaves, takenOfReading, readerTook, TakeWrittenLeaves};
-use crate::reading_end::Got;
-use crate::reading_end::ReadCounter;
-use crate::reading_end::ReadingEnd;
-use crate::reading_end::ReadingEndAnswer;
-use crate::refusal::Refusal;
-use crate::refusal::Taken;
-use crate::writing_end::WritingEnd;
-use crate::writing_end::WritingEndAnswer;
-use crate::writing_end::WrittenCounter;
-use crate::writing_end::Wrote;
+ghost use Rattle.lent.specs.Lent.{toldWrote, writerAfter, WriteLeaves, toldGot, readerAfter, ReadLeaves, takenOfWriting, writerTook, TakeReadLeaves, takenOfReading, readerTook, TakeWrittenLeaves};
+use ends::Got;
+use ends::ReadCounter;
+use ends::ReadingEnd;
+use ends::ReadingEndAnswer;
+use ends::Refusal;
+use ends::Taken;
+use ends::WritingEnd;
+use ends::WritingEndAnswer;
+use ends::WrittenCounter;
+use ends::Wrote;
 
 // How many bytes were moved, or why none were.
 pub enum Told {

@@ -1,113 +1,184 @@
-// What the answers of sched are made of, as numbers.
-use crate::line::Line;
-use sched::Bit;
-use sched::Block;
-use sched::BlockType;
-use sched::CumulativeOffset;
-use sched::CumulativeOffsets;
-use sched::OutsideRange;
-use sched::OutsideRanges;
-use sched::Refusal;
-use sched::RingBufferScheduler;
-use sched::ScheduledOperation;
-use sched::ScheduledOperations;
-use sched::Values;
+// Whether a line ends in an answer of sched: the answer's numbers in their order, the four of its refusal first.
+use crate::line::tells;
+use stripring::flat::Block;
+use stripring::flat::BlockAnswer;
+use stripring::flat::BlocksAnswer;
+use stripring::flat::Diff;
+use stripring::flat::NextAnswer;
+use stripring::flat::Operation;
+use stripring::flat::OperationsAnswer;
+use stripring::flat::RangesAnswer;
+use stripring::flat::SchedulerAnswer;
+use stripring::flat::StartsAnswer;
+use stripring::flat::U64Answer;
 
-pub fn of(value: u64) -> Line {
-    accepted().push(value)
+pub fn number(line: &[u64], from: usize, a: u64) -> bool {
+    tells(line, from, &[0, 0, 0, 0, a])
 }
 
-pub fn accepted() -> Line {
-    Line::new().push(0)
+pub fn amount(line: &[u64], from: usize, a: U64Answer) -> bool {
+    tells(
+        line,
+        from,
+        &[
+            a.refusal.number,
+            a.refusal.a,
+            a.refusal.b,
+            a.refusal.c,
+            a.value,
+        ],
+    )
 }
 
-pub fn refused(e: Refusal) -> Line {
-    refused_with(e.number(), e.values())
+pub fn scheduler(line: &[u64], from: usize, a: SchedulerAnswer) -> bool {
+    tells(
+        line,
+        from,
+        &[
+            a.refusal.number,
+            a.refusal.a,
+            a.refusal.b,
+            a.refusal.c,
+            a.scheduler.buf_len,
+            a.scheduler.items_written,
+            a.scheduler.items_read,
+        ],
+    )
 }
 
-// Only as many values as there are.
-pub fn refused_with(number: u64, values: Values) -> Line {
-    let line = Line::new().push(number);
-    let len = values.len;
-    match len {
-        0 => line,
-        1 => line.push(values.a),
-        2 => line.push(values.a).push(values.b),
-        _ => line.push3(values.a, values.b, values.c),
-    }
+pub fn block_made(line: &[u64], from: usize, a: Block) -> bool {
+    tells(line, from, &[0, 0, 0, 0, a.typ, a.no, a.off, a.len])
 }
 
-pub fn with_scheduler(line: Line, s: RingBufferScheduler) -> Line {
-    line.push3(s.buf_len, s.items_written.0, s.items_read.0)
+pub fn block(line: &[u64], from: usize, a: BlockAnswer) -> bool {
+    tells(
+        line,
+        from,
+        &[
+            a.refusal.number,
+            a.refusal.a,
+            a.refusal.b,
+            a.refusal.c,
+            a.block.typ,
+            a.block.no,
+            a.block.off,
+            a.block.len,
+        ],
+    )
 }
 
-// ---- blocks
-
-pub fn block(b: Block) -> Line {
-    with_block(accepted(), b)
+pub fn blocks(line: &[u64], from: usize, a: BlocksAnswer) -> bool {
+    tells(
+        line,
+        from,
+        &[
+            a.refusal.number,
+            a.refusal.a,
+            a.refusal.b,
+            a.refusal.c,
+            a.block_0.typ,
+            a.block_0.no,
+            a.block_0.off,
+            a.block_0.len,
+            a.block_1.typ,
+            a.block_1.no,
+            a.block_1.off,
+            a.block_1.len,
+            a.block_2.typ,
+            a.block_2.no,
+            a.block_2.off,
+            a.block_2.len,
+        ],
+    )
 }
 
-pub fn with_block(line: Line, b: Block) -> Line {
-    let typ = b.typ;
-    let no = b.no;
-    line.push(block_type(typ)).push3(bit(no), b.off.0, b.len)
+pub fn operation(line: &[u64], from: usize, a: Operation) -> bool {
+    tells(line, from, &[0, 0, 0, 0, a.typ, a.off, a.len])
 }
 
-fn block_type(typ: BlockType) -> u64 {
-    match typ {
-        BlockType::Free => 0,
-        BlockType::Data => 1,
-    }
+pub fn next(line: &[u64], from: usize, a: NextAnswer) -> bool {
+    tells(
+        line,
+        from,
+        &[
+            a.refusal.number,
+            a.refusal.a,
+            a.refusal.b,
+            a.refusal.c,
+            a.some,
+            a.operation.typ,
+            a.operation.off,
+            a.operation.len,
+        ],
+    )
 }
 
-fn bit(bit: Bit) -> u64 {
-    match bit {
-        Bit::Zero => 0,
-        Bit::One => 1,
-    }
+pub fn list(line: &[u64], from: usize, a: OperationsAnswer) -> bool {
+    tells(
+        line,
+        from,
+        &[
+            a.refusal.number,
+            a.refusal.a,
+            a.refusal.b,
+            a.refusal.c,
+            a.operations.count,
+            a.operations.first.typ,
+            a.operations.first.off,
+            a.operations.first.len,
+            a.operations.second.typ,
+            a.operations.second.off,
+            a.operations.second.len,
+        ],
+    )
 }
 
-// ---- operations
-
-pub fn operation(op: ScheduledOperation) -> Line {
-    with_operation(accepted(), op)
+pub fn starts(line: &[u64], from: usize, a: StartsAnswer) -> bool {
+    tells(
+        line,
+        from,
+        &[
+            a.refusal.number,
+            a.refusal.a,
+            a.refusal.b,
+            a.refusal.c,
+            a.count,
+            a.first_start,
+            a.first.typ,
+            a.first.off,
+            a.first.len,
+            a.second_start,
+            a.second.typ,
+            a.second.off,
+            a.second.len,
+        ],
+    )
 }
 
-pub fn with_operation(line: Line, op: ScheduledOperation) -> Line {
-    let typ = op.typ;
-    line.push3(typ.number(), op.off.0, op.len)
+pub fn ranges(line: &[u64], from: usize, a: RangesAnswer) -> bool {
+    tells(
+        line,
+        from,
+        &[
+            a.refusal.number,
+            a.refusal.a,
+            a.refusal.b,
+            a.refusal.c,
+            a.ranges.count,
+            a.ranges.first.start,
+            a.ranges.first.end,
+            a.ranges.first.op.typ,
+            a.ranges.first.op.off,
+            a.ranges.first.op.len,
+            a.ranges.second.start,
+            a.ranges.second.end,
+            a.ranges.second.op.typ,
+            a.ranges.second.op.off,
+            a.ranges.second.op.len,
+        ],
+    )
 }
 
-pub fn operations_of(list: ScheduledOperations) -> Line {
-    match list {
-        ScheduledOperations::None => of(0),
-        ScheduledOperations::One(a) => with_operation(of(1), a),
-        ScheduledOperations::Two(a, b) => with_operation(with_operation(of(2), a), b),
-    }
-}
-
-pub fn starts_of(list: CumulativeOffsets) -> Line {
-    match list {
-        CumulativeOffsets::None => of(0),
-        CumulativeOffsets::One(a) => with_start(of(1), a),
-        CumulativeOffsets::Two(a, b) => with_start(with_start(of(2), a), b),
-    }
-}
-
-fn with_start(line: Line, at: CumulativeOffset) -> Line {
-    let op = at.op;
-    with_operation(line.push(at.start), op)
-}
-
-pub fn ranges_of(list: OutsideRanges) -> Line {
-    match list {
-        OutsideRanges::None => of(0),
-        OutsideRanges::One(a) => with_range(of(1), a),
-        OutsideRanges::Two(a, b) => with_range(with_range(of(2), a), b),
-    }
-}
-
-fn with_range(line: Line, range: OutsideRange) -> Line {
-    let op = range.op;
-    with_operation(line.push(range.start).push(range.end), op)
+pub fn diff(line: &[u64], from: usize, a: Diff) -> bool {
+    tells(line, from, &[0, 0, 0, 0, a.different, a.old, a.new])
 }

@@ -1,4 +1,5 @@
 // A line of a list as numbers, and whether it ends in what a call answers.
+use stripring::flat::Refusal;
 
 // No line of a list has so many.
 pub const MOST: usize = 128;
@@ -13,18 +14,22 @@ pub fn after(at: usize, count: usize) -> usize {
     std::num::wrapping_add_usize(at, count)
 }
 
-// Whether the line's numbers from this index on are an answer, which begins with the four of its refusal: these, where the call is refused,
-// and else a 0 and what stands behind them. What either lacks is 0.
-pub fn tells(line: &[u64], from: usize, answer: &[u64]) -> bool {
-    if at(answer, 0) != 0 {
-        return ends_in(line, from, answer, 0);
+// Whether the line's numbers from this index on are an answer: 0 and its values, or the refusal's number and its values.
+pub fn answers(line: &[u64], from: usize, refusal: Refusal, values: &[u64]) -> bool {
+    if refusal.number != 0 {
+        return ends_in(
+            line,
+            from,
+            &[refusal.number, refusal.a, refusal.b, refusal.c],
+        );
     }
-    at(line, from) == 0 && ends_in(line, after(from, 1), answer, 4)
+    at(line, from) == 0 && ends_in(line, after(from, 1), values)
 }
 
-fn ends_in(line: &[u64], from: usize, answer: &[u64], first: usize) -> bool {
+// Whether the line's numbers from this index on are these. What either lacks is 0.
+pub fn ends_in(line: &[u64], from: usize, tail: &[u64]) -> bool {
     for i in 0..MOST {
-        if at(line, after(from, i)) != at(answer, after(first, i)) {
+        if at(line, after(from, i)) != at(tail, i) {
             return false;
         }
     }

@@ -19,7 +19,10 @@ pub fn replay(calls: Calls, name: &[u8], path: &[u8]) {
     let fd = os::open_read(path);
     let n = io::read_full(fd, &mut text);
     libc::close(fd);
-    compared(calls, &text[..n]).print(name);
+    let tally = compared(calls, &text[..n]);
+    io::write_all(STDOUT_FILENO, name);
+    print(b": ", tally.answers, b" answers, ");
+    print(b"", tally.differences, b" differences\n");
 }
 
 // No list is so long. The `ensures` keeps the proofs from writing the zeros out.
@@ -87,14 +90,8 @@ impl Tally {
             return self;
         }
         self.differences = next(self.differences);
-        print_count(b"another answer to line ", self.lines, b"\n");
+        print(b"another answer to line ", self.lines, b"\n");
         self
-    }
-
-    fn print(self, name: &[u8]) {
-        print(name);
-        print_count(b": ", self.answers, b" answers, ");
-        print_count(b"", self.differences, b" differences\n");
     }
 }
 
@@ -103,12 +100,8 @@ fn next(count: u64) -> u64 {
     std::num::wrapping_add_u64(count, 1)
 }
 
-fn print(text: &[u8]) {
-    io::write_all(STDOUT_FILENO, text);
-}
-
-fn print_count(before: &[u8], count: u64, behind: &[u8]) {
-    print(before);
+fn print(before: &[u8], count: u64, behind: &[u8]) {
+    io::write_all(STDOUT_FILENO, before);
     io::print_decimal(STDOUT_FILENO, count);
-    print(behind);
+    io::write_all(STDOUT_FILENO, behind);
 }

@@ -9,7 +9,8 @@ mod sched_answers;
 mod sched_inputs;
 mod sched_list;
 
-// Whose calls the lines of a list are. A new list is a name here, an arm in the next and a line of main.
+// Whose calls the lines of a list are. A new list is a name here, an arm in the next and a line of main; a new call of a list is a row of the
+// table in its module.
 pub enum Calls {
     Modular,
     Sched,

@@ -1,12 +1,16 @@
 // The list of the calls of modular. A line: op modulus a b some value.
 use crate::line::at;
-use crate::line::tells;
+use crate::line::ends_in;
 use stripring::modulus;
 use stripring::modulus::OptionU64;
 
 pub fn agrees(line: &[u64]) -> bool {
-    let answer = option(at(line, 0), at(line, 1), at(line, 2), at(line, 3));
-    tells(line, 4, &[answer.some, answer.value])
+    let op = at(line, 0);
+    if op > 10 {
+        return false;
+    }
+    let answer = option(op, at(line, 1), at(line, 2), at(line, 3));
+    ends_in(line, 4, &[answer.some, answer.value])
 }
 
 fn option(op: u64, m: u64, a: u64, b: u64) -> OptionU64 {

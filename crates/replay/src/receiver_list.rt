@@ -1,8 +1,9 @@
 // The list of the calls of the receiver. A line: op, what it takes, its answer; the list's head says more.
 use crate::line::after;
+use crate::line::answers;
 use crate::line::at;
-use crate::line::tells;
-use crate::receiver_runs;
+use crate::receiver_runs::read;
+use crate::receiver_runs::without_ring;
 use crate::sched_inputs::scheduler_at;
 use stripring::failure;
 use stripring::flat::Failure;
@@ -11,125 +12,100 @@ use stripring::flat::PotentialFailureAnswer;
 use stripring::flat::ReceiverAnswer;
 use stripring::flat::State;
 use stripring::flat::StateAnswer;
-use stripring::receiver_record::stripring_receiver_new;
+use stripring::receiver_record;
 use stripring::state;
 
+// The table of the calls. A row: op, the kind of answer, where that stands on the line, the call.
 pub fn agrees(line: &[u64]) -> bool {
     let op = at(line, 0);
-    match op {
-        0 => made(line, stripring_receiver_new(scheduler_at(line))),
-        8 => receiver_runs::read(op, line),
-        9 => receiver_runs::read(op, line),
-        10 => receiver_runs::without_ring(op, line),
-        11 => receiver_runs::without_ring(op, line),
-        _ => agrees_to_state(op, line, state_at(line, 1)),
+    if op == 0 {
+        return made(
+            line,
+            receiver_record::stripring_receiver_new(scheduler_at(line)),
+        );
+    }
+    match op / 2 {
+        3 => from_6(op, line, failure_at(line, 1)),
+        4 => read(op, line),
+        5 => without_ring(op, line),
+        _ => from_1(op, line, state_at(line, 1)),
     }
 }
 
-// Where each answer stands behind what its call takes, the call says.
-fn agrees_to_state(op: u64, line: &[u64], s: State) -> bool {
+fn from_1(op: u64, line: &[u64], s: State) -> bool {
     match op {
         1 => potential_failure(line, state::stripring_state_failure(s)),
-        2 => state_answer(
+        2 => state(
             line,
             6,
             state::stripring_state_with_failure(s, failure_at(line, 4)),
         ),
-        3 => state_answer(
+        3 => state(
             line,
             7,
             state::stripring_state_with_potential_failure(s, at(line, 4), failure_at(line, 5)),
         ),
-        4 => state_answer(line, 4, state::stripring_state_normalize(s)),
-        5 => state_answer(
+        4 => state(line, 4, state::stripring_state_normalize(s)),
+        5 => state(
             line,
             7,
             state::stripring_state_advance_state_towards_termination(s, state_at(line, 4)),
-        ),
-        _ => agrees_to_failure(op, line, failure_at(line, 1)),
-    }
-}
-
-fn agrees_to_failure(op: u64, line: &[u64], f: Failure) -> bool {
-    match op {
-        6 => failure_answer(line, 3, failure::stripring_failure_normalize(f)),
-        7 => failure_answer(
-            line,
-            5,
-            failure::stripring_failure_advance_failure_towards_error(f, failure_at(line, 3)),
         ),
         _ => false,
     }
 }
 
-// ---- whether a line ends in an answer: its numbers in their order, the four of its refusal first
+fn from_6(op: u64, line: &[u64], f: Failure) -> bool {
+    match op {
+        6 => failure(line, 3, failure::stripring_failure_normalize(f)),
+        _ => failure(
+            line,
+            5,
+            failure::stripring_failure_advance_failure_towards_error(f, failure_at(line, 3)),
+        ),
+    }
+}
+
+// ---- whether a line ends in an answer
 
 fn made(line: &[u64], a: ReceiverAnswer) -> bool {
-    tells(
+    let e = a.refusal;
+    let r = a.receiver;
+    let s = r.scheduler;
+    let state = r.state;
+    let f = state.failure;
+    answers(
         line,
         4,
+        e,
         &[
-            a.refusal.number,
-            a.refusal.a,
-            a.refusal.b,
-            a.refusal.c,
-            a.receiver.scheduler.buf_len,
-            a.receiver.scheduler.items_written,
-            a.receiver.scheduler.items_read,
-            a.receiver.state.kind,
-            a.receiver.state.failure.kind,
-            a.receiver.state.failure.value,
-            a.receiver.pending_ack_count,
-            a.receiver.notification_socket_shutdown_issued,
+            s.buf_len,
+            s.items_written,
+            s.items_read,
+            state.kind,
+            f.kind,
+            f.value,
+            r.pending_ack_count,
+            r.notification_socket_shutdown_issued,
         ],
     )
 }
 
 fn potential_failure(line: &[u64], a: PotentialFailureAnswer) -> bool {
-    tells(
-        line,
-        4,
-        &[
-            a.refusal.number,
-            a.refusal.a,
-            a.refusal.b,
-            a.refusal.c,
-            a.some,
-            a.failure.kind,
-            a.failure.value,
-        ],
-    )
+    let e = a.refusal;
+    let f = a.failure;
+    answers(line, 4, e, &[a.some, f.kind, f.value])
 }
 
-fn state_answer(line: &[u64], from: usize, a: StateAnswer) -> bool {
-    tells(
-        line,
-        from,
-        &[
-            a.refusal.number,
-            a.refusal.a,
-            a.refusal.b,
-            a.refusal.c,
-            a.state.kind,
-            a.state.failure.kind,
-            a.state.failure.value,
-        ],
-    )
+fn state(line: &[u64], from: usize, a: StateAnswer) -> bool {
+    let e = a.refusal;
+    let s = a.state;
+    answers(line, from, e, &[s.kind, s.failure.kind, s.failure.value])
 }
 
-fn failure_answer(line: &[u64], from: usize, a: FailureAnswer) -> bool {
-    tells(
-        line,
-        from,
-        &[
-            a.refusal.number,
-            a.refusal.a,
-            a.refusal.b,
-            a.refusal.c,
-            a.failure.kind,
-            a.failure.value,
-        ],
-    )
+fn failure(line: &[u64], from: usize, a: FailureAnswer) -> bool {
+    let e = a.refusal;
+    answers(line, from, e, &[a.failure.kind, a.failure.value])
 }
 
 // ---- what the calls take

@@ -3,8 +3,8 @@ ghost use Prim.Native.Nat.{_≤_};
 use crate::lent_run;
 use crate::lent_run::MOST;
 use crate::line::after;
+use crate::line::answers;
 use crate::line::at;
-use crate::line::tells;
 use crate::receiver_list::state_at;
 use crate::sched_inputs::scheduler_at;
 use states::Answer;
@@ -88,14 +88,12 @@ fn ended(line: &[u64], from: usize, a: EndedAnswer, dst: &[u8]) -> bool {
 }
 
 fn told(line: &[u64], from: usize, a: EndedAnswer) -> bool {
-    tells(
+    let e = a.refusal;
+    answers(
         line,
         from,
+        e,
         &[
-            a.refusal.number,
-            a.refusal.a,
-            a.refusal.b,
-            a.refusal.c,
             a.receiver.scheduler.buf_len,
             a.receiver.scheduler.items_written,
             a.receiver.scheduler.items_read,

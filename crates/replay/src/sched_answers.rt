@@ -1,5 +1,6 @@
-// Whether a line ends in an answer of sched: the answer's numbers in their order, the four of its refusal first.
-use crate::line::tells;
+// Whether a line ends in an answer of sched, a function for each kind of answer.
+use crate::line::answers;
+use crate::line::ends_in;
 use stripring::flat::Block;
 use stripring::flat::BlockAnswer;
 use stripring::flat::BlocksAnswer;
@@ -12,173 +13,131 @@ use stripring::flat::SchedulerAnswer;
 use stripring::flat::StartsAnswer;
 use stripring::flat::U64Answer;
 
-pub fn number(line: &[u64], from: usize, a: u64) -> bool {
-    tells(line, from, &[0, 0, 0, 0, a])
-}
-
 pub fn amount(line: &[u64], from: usize, a: U64Answer) -> bool {
-    tells(
-        line,
-        from,
-        &[
-            a.refusal.number,
-            a.refusal.a,
-            a.refusal.b,
-            a.refusal.c,
-            a.value,
-        ],
-    )
+    let e = a.refusal;
+    answers(line, from, e, &[a.value])
 }
 
 pub fn scheduler(line: &[u64], from: usize, a: SchedulerAnswer) -> bool {
-    tells(
-        line,
-        from,
-        &[
-            a.refusal.number,
-            a.refusal.a,
-            a.refusal.b,
-            a.refusal.c,
-            a.scheduler.buf_len,
-            a.scheduler.items_written,
-            a.scheduler.items_read,
-        ],
-    )
-}
-
-pub fn block_made(line: &[u64], from: usize, a: Block) -> bool {
-    tells(line, from, &[0, 0, 0, 0, a.typ, a.no, a.off, a.len])
+    let e = a.refusal;
+    let s = a.scheduler;
+    answers(line, from, e, &[s.buf_len, s.items_written, s.items_read])
 }
 
 pub fn block(line: &[u64], from: usize, a: BlockAnswer) -> bool {
-    tells(
-        line,
-        from,
-        &[
-            a.refusal.number,
-            a.refusal.a,
-            a.refusal.b,
-            a.refusal.c,
-            a.block.typ,
-            a.block.no,
-            a.block.off,
-            a.block.len,
-        ],
-    )
+    let e = a.refusal;
+    let b = a.block;
+    answers(line, from, e, &[b.typ, b.no, b.off, b.len])
 }
 
 pub fn blocks(line: &[u64], from: usize, a: BlocksAnswer) -> bool {
-    tells(
+    let e = a.refusal;
+    let b = a.block_0;
+    let c = a.block_1;
+    let d = a.block_2;
+    answers(
         line,
         from,
+        e,
         &[
-            a.refusal.number,
-            a.refusal.a,
-            a.refusal.b,
-            a.refusal.c,
-            a.block_0.typ,
-            a.block_0.no,
-            a.block_0.off,
-            a.block_0.len,
-            a.block_1.typ,
-            a.block_1.no,
-            a.block_1.off,
-            a.block_1.len,
-            a.block_2.typ,
-            a.block_2.no,
-            a.block_2.off,
-            a.block_2.len,
+            b.typ,
+            b.no,
+            b.off,
+            b.len,
+            c.typ,
+            c.no,
+            c.off,
+            c.len,
+            d.typ,
+            d.no,
+            d.off,
+            d.len,
         ],
     )
-}
-
-pub fn operation(line: &[u64], from: usize, a: Operation) -> bool {
-    tells(line, from, &[0, 0, 0, 0, a.typ, a.off, a.len])
 }
 
 pub fn next(line: &[u64], from: usize, a: NextAnswer) -> bool {
-    tells(
-        line,
-        from,
-        &[
-            a.refusal.number,
-            a.refusal.a,
-            a.refusal.b,
-            a.refusal.c,
-            a.some,
-            a.operation.typ,
-            a.operation.off,
-            a.operation.len,
-        ],
-    )
+    let e = a.refusal;
+    let o = a.operation;
+    answers(line, from, e, &[a.some, o.typ, o.off, o.len])
 }
 
 pub fn list(line: &[u64], from: usize, a: OperationsAnswer) -> bool {
-    tells(
+    let e = a.refusal;
+    let list = a.operations;
+    let x = list.first;
+    let y = list.second;
+    answers(
         line,
         from,
-        &[
-            a.refusal.number,
-            a.refusal.a,
-            a.refusal.b,
-            a.refusal.c,
-            a.operations.count,
-            a.operations.first.typ,
-            a.operations.first.off,
-            a.operations.first.len,
-            a.operations.second.typ,
-            a.operations.second.off,
-            a.operations.second.len,
-        ],
+        e,
+        &[list.count, x.typ, x.off, x.len, y.typ, y.off, y.len],
     )
 }
 
 pub fn starts(line: &[u64], from: usize, a: StartsAnswer) -> bool {
-    tells(
+    let e = a.refusal;
+    let x = a.first;
+    let y = a.second;
+    answers(
         line,
         from,
+        e,
         &[
-            a.refusal.number,
-            a.refusal.a,
-            a.refusal.b,
-            a.refusal.c,
             a.count,
             a.first_start,
-            a.first.typ,
-            a.first.off,
-            a.first.len,
+            x.typ,
+            x.off,
+            x.len,
             a.second_start,
-            a.second.typ,
-            a.second.off,
-            a.second.len,
+            y.typ,
+            y.off,
+            y.len,
         ],
     )
 }
 
 pub fn ranges(line: &[u64], from: usize, a: RangesAnswer) -> bool {
-    tells(
+    let e = a.refusal;
+    let list = a.ranges;
+    let p = list.first;
+    let q = list.second;
+    let x = p.op;
+    let y = q.op;
+    answers(
         line,
         from,
+        e,
         &[
-            a.refusal.number,
-            a.refusal.a,
-            a.refusal.b,
-            a.refusal.c,
-            a.ranges.count,
-            a.ranges.first.start,
-            a.ranges.first.end,
-            a.ranges.first.op.typ,
-            a.ranges.first.op.off,
-            a.ranges.first.op.len,
-            a.ranges.second.start,
-            a.ranges.second.end,
-            a.ranges.second.op.typ,
-            a.ranges.second.op.off,
-            a.ranges.second.op.len,
+            list.count,
+            p.start,
+            p.end,
+            x.typ,
+            x.off,
+            x.len,
+            q.start,
+            q.end,
+            y.typ,
+            y.off,
+            y.len,
         ],
     )
 }
 
-pub fn diff(line: &[u64], from: usize, a: Diff) -> bool {
-    tells(line, from, &[0, 0, 0, 0, a.different, a.old, a.new])
+// ---- what no call refuses
+
+pub fn number(line: &[u64], from: usize, n: u64) -> bool {
+    ends_in(line, from, &[0, n])
+}
+
+pub fn operation(line: &[u64], from: usize, o: Operation) -> bool {
+    ends_in(line, from, &[0, o.typ, o.off, o.len])
+}
+
+pub fn block_made(line: &[u64], from: usize, b: Block) -> bool {
+    ends_in(line, from, &[0, b.typ, b.no, b.off, b.len])
+}
+
+pub fn diff(line: &[u64], from: usize, d: Diff) -> bool {
+    ends_in(line, from, &[0, d.different, d.old, d.new])
 }

@@ -5,12 +5,12 @@ use Rattle.replay.proofs.line.ends_in.Statement.{statement}
 use Rattle.replay.proofs.line.ends_in.Tie as tie
 
 abbrev Inv-loop : tie.InvT-loop
-Inv-loop line from answer first i₀ i = i ≤ 128
+Inv-loop line from tail i₀ i = i ≤ 128
 
 abbrev μ-loop : tie.MeasureT-loop
-μ-loop line from answer first i₀ i = 128 - i
+μ-loop line from tail i₀ i = 128 - i
 
 pub ends-in-spec : {M : Type 1} → statement M
 ends-in-spec =
     tie.close (tie.spec Inv-loop μ-loop (search needs) (search needs) (search needs) (search needs) (search needs)
-    (search needs) (search needs) (search needs) (search needs) (search needs))
+    (search needs) (search needs) (search needs) (search needs))

@@ -18,9 +18,6 @@ use crate::sched_inputs::operation_at;
 use crate::sched_inputs::scheduler_at;
 use stripring::block;
 use stripring::diff;
-use stripring::flat::Diff;
-use stripring::flat::Operations;
-use stripring::flat::Scheduler;
 use stripring::list;
 use stripring::operation;
 use stripring::schedule;
@@ -29,25 +26,25 @@ use stripring::scheduler;
 // The table of the calls, five to a function. A row: op, the kind of answer, where that stands on the line, the call.
 pub fn agrees(line: &[u64]) -> bool {
     let op = at(line, 0);
-    let s = scheduler_at(line);
     match op / 5 {
-        0 => from_0(op, line, s),
-        1 => from_5(op, line, s),
-        2 => from_10(op, line, s),
-        3 => from_15(op, line, s),
-        4 => from_20(op, line, s),
-        5 => from_25(op, line, s),
-        6 => from_30(op, line, s),
-        7 => from_35(op, line, s),
-        8 => from_40(op, line, s),
-        9 => from_45(op, line, list_at(line, 1)),
-        10 => from_50(op, line, s),
-        11 => from_55(op, line, diff_at(line)),
+        0 => from_0(op, line),
+        1 => from_5(op, line),
+        2 => from_10(op, line),
+        3 => from_15(op, line),
+        4 => from_20(op, line),
+        5 => from_25(op, line),
+        6 => from_30(op, line),
+        7 => from_35(op, line),
+        8 => from_40(op, line),
+        9 => from_45(op, line),
+        10 => from_50(op, line),
+        11 => from_55(op, line),
         _ => false,
     }
 }
 
-fn from_0(op: u64, line: &[u64], s: Scheduler) -> bool {
+fn from_0(op: u64, line: &[u64]) -> bool {
+    let s = scheduler_at(line);
     match op {
         0 => number(line, 1, scheduler::stripring_scheduler_max_buf_len()),
         1 => scheduler(line, 2, scheduler::stripring_scheduler_try_new(s.buf_len)),
@@ -65,7 +62,8 @@ fn from_0(op: u64, line: &[u64], s: Scheduler) -> bool {
     }
 }
 
-fn from_5(op: u64, line: &[u64], s: Scheduler) -> bool {
+fn from_5(op: u64, line: &[u64]) -> bool {
+    let s = scheduler_at(line);
     match op {
         5 => amount(line, 4, scheduler::stripring_scheduler_items_written(s)),
         6 => amount(line, 4, scheduler::stripring_scheduler_read_off(s)),
@@ -75,7 +73,8 @@ fn from_5(op: u64, line: &[u64], s: Scheduler) -> bool {
     }
 }
 
-fn from_10(op: u64, line: &[u64], s: Scheduler) -> bool {
+fn from_10(op: u64, line: &[u64]) -> bool {
+    let s = scheduler_at(line);
     match op {
         10 => amount(line, 4, scheduler::stripring_scheduler_data_avail(s)),
         11 => amount(line, 4, scheduler::stripring_scheduler_space_avail(s)),
@@ -85,7 +84,8 @@ fn from_10(op: u64, line: &[u64], s: Scheduler) -> bool {
     }
 }
 
-fn from_15(op: u64, line: &[u64], s: Scheduler) -> bool {
+fn from_15(op: u64, line: &[u64]) -> bool {
+    let s = scheduler_at(line);
     match op {
         15 => amount(line, 4, scheduler::stripring_scheduler_is_nonempty(s)),
         16 => amount(line, 4, scheduler::stripring_scheduler_is_nonfull(s)),
@@ -95,7 +95,8 @@ fn from_15(op: u64, line: &[u64], s: Scheduler) -> bool {
     }
 }
 
-fn from_20(op: u64, line: &[u64], s: Scheduler) -> bool {
+fn from_20(op: u64, line: &[u64]) -> bool {
+    let s = scheduler_at(line);
     match op {
         20 => amount(line, 4, schedule::stripring_scheduler_block_2_off(s)),
         21 => amount(line, 4, schedule::stripring_scheduler_block_0_len(s)),
@@ -105,7 +106,8 @@ fn from_20(op: u64, line: &[u64], s: Scheduler) -> bool {
     }
 }
 
-fn from_25(op: u64, line: &[u64], s: Scheduler) -> bool {
+fn from_25(op: u64, line: &[u64]) -> bool {
+    let s = scheduler_at(line);
     match op {
         25 => block(line, 4, schedule::stripring_scheduler_block_1(s)),
         26 => block(line, 4, schedule::stripring_scheduler_block_2(s)),
@@ -115,7 +117,8 @@ fn from_25(op: u64, line: &[u64], s: Scheduler) -> bool {
     }
 }
 
-fn from_30(op: u64, line: &[u64], s: Scheduler) -> bool {
+fn from_30(op: u64, line: &[u64]) -> bool {
+    let s = scheduler_at(line);
     let a = at(line, 4);
     match op {
         30 => amount(
@@ -146,7 +149,8 @@ fn from_30(op: u64, line: &[u64], s: Scheduler) -> bool {
     }
 }
 
-fn from_35(op: u64, line: &[u64], s: Scheduler) -> bool {
+fn from_35(op: u64, line: &[u64]) -> bool {
+    let s = scheduler_at(line);
     let a = at(line, 4);
     match op {
         35 => next(
@@ -169,7 +173,8 @@ fn from_35(op: u64, line: &[u64], s: Scheduler) -> bool {
     }
 }
 
-fn from_40(op: u64, line: &[u64], s: Scheduler) -> bool {
+fn from_40(op: u64, line: &[u64]) -> bool {
+    let s = scheduler_at(line);
     let a = at(line, 4);
     let b = at(line, 5);
     match op {
@@ -201,7 +206,8 @@ fn from_40(op: u64, line: &[u64], s: Scheduler) -> bool {
     }
 }
 
-fn from_45(op: u64, line: &[u64], operations: Operations) -> bool {
+fn from_45(op: u64, line: &[u64]) -> bool {
+    let operations = list_at(line, 1);
     match op {
         45 => list(line, 8, list::stripring_operations_try_new(operations)),
         46 => list(line, 8, list::stripring_operations_container(operations)),
@@ -223,7 +229,8 @@ fn from_45(op: u64, line: &[u64], operations: Operations) -> bool {
     }
 }
 
-fn from_50(op: u64, line: &[u64], s: Scheduler) -> bool {
+fn from_50(op: u64, line: &[u64]) -> bool {
+    let s = scheduler_at(line);
     match op {
         50 => ranges(
             line,
@@ -249,7 +256,8 @@ fn from_50(op: u64, line: &[u64], s: Scheduler) -> bool {
     }
 }
 
-fn from_55(op: u64, line: &[u64], d: Diff) -> bool {
+fn from_55(op: u64, line: &[u64]) -> bool {
+    let d = diff_at(line);
     match op {
         55 => number(line, 4, diff::stripring_diff_is_same(d) as u64),
         56 => number(line, 4, diff::stripring_diff_is_different(d) as u64),

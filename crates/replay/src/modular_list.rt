@@ -1,58 +1,39 @@
 // The list of the calls of modular. A line: op modulus a b some value.
-use crate::line::Line;
-use modular::Modulus;
-use modular::OptionModulus;
-use modular::OptionNumber;
+use crate::line::at;
+use crate::line::ends_in;
+use flat::modulus::OptionU64;
+use stripring::modulus;
 
-pub fn taken(op: u64) -> usize {
+pub fn agrees(line: &[u64]) -> bool {
+    let op = at(line, 0);
+    if op > 10 {
+        return false;
+    }
+    let answer = option(op, at(line, 1), at(line, 2), at(line, 3));
+    ends_in(line, 4, &[answer.some, answer.value])
+}
+
+fn option(op: u64, m: u64, a: u64, b: u64) -> OptionU64 {
     match op {
-        0..=10 => 4,
-        _ => 0,
+        1 => modulus::stripring_modulus_try_new(m),
+        3 => modulus::stripring_modulus_modulus(m),
+        5 => modulus::stripring_modulus_double(m),
+        7 => modulus::stripring_modulus_try_new_number(m, a),
+        _ => OptionU64 {
+            some: 1,
+            value: number(op, m, a, b),
+        },
     }
 }
 
-pub fn said(op: u64, line: Line) -> Line {
-    let m = Modulus(line.at(1));
-    let a = line.at(2);
+fn number(op: u64, m: u64, a: u64, b: u64) -> u64 {
     match op {
-        1 => modulus(Modulus::try_new(m.0)),
-        3 => option(m.modulus()),
-        5 => modulus(m.double()),
-        7 => option(m.try_new_number(a)),
-        _ => some(number(op, m, a, line.at(3))),
+        0 => modulus::stripring_modulus_new_full_range(),
+        2 => modulus::stripring_modulus_is_full_range(m) as u64,
+        4 => modulus::stripring_modulus_contains(m, a) as u64,
+        6 => modulus::stripring_modulus_new_number(m, a),
+        8 => modulus::stripring_modulus_neg(m, a),
+        9 => modulus::stripring_modulus_sub(m, a, b),
+        _ => modulus::stripring_modulus_add(m, a, b),
     }
-}
-
-fn number(op: u64, m: Modulus, a: u64, b: u64) -> u64 {
-    match op {
-        0 => Modulus::new_full_range().0,
-        2 => m.is_full_range() as u64,
-        4 => m.contains(a) as u64,
-        6 => m.new_number(a),
-        8 => m.neg(a),
-        9 => m.sub(a, b),
-        _ => m.add(a, b),
-    }
-}
-
-fn modulus(answer: OptionModulus) -> Line {
-    match answer {
-        OptionModulus::Some(m) => some(m.0),
-        OptionModulus::None => none(),
-    }
-}
-
-fn option(answer: OptionNumber) -> Line {
-    match answer {
-        OptionNumber::Some(n) => some(n),
-        OptionNumber::None => none(),
-    }
-}
-
-fn some(value: u64) -> Line {
-    Line::new().push(1).push(value)
-}
-
-fn none() -> Line {
-    Line::new().push(0).push(0)
 }

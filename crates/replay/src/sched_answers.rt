@@ -1,113 +1,143 @@
-// What the answers of sched are made of, as numbers.
-use crate::line::Line;
-use sched::Bit;
-use sched::Block;
-use sched::BlockType;
-use sched::CumulativeOffset;
-use sched::CumulativeOffsets;
-use sched::OutsideRange;
-use sched::OutsideRanges;
-use sched::Refusal;
-use sched::RingBufferScheduler;
-use sched::ScheduledOperation;
-use sched::ScheduledOperations;
-use sched::Values;
+// Whether a line ends in an answer of sched, a function for each kind of answer.
+use crate::line::answers;
+use crate::line::ends_in;
+use flat::structs::Block;
+use flat::structs::BlockAnswer;
+use flat::structs::BlocksAnswer;
+use flat::structs::Diff;
+use flat::structs::NextAnswer;
+use flat::structs::Operation;
+use flat::structs::OperationsAnswer;
+use flat::structs::RangesAnswer;
+use flat::structs::SchedulerAnswer;
+use flat::structs::StartsAnswer;
+use flat::structs::U64Answer;
 
-pub fn of(value: u64) -> Line {
-    accepted().push(value)
+pub fn amount(line: &[u64], from: usize, a: U64Answer) -> bool {
+    let e = a.refusal;
+    answers(line, from, e, &[a.value])
 }
 
-pub fn accepted() -> Line {
-    Line::new().push(0)
+pub fn scheduler(line: &[u64], from: usize, a: SchedulerAnswer) -> bool {
+    let e = a.refusal;
+    let s = a.scheduler;
+    answers(line, from, e, &[s.buf_len, s.items_written, s.items_read])
 }
 
-pub fn refused(e: Refusal) -> Line {
-    refused_with(e.number(), e.values())
+pub fn block(line: &[u64], from: usize, a: BlockAnswer) -> bool {
+    let e = a.refusal;
+    let b = a.block;
+    answers(line, from, e, &[b.typ, b.no, b.off, b.len])
 }
 
-// Only as many values as there are.
-pub fn refused_with(number: u64, values: Values) -> Line {
-    let line = Line::new().push(number);
-    let len = values.len;
-    match len {
-        0 => line,
-        1 => line.push(values.a),
-        2 => line.push(values.a).push(values.b),
-        _ => line.push3(values.a, values.b, values.c),
-    }
+pub fn blocks(line: &[u64], from: usize, a: BlocksAnswer) -> bool {
+    let e = a.refusal;
+    let b = a.block_0;
+    let c = a.block_1;
+    let d = a.block_2;
+    answers(
+        line,
+        from,
+        e,
+        &[
+            b.typ,
+            b.no,
+            b.off,
+            b.len,
+            c.typ,
+            c.no,
+            c.off,
+            c.len,
+            d.typ,
+            d.no,
+            d.off,
+            d.len,
+        ],
+    )
 }
 
-pub fn with_scheduler(line: Line, s: RingBufferScheduler) -> Line {
-    line.push3(s.buf_len, s.items_written.0, s.items_read.0)
+pub fn next(line: &[u64], from: usize, a: NextAnswer) -> bool {
+    let e = a.refusal;
+    let o = a.operation;
+    answers(line, from, e, &[a.some, o.typ, o.off, o.len])
 }
 
-// ---- blocks
-
-pub fn block(b: Block) -> Line {
-    with_block(accepted(), b)
+pub fn list(line: &[u64], from: usize, a: OperationsAnswer) -> bool {
+    let e = a.refusal;
+    let list = a.operations;
+    let x = list.first;
+    let y = list.second;
+    answers(
+        line,
+        from,
+        e,
+        &[list.count, x.typ, x.off, x.len, y.typ, y.off, y.len],
+    )
 }
 
-pub fn with_block(line: Line, b: Block) -> Line {
-    let typ = b.typ;
-    let no = b.no;
-    line.push(block_type(typ)).push3(bit(no), b.off.0, b.len)
+pub fn starts(line: &[u64], from: usize, a: StartsAnswer) -> bool {
+    let e = a.refusal;
+    let x = a.first;
+    let y = a.second;
+    answers(
+        line,
+        from,
+        e,
+        &[
+            a.count,
+            a.first_start,
+            x.typ,
+            x.off,
+            x.len,
+            a.second_start,
+            y.typ,
+            y.off,
+            y.len,
+        ],
+    )
 }
 
-fn block_type(typ: BlockType) -> u64 {
-    match typ {
-        BlockType::Free => 0,
-        BlockType::Data => 1,
-    }
+pub fn ranges(line: &[u64], from: usize, a: RangesAnswer) -> bool {
+    let e = a.refusal;
+    let list = a.ranges;
+    let p = list.first;
+    let q = list.second;
+    let x = p.op;
+    let y = q.op;
+    answers(
+        line,
+        from,
+        e,
+        &[
+            list.count,
+            p.start,
+            p.end,
+            x.typ,
+            x.off,
+            x.len,
+            q.start,
+            q.end,
+            y.typ,
+            y.off,
+            y.len,
+        ],
+    )
 }
 
-fn bit(bit: Bit) -> u64 {
-    match bit {
-        Bit::Zero => 0,
-        Bit::One => 1,
-    }
+// ---- what no call refuses
+
+pub fn number(line: &[u64], from: usize, n: u64) -> bool {
+    ends_in(line, from, &[0, n])
 }
 
-// ---- operations
-
-pub fn operation(op: ScheduledOperation) -> Line {
-    with_operation(accepted(), op)
+pub fn operation(line: &[u64], from: usize, o: Operation) -> bool {
+    ends_in(line, from, &[0, o.typ, o.off, o.len])
 }
 
-pub fn with_operation(line: Line, op: ScheduledOperation) -> Line {
-    let typ = op.typ;
-    line.push3(typ.number(), op.off.0, op.len)
+pub fn block_made(line: &[u64], from: usize, b: Block) -> bool {
+    ends_in(line, from, &[0, b.typ, b.no, b.off, b.len])
 }
 
-pub fn operations_of(list: ScheduledOperations) -> Line {
-    match list {
-        ScheduledOperations::None => of(0),
-        ScheduledOperations::One(a) => with_operation(of(1), a),
-        ScheduledOperations::Two(a, b) => with_operation(with_operation(of(2), a), b),
-    }
-}
-
-pub fn starts_of(list: CumulativeOffsets) -> Line {
-    match list {
-        CumulativeOffsets::None => of(0),
-        CumulativeOffsets::One(a) => with_start(of(1), a),
-        CumulativeOffsets::Two(a, b) => with_start(with_start(of(2), a), b),
-    }
-}
-
-fn with_start(line: Line, at: CumulativeOffset) -> Line {
-    let op = at.op;
-    with_operation(line.push(at.start), op)
-}
-
-pub fn ranges_of(list: OutsideRanges) -> Line {
-    match list {
-        OutsideRanges::None => of(0),
-        OutsideRanges::One(a) => with_range(of(1), a),
-        OutsideRanges::Two(a, b) => with_range(with_range(of(2), a), b),
-    }
-}
-
-fn with_range(line: Line, range: OutsideRange) -> Line {
-    let op = range.op;
-    with_operation(line.push(range.start).push(range.end), op)
+pub fn diff(line: &[u64], from: usize, d: Diff) -> bool {
+    ends_in(line, from, &[0, d.different, d.old, d.new])
 }

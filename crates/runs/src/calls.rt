@@ -48,31 +48,6 @@ pub fn refused(scheduler: RingBufferScheduler, number: u64) -> Told {
     }
 }
 
-// ---- new ends
-
-pub fn new_writer(len: u64, start: u64) -> RingBufferScheduler {
-    match WritingEnd::from_counters(len, Counter(start), Counter(start)) {
-        WritingEndAnswer::Of(end) => end.scheduler,
-        WritingEndAnswer::Refused(_) => none(),
-    }
-}
-
-pub fn new_reader(len: u64, start: u64) -> RingBufferScheduler {
-    match ReadingEnd::from_counters(len, Counter(start), Counter(start)) {
-        ReadingEndAnswer::Of(end) => end.scheduler,
-        ReadingEndAnswer::Refused(_) => none(),
-    }
-}
-
-// The record of an end that is refused itself: every call refuses it.
-fn none() -> RingBufferScheduler {
-    RingBufferScheduler {
-        buf_len: 0,
-        items_read: Counter(0),
-        items_written: Counter(0),
-    }
-}
-
 // ---- counters
 
 // No counter of a run is so large: the end refused.

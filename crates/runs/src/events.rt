@@ -6,6 +6,7 @@ use crate::memory;
 use crate::notes::Note;
 use crate::numbers::add;
 use crate::numbers::min;
+use crate::numbers::sub;
 use crate::report;
 use crate::report::Report;
 use crate::report::behind;
@@ -27,69 +28,82 @@ pub fn happened(world: World, random: u64) -> World {
     }
 }
 
-fn writes(mut world: World, asked: u64) -> World {
+fn writes(world: World, asked: u64) -> World {
     let ring = world.ring;
     let src = memory::source(world.written);
-    let copied = copy::written(world.writer, ring, world.len, src, asked);
-    world.report = copied_by(world.report, report::WRITES, copied);
-    wrote(world, asked, copied)
+    wrote(
+        world,
+        asked,
+        copy::written(world.writer, ring, world.len, src, asked),
+    )
 }
 
-fn reads(mut world: World, asked: u64) -> World {
+fn reads(world: World, asked: u64) -> World {
     let ring = world.ring;
     let marks = [memory::MARK; 12];
-    let copied = copy::read_out(world.reader, ring, world.len, marks, asked);
-    world.report = copied_by(world.report, report::READS, copied);
-    got(world, asked, copied)
-}
-
-fn copied_by(report: Report, by: usize, copied: Copied) -> Report {
-    report
-        .check(report::ACCEPTED, copied.told.number == 0)
-        .check(report::LENT, copied.is_same)
-        .plus(by, 1)
-        .plus(behind(by, 1), copied.told.n)
+    got(
+        world,
+        asked,
+        copy::read_out(world.reader, ring, world.len, marks, asked),
+    )
 }
 
 fn wrote(mut world: World, asked: u64, copied: Copied) -> World {
     let told = copied.told;
-    let n = told.n;
     let ring = copied.ring;
     let old = world.ring;
     let space = calls::amount(world.writer.space_avail());
-    world.report = world
-        .report
-        .check(report::VIEWS, space == world.space())
-        .check(report::EXACT, n == min(asked, space))
-        .same(
-            report::ONLY_OWN,
-            world.cells(old, world.written),
-            world.cells(ring, world.written),
-            n,
-            world.len,
-        );
+    world.report = moved(
+        world.report,
+        report::WRITES,
+        copied,
+        asked,
+        space,
+        world.space(),
+    ).same(
+        report::ONLY_OWN,
+        world.cells(old, world.written),
+        world.cells(ring, world.written),
+        told.n,
+        world.len,
+    );
     let after = told.scheduler;
     world.writer = after;
     world.ring = ring;
-    world.written = add(world.written, n);
+    world.written = add(world.written, told.n);
     world
 }
 
 fn got(mut world: World, asked: u64, copied: Copied) -> World {
     let told = copied.told;
-    let n = told.n;
     let dst = copied.bytes;
     let data = calls::amount(world.reader.data_avail());
-    world.report = world
-        .report
-        .check(report::VIEWS, data == world.data())
-        .check(report::EXACT, n == min(asked, data))
-        .same(report::IN_ORDER, dst, memory::source(world.read), 0, n)
-        .same(report::UNTOUCHED, dst, [memory::MARK; 12], n, asked);
+    world.report = moved(
+            world.report,
+            report::READS,
+            copied,
+            asked,
+            data,
+            world.data(),
+        )
+        .same(report::IN_ORDER, dst, memory::source(world.read), 0, told.n)
+        .same(report::UNTOUCHED, dst, [memory::MARK; 12], told.n, asked);
     let after = told.scheduler;
     world.reader = after;
-    world.read = add(world.read, n);
+    world.read = add(world.read, told.n);
     world
+}
+
+// As many bytes as asked and as the record has; and the record has as many as the positions allow.
+fn moved(report: Report, by: usize, copied: Copied, asked: u64, has: u64, allowed: u64) -> Report {
+    let n = copied.told.n;
+    report
+        .check(report::ACCEPTED, copied.told.number == 0)
+        .check(report::LENT, copied.is_same)
+        .check(report::VIEWS, has == allowed)
+        .check(report::EXACT, n == min(asked, has))
+        .plus(by, 1)
+        .plus(behind(by, 1), n)
 }
 
 fn writer_sends(mut world: World) -> World {
@@ -110,6 +124,7 @@ fn sent(report: Report, counter: u64, by: usize) -> Report {
     report
         .check(report::ACCEPTED, counter != calls::REFUSED)
         .plus(by, 1)
+        .plus(behind(by, report::LOST), 1)
 }
 
 // Where nothing was sent, nothing happens.
@@ -153,11 +168,14 @@ fn writer_takes(mut world: World, random: u64) -> World {
     world
 }
 
+// A note is lost until it is taken.
 fn taken(report: Report, number: u64, note: Note, sent: u64, by: usize) -> Report {
+    let again = note.taken as u64;
     let late = add(note.number, 1) < sent;
     report
         .check(report::ACCEPTED, number == 0)
         .plus(behind(by, report::TAKEN), 1)
+        .plus(behind(by, report::LOST), sub(again, 1))
         .plus(behind(by, report::LATE), late as u64)
-        .plus(behind(by, report::REPEATED), note.taken as u64)
+        .plus(behind(by, report::REPEATED), again)
 }

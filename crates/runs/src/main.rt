@@ -16,22 +16,21 @@ use world::World;
 // In each run.
 const EVENTS: u64 = 4000;
 
+// Over rings of 1 to 9 bytes, of which the last has 18 counters.
 fn main() {
     let mut report = Report::new();
-    for len in 1..=9 {
-        report = every_start(report, len);
+    for i in 0..162 {
+        report = started(report, 1 + i / 18, i % 18);
     }
     report.print();
 }
 
-// Both ends start at each counter that a ring of this length has.
-fn every_start(report: Report, len: u64) -> Report {
-    let mut report = report;
-    for start in 0..add(len, len) {
-        let world = World::new(report, len, start);
-        report = run(world, numbers::seed(len, start)).ended();
+// Both ends start at this counter, where a ring of this length has it.
+fn started(report: Report, len: u64, start: u64) -> Report {
+    if start >= add(len, len) {
+        return report;
     }
-    report
+    run(World::new(report, len, start), numbers::seed(len, start)).ended()
 }
 
 fn run(world: World, seed: u64) -> World {

@@ -27,7 +27,7 @@ pub const BY_READER: usize = 12;
 
 pub const TAKEN: usize = 1;
 
-const LOST: usize = 2;
+pub const LOST: usize = 2;
 
 pub const LATE: usize = 3;
 
@@ -103,27 +103,11 @@ impl Report {
         self.checked(promise, sub(to, from), differing(a, b, from, to))
     }
 
-    // The events are the calls that are to be accepted and those that are not.
-    fn with_events(self) -> Report {
-        let wanted = add(self.of(RAN_BACK), self.of(WRONG_MEMORY));
-        self.plus(EVENTS, add(self.of(ACCEPTED), wanted))
-    }
-
-    // Lost are those that were never taken.
-    fn with_lost(self, counters: usize) -> Report {
-        let taken = sub(
-            self.of(behind(counters, TAKEN)),
-            self.of(behind(counters, REPEATED)),
-        );
-        self.plus(behind(counters, LOST), sub(self.of(counters), taken))
-    }
-
+    // The events are the calls that are to be accepted and those that are to be refused.
     pub fn print(self) {
-        self.with_events()
-            .with_lost(BY_WRITER)
-            .with_lost(BY_READER)
-            .fill(
-                b"\
+        let events = add(self.of(ACCEPTED), self.of(NUMBERS));
+        self.plus(EVENTS, events).fill(
+            b"\
 % runs, over rings of 1 to 9 bytes, from every counter\n\
 % events\n\
 % writes of % bytes\n\
@@ -144,7 +128,7 @@ both records are equal: % checks, % failures\n\
 refused with its number, 9 or 10: % checks, % failures\n\
 a refusal touches no byte: % checks, % failures\n\
 a lent scheduler makes the same copy: % checks, % failures\n",
-            );
+        );
     }
 
     // Prints the text with a count for each %.

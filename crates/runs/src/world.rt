@@ -7,6 +7,7 @@ use crate::numbers::rem;
 use crate::numbers::sub;
 use crate::report;
 use crate::report::Report;
+use sched::Counter;
 use sched::RingBufferScheduler;
 
 pub struct World {
@@ -30,9 +31,15 @@ pub struct World {
 impl World {
     // Both ends are new, and the ring holds old bytes.
     pub fn new(report: Report, len: u64, start: u64) -> World {
+        let at = Counter(start);
+        let scheduler = RingBufferScheduler {
+            buf_len: len,
+            items_read: at,
+            items_written: at,
+        };
         World {
-            writer: calls::new_writer(len, start),
-            reader: calls::new_reader(len, start),
+            writer: scheduler,
+            reader: scheduler,
             ring: [memory::OLD; 12],
             len,
             start,
@@ -82,10 +89,9 @@ impl World {
 
     // The report with this run in it.
     pub fn ended(self) -> Report {
-        let turns = sub(self.written, rem(self.written, self.len));
         self.report
             .plus(report::RUNS, 1)
-            .plus(report::TURNS, quotient(turns, self.len))
+            .plus(report::TURNS, quotient(self.written, self.len))
     }
 }
 

@@ -10,34 +10,7 @@ Inv-loop ring len first bytes₀ i₀ bytes i = i ≤ 12
 abbrev μ-loop : tie.MeasureT-loop
 μ-loop ring len first bytes₀ i₀ bytes i = 12 - i
 
-loop-holds : tie.Need-loop-holds Inv-loop μ-loop
-loop-holds c = search needs
-
-add-requires : tie.Need-add-requires Inv-loop μ-loop
-add-requires c κs = search needs
-
-rem-requires : tie.Need-rem-requires Inv-loop μ-loop
-rem-requires c κs = search needs
-
-at-requires : tie.Need-at-requires Inv-loop μ-loop
-at-requires c κs = search needs
-
-array-write-bytes : tie.Need-array-write-bytes Inv-loop μ-loop
-array-write-bytes c = search needs
-
-add-i : tie.Need-add-i Inv-loop μ-loop
-add-i c = search needs
-
-loop-less : tie.Need-loop-less Inv-loop μ-loop
-loop-less c = search needs
-
-loop-again : tie.Need-loop-again Inv-loop μ-loop
-loop-again c = search needs
-
-returns : tie.Need-returns Inv-loop μ-loop
-returns c = search needs
-
 pub turned-spec : {M : Type 1} → statement M
 turned-spec =
-    tie.close (tie.spec Inv-loop μ-loop loop-holds add-requires rem-requires at-requires array-write-bytes add-i loop-less loop-again
-    returns)
+    tie.close (tie.spec Inv-loop μ-loop (search needs) (search needs) (search needs) (search needs) (search needs) (search needs)
+    (search needs) (search needs) (search needs))

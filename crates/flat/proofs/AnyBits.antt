@@ -10,7 +10,7 @@ use Rattle.states.proofs.Rules.{read-back}
 use Rattle.states.specs.declared.state.Failure as receiver-failure
 use Rattle.flat.specs.AnyBits.{AnyBits}
 use Rattle.flat.specs.Block.{blockTypeAt, bitAt}
-use Rattle.flat.specs.Call.{endingAt, phaseAt}
+use Rattle.flat.specs.Call.{phaseAt}
 use Rattle.flat.specs.Diff.{diffAt}
 use Rattle.flat.specs.Failure.{failureAt, potentialFailureAt}
 use Rattle.flat.specs.List.{operationsAt}
@@ -32,7 +32,7 @@ by-kind f true p x y g h = g (eqb-true _ _ p)
 by-kind f false p x y g h = h (eqb-false _ _ p)
 
 pub any-bits : AnyBits
-unfolding typeAt blockTypeAt bitAt diffAt potentialFailureAt failureAt endingAt operationsAt stateAt cameAt phaseAt
+unfolding typeAt blockTypeAt bitAt diffAt potentialFailureAt failureAt operationsAt stateAt cameAt phaseAt
 any-bits =
     record {
       types = λ n l. rw (past 0 n l);

@@ -41,7 +41,6 @@ use Rattle.receiver.specs.Call.{answeredOf}
 use Rattle.states.specs.declared.answer.Answer.{Answer}
 use Rattle.receiver.specs.declared.call.Call.{Call}
 use Rattle.receiver.specs.declared.call.Ending.{Ending}
-use Rattle.receiver.specs.declared.call.Ending.the-variants.{Dropped, Told}
 use Rattle.receiver.specs.declared.call.Phase.{Phase}
 use Rattle.receiver.specs.declared.call.Phase.the-variants as phase
 use Rattle.receiver.specs.declared.receiver.Beside.{Beside}
@@ -68,7 +67,7 @@ use Rattle.flat.specs.Modulus.{flatModulus, flatNumber}
 use Rattle.flat.specs.Operation.{typeAt, operationAt, flatOperation}
 use Rattle.flat.specs.Outcome.{cameAt, outcomeAt, flatCame, flatOutcome}
 use Rattle.flat.specs.ReadingEnd.{readingEndAt, flatReadingEnd}
-use Rattle.flat.specs.Receiver.{issuedAt, receiverAt, flatReceiver}
+use Rattle.flat.specs.Receiver.{yesAt, receiverAt, flatReceiver}
 use Rattle.flat.specs.Refusal.{schedulerRefusalAt, receiverRefusalAt}
 use Rattle.flat.specs.Scheduler.{schedulerAt, flatScheduler}
 use Rattle.flat.specs.State.{stateAt, flatState}
@@ -208,10 +207,12 @@ outcome-back o = by (o .came) (o .beside)
     by came.Done b = refl
     by (came.Failed f) b = ap (λ (y : Failure). record { came = came.Failed y; beside = b }) (failure-back f)
 
+pub yes-back : (b : Bool) → yesAt (boolNumber b) ≡ b
+yes-back true = refl
+yes-back false = refl
+
 ending-back : (e : Ending) → endingAt (flatEnding e) ≡ e
-unfolding endingAt
-ending-back (Dropped o) = ap Dropped (outcome-back o)
-ending-back (Told o) = ap Told (outcome-back o)
+ending-back e = rw (yes-back (e .told), outcome-back (e .outcome))
 
 phase-back : (p : Phase) → phaseAt (flatPhase p) ≡ p
 unfolding phaseAt
@@ -220,12 +221,8 @@ phase-back (phase.Send batch e) = ap (phase.Send batch) (ending-back e)
 phase-back (phase.Shutdown e) = ap phase.Shutdown (ending-back e)
 phase-back (phase.Finished o) = ap phase.Finished (outcome-back o)
 
-pub issued-back : (b : Bool) → issuedAt (boolNumber b) ≡ b
-issued-back true = refl
-issued-back false = refl
-
 pub receiver-back : (q : ReceiverState) → receiverAt (flatReceiver q) ≡ q
-receiver-back q = rw (state-back (q .state), issued-back (q .«notification_socket_shutdown_issued»))
+receiver-back q = rw (state-back (q .state), yes-back (q .«notification_socket_shutdown_issued»))
 
 pub call-back : (c : Call) → callAt (flatCall c) ≡ c
 call-back c = rw (receiver-back (c .receiver), phase-back (c .phase))

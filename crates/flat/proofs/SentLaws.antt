@@ -95,7 +95,7 @@ use Rattle.flat.specs.Scheduler.{flatChecked, flatRegistered}
 use Rattle.flat.specs.State.{flatStateAnswer}
 use Rattle.flat.specs.WritingEnd.{flatWritingEndAnswer, flatWrote, flatWrittenCounter}
 use Rattle.flat.specs.declared.structs.Refusal.{Refusal}
-use Rattle.flat.proofs.BackLaws.{scheduler-back, writing-end-back, reading-end-back, operation-back, operations-back, starts-back, ranges-back, block-back, layout-back, fill-back, issued-back, failure-back, state-back, outcome-back, receiver-back, call-back}
+use Rattle.flat.proofs.BackLaws.{scheduler-back, writing-end-back, reading-end-back, operation-back, operations-back, starts-back, ranges-back, block-back, layout-back, fill-back, yes-back, failure-back, state-back, outcome-back, receiver-back, call-back}
 use Rattle.flat.proofs.StandsLaws.{bool-stands, layout-stands, fill-stands, scheduler-stands, operation-stands, operations-stand, ranges-stand, block-stands, failure-zeros, failure-stands, state-stands, receiver-stands, outcome-stands, outcome-zeros, call-stands, receiver-zeros, call-zeros}
 
 -- ---- the refusals: the number, and the values in order
@@ -151,7 +151,7 @@ amount-sent (amount.Of n) = (accepted, refl, refl)
 amount-sent (amount.Refused e) = (scheduler-refusal-some e, scheduler-refusal e, refl)
 
 pub bool-sent : (x : BoolAnswer) → BoolSent (flatBool x) (boolResult x)
-bool-sent (bool.Of b) = (accepted, bool-stands b, issued-back b)
+bool-sent (bool.Of b) = (accepted, bool-stands b, yes-back b)
 bool-sent (bool.Refused e) = (scheduler-refusal-some e, scheduler-refusal e, refl)
 
 pub layout-sent : (x : LayoutAnswer) → LayoutSent (flatLayout x) (layoutResult x)

@@ -29,7 +29,6 @@ use Rattle.sched.specs.declared.scheduler.RingBufferScheduler.{RingBufferSchedu
 use Rattle.states.proofs.Rules.{numbered}
 use Rattle.receiver.specs.declared.call.Call.{Call}
 use Rattle.receiver.specs.declared.call.Ending.{Ending}
-use Rattle.receiver.specs.declared.call.Ending.the-variants.{Dropped, Told}
 use Rattle.receiver.specs.declared.call.Phase.{Phase}
 use Rattle.receiver.specs.declared.call.Phase.the-variants.{Receive, Send, Shutdown, Finished}
 use Rattle.receiver.specs.declared.receiver.Came.{Came}
@@ -152,8 +151,7 @@ ending-zeros : NoEnding noEnding
 ending-zeros = (refl, outcome-zeros)
 
 ending-stands : (e : Ending) → EndingStands (flatEnding e) e
-ending-stands (Dropped o) = (refl, outcome-stands o)
-ending-stands (Told o) = (refl, outcome-stands o)
+ending-stands e = (bool-stands (e .told), outcome-stands (e .outcome))
 
 phase-stands : (p : Phase) → PhaseStands (flatPhase p) p
 phase-stands (Receive w) = (refl, refl, refl, refl, ending-zeros, outcome-zeros)

@@ -7,7 +7,6 @@ use Rattle.sched.specs.declared.block.BlockType.the-variants.{Data}
 use Rattle.operations.specs.declared.diff.Diff.the-variants.{Same, Different}
 use Rattle.operations.specs.declared.list.ScheduledOperations.the-variants.{Two}
 use Rattle.operations.specs.declared.operation.OperationType.the-variants.{Write}
-use Rattle.receiver.specs.declared.call.Ending.the-variants.{Told}
 use Rattle.receiver.specs.declared.call.Phase.the-variants.{Finished}
 use Rattle.receiver.specs.declared.receiver.Came.the-variants.{Failed}
 use Rattle.states.specs.declared.state.OperationalState.the-variants.{Terminated}
@@ -19,7 +18,7 @@ use Rattle.flat.specs.Failure.{failureAt, potentialFailureAt}
 use Rattle.flat.specs.List.{operationsAt}
 use Rattle.flat.specs.Operation.{typeAt, operationAt}
 use Rattle.flat.specs.Outcome.{outcomeAt}
-use Rattle.flat.specs.Receiver.{issuedAt}
+use Rattle.flat.specs.Receiver.{yesAt}
 use Rattle.flat.specs.Stands.{FailureRead}
 use Rattle.flat.specs.State.{stateAt}
 use Rattle.flat.specs.declared.structs.Diff.{Diff}
@@ -35,12 +34,12 @@ pub record AnyBits : Type 0 where
   pub types : (n : ℕ) → 0 < n → typeAt n ≡ Write
   pub block-types : (n : ℕ) → 0 < n → blockTypeAt n ≡ Data
   pub bits : (n : ℕ) → 0 < n → bitAt n ≡ One
-  pub bools : (n : ℕ) → 0 < n → issuedAt n ≡ true
+  pub bools : (n : ℕ) → 0 < n → yesAt n ≡ true
   pub differences : (d : Diff) → 0 < d .different → diffAt d ≡ Different (d .old) (d .new)
   -- and where it is 0 `new` is not looked at
   pub same : (d : Diff) → d .different ≡ 0 → diffAt d ≡ Same (d .old)
   pub potentials : (n : ℕ) (f : Failure) → 0 < n → potentialFailureAt n f ≡ Some (failureAt f)
-  pub endings : (e : Ending) → 0 < e .told → endingAt e ≡ Told (outcomeAt (e .outcome))
+  pub endings : (e : Ending) → 0 < e .told → endingAt e .told ≡ true
   -- any number past the last is the last
   pub lists : (ops : Operations) → 1 < ops .count → operationsAt ops ≡ Two (operationAt (ops .first)) (operationAt (ops .second))
   pub states : (s : State) → 1 < s .kind → stateAt s ≡ Terminated (failureAt (s .failure))

@@ -46,7 +46,7 @@ use Rattle.flat.specs.List.{operationsAt}
 use Rattle.flat.specs.Operation.{operationAt}
 use Rattle.flat.specs.Outcome.{outcomeAt}
 use Rattle.flat.specs.ReadingEnd.{readCounterAt, readingEndAt}
-use Rattle.flat.specs.Receiver.{issuedAt, receiverAt}
+use Rattle.flat.specs.Receiver.{yesAt, receiverAt}
 use Rattle.flat.specs.Results.{Result, value, refused}
 use Rattle.flat.specs.Scheduler.{schedulerAt}
 use Rattle.flat.specs.Stands.{BoolStands, LayoutStands, FillStands, SchedulerStands, OperationStands, BlockStands, NoOperation, NoScheduler, NoBlock, NoFailure, NoOutcome, NoReceiver, NoCall, OperationsStands, RangesStands, WritingEndStands, ReadingEndStands, WrittenCounterStands, ReadCounterStands, FailureStands, StateStands, ReceiverStands, OutcomeStands, CallStands}
@@ -142,7 +142,7 @@ abbrev pub NumberSent : U64Answer → Result ℕ → Type 0
 NumberSent z = Sent (z .refusal) (λ n. z .value ≡ n) (z .value ≡ 0) (z .value)
 
 abbrev pub BoolSent : U64Answer → Result Bool → Type 0
-BoolSent z = Sent (z .refusal) (BoolStands (z .value)) (z .value ≡ 0) (issuedAt (z .value))
+BoolSent z = Sent (z .refusal) (BoolStands (z .value)) (z .value ≡ 0) (yesAt (z .value))
 
 abbrev pub LayoutSent : U64Answer → Result BufferLayout → Type 0
 LayoutSent z = Sent (z .refusal) (LayoutStands (z .value)) (z .value ≡ 0) (layoutAt (z .value))

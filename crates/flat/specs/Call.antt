@@ -5,7 +5,6 @@ use lib.Dec.{eqb}
 use Rattle.receiver.specs.Call as of-receiver
 use Rattle.receiver.specs.declared.call.Call as receiver-call
 use Rattle.receiver.specs.declared.call.Ending as receiver-ending
-use Rattle.receiver.specs.declared.call.Ending.the-variants.{Dropped, Told}
 use Rattle.receiver.specs.declared.call.Phase as receiver-phase
 use Rattle.receiver.specs.declared.call.Phase.the-variants.{Receive, Send, Shutdown, Finished}
 use Rattle.receiver.specs.declared.call.Step.{Step}
@@ -16,21 +15,21 @@ use Rattle.flat.specs.declared.structs.Ending.{Ending}
 use Rattle.flat.specs.declared.structs.Outcome.{Outcome}
 use Rattle.flat.specs.declared.structs.Phase.{Phase}
 use Rattle.flat.specs.declared.structs.StepAnswer.{StepAnswer}
+use Rattle.flat.specs.Counter.{boolNumber}
 use Rattle.flat.specs.Flat.{noRefusal, flatReceiverRefusal}
 use Rattle.flat.specs.Outcome.{outcomeAt, noOutcome, flatOutcome}
-use Rattle.flat.specs.Receiver.{receiverAt, noReceiver, flatReceiver}
+use Rattle.flat.specs.Receiver.{yesAt, receiverAt, noReceiver, flatReceiver}
 use Rattle.flat.specs.Scheduler.{schedulerAt, noScheduler, flatScheduler}
 
 -- where `told` is 0 a failure is dropped
-unfoldable pub endingAt : Ending → receiver-ending.Ending
-endingAt e = cond (eqb (e .told) 0) (Dropped (outcomeAt (e .outcome))) (Told (outcomeAt (e .outcome)))
+abbrev pub endingAt : Ending → receiver-ending.Ending
+endingAt e = record { outcome = outcomeAt (e .outcome); told = yesAt (e .told) }
 
 abbrev pub noEnding : Ending
 noEnding = record { told = 0; outcome = noOutcome }
 
 abbrev pub flatEnding : receiver-ending.Ending → Ending
-flatEnding (Dropped o) = record { told = 0; outcome = flatOutcome o }
-flatEnding (Told o) = record { told = 1; outcome = flatOutcome o }
+flatEnding e = record { told = boolNumber (e .told); outcome = flatOutcome (e .outcome) }
 
 abbrev pub wantedAt : Phase → Wanted
 wantedAt p = of-receiver.wanted (p .«max_new_fds») (p .«dst_len»)

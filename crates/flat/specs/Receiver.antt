@@ -18,12 +18,12 @@ use Rattle.flat.specs.Scheduler.{schedulerAt, noScheduler, flatScheduler
 use Rattle.flat.specs.State.{stateAt, noState, flatState}
 
 -- any number but 0 is yes
-abbrev pub issuedAt : ℕ → Bool
-issuedAt n = not (eqb n 0)
+abbrev pub yesAt : ℕ → Bool
+yesAt n = not (eqb n 0)
 
 abbrev pub receiverAt : Receiver → ReceiverState
 receiverAt r =
-    receiver (schedulerAt (r .scheduler)) (stateAt (r .state)) (r .«pending_ack_count») (issuedAt (r .«notification_socket_shutdown_issued»))
+    receiver (schedulerAt (r .scheduler)) (stateAt (r .state)) (r .«pending_ack_count») (yesAt (r .«notification_socket_shutdown_issued»))
 
 abbrev pub noReceiver : Receiver
 noReceiver = record { scheduler = noScheduler; state = noState; «pending_ack_count» = 0; «notification_socket_shutdown_issued» = 0 }

@@ -35,7 +35,6 @@ use Rattle.ends.specs.declared.writing_end.WrittenCounter as ends-written
 use Rattle.ends.specs.declared.writing_end.WritingEnd as ends-writing
 use Rattle.receiver.specs.declared.call.Call as receiver-call
 use Rattle.receiver.specs.declared.call.Ending as receiver-ending
-use Rattle.receiver.specs.declared.call.Ending.the-variants.{Dropped, Told}
 use Rattle.receiver.specs.declared.call.Phase as receiver-phase
 use Rattle.receiver.specs.declared.call.Phase.the-variants.{Receive, Send, Shutdown, Finished}
 use Rattle.receiver.specs.declared.receiver.Beside.{Beside}
@@ -208,8 +207,7 @@ abbrev pub OutcomeStands : Outcome → receiver-outcome.Outcome → Type 0
 OutcomeStands f o = CameStands f (o .came) × BesideStands f (o .beside)
 
 abbrev pub EndingStands : Ending → receiver-ending.Ending → Type 0
-EndingStands f (Dropped o) = (f .told ≡ 0) × OutcomeStands (f .outcome) o
-EndingStands f (Told o) = (f .told ≡ 1) × OutcomeStands (f .outcome) o
+EndingStands f e = BoolStands (f .told) (e .told) × OutcomeStands (f .outcome) (e .outcome)
 
 -- kind, then what a receive, a send and a shutdown wait with, then what came of it
 abbrev pub PhaseStands : Phase → receiver-phase.Phase → Type 0

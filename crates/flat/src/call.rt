@@ -2,12 +2,14 @@
 // finished. An answer that is refused leaves the call as it was.
 ghost use mathlib.Core.Path.{_≡_};
 ghost use Rattle.flat.specs.Call.{endingAt, noEnding, flatEnding, wantedAt, phaseAt, noPhase, flatPhase, callAt, noCall, flatCall, flatStep};
+use crate::counter::bool_number;
 use crate::outcome::flat_outcome;
 use crate::outcome::no_outcome;
 use crate::outcome::outcome;
 use crate::receiver_record::flat_receiver;
 use crate::receiver_record::no_receiver;
 use crate::receiver_record::receiver_state;
+use crate::receiver_record::yes;
 use crate::refusal::flat_receiver_refusal;
 use crate::refusal::no_refusal;
 use crate::scheduler::flat_scheduler;
@@ -22,10 +24,10 @@ fn ending(e: Ending) -> receiver::Ending
     ensures { λ r. ⌜ r ≡ endingAt e ⌝ }
 {
     let o = e.outcome;
-    if e.told == 0 {
-        return receiver::Ending::Dropped(outcome(o));
+    receiver::Ending {
+        outcome: outcome(o),
+        told: yes(e.told),
     }
-    receiver::Ending::Told(outcome(o))
 }
 
 fn no_ending() -> Ending
@@ -40,15 +42,10 @@ fn no_ending() -> Ending
 fn flat_ending(e: receiver::Ending) -> Ending
     ensures { λ r. ⌜ r ≡ flatEnding e ⌝ }
 {
-    match e {
-        receiver::Ending::Dropped(o) => Ending {
-            told: 0,
-            outcome: flat_outcome(o),
-        },
-        receiver::Ending::Told(o) => Ending {
-            told: 1,
-            outcome: flat_outcome(o),
-        },
+    let o = e.outcome;
+    Ending {
+        told: bool_number(e.told),
+        outcome: flat_outcome(o),
     }
 }
 

@@ -1,6 +1,6 @@
 // The receiver's record, and what its calls come to.
 ghost use mathlib.Core.Path.{_≡_};
-ghost use Rattle.flat.specs.Receiver.{issuedAt, receiverAt, noReceiver, flatReceiver, flatReceiverAnswer, flatEnded};
+ghost use Rattle.flat.specs.Receiver.{yesAt, receiverAt, noReceiver, flatReceiver, flatReceiverAnswer, flatEnded};
 use crate::counter::bool_number;
 use crate::outcome::flat_outcome;
 use crate::outcome::no_outcome;
@@ -18,8 +18,8 @@ use crate::structs::ReceiverAnswer;
 use receiver::Ended;
 use receiver::ReceiverState;
 
-fn issued(number: u64) -> bool
-    ensures { λ r. ⌜ r ≡ issuedAt number ⌝ }
+pub(crate) fn yes(number: u64) -> bool
+    ensures { λ r. ⌜ r ≡ yesAt number ⌝ }
 {
     number != 0
 }
@@ -33,7 +33,7 @@ pub fn receiver_state(q: Receiver) -> ReceiverState
         scheduler: scheduler(s),
         state: state(operational),
         pending_ack_count: q.pending_ack_count,
-        notification_socket_shutdown_issued: issued(q.notification_socket_shutdown_issued),
+        notification_socket_shutdown_issued: yes(q.notification_socket_shutdown_issued),
     }
 }
 

@@ -7,14 +7,13 @@ use native.Mathlib.Omega.{arith}
 use Rattle.sched.specs.declared.scheduler.RingBufferScheduler.{RingBufferScheduler}
 use Rattle.sched.specs.Scheduler.{dataIn}
 use Rattle.receiver.specs.Receiver.{failedOutcome}
-use Rattle.receiver.specs.Call.{outcomeIn}
+use Rattle.receiver.specs.Call.{dropping}
 use Rattle.receiver.specs.Cases.{Chunk, BeginsRead, is-terminated, none-asked, awaits, holds-data, TakesIn}
 use Rattle.receiver.specs.Handed.{comingTo}
 use Rattle.receiver.specs.Promise.{nothing-more}
 use Rattle.states.specs.declared.answer.Answer.{Answer}
 use Rattle.receiver.specs.declared.call.Call.{Call}
 use Rattle.receiver.specs.declared.call.Ending.{Ending}
-use Rattle.receiver.specs.declared.call.Ending.the-variants.{Dropped}
 use Rattle.receiver.specs.declared.call.Phase.{Phase}
 use Rattle.receiver.specs.declared.call.Phase.the-variants as phase
 use Rattle.receiver.specs.declared.call.Wanted.{Wanted}
@@ -66,12 +65,12 @@ module _ (asked : ℕ) (t : RingBufferScheduler) where
   settled-awaits c (phase.Shutdown e) h = tt
   settled-awaits c (phase.Finished o) h = tt
 
-  ends-copies : (e : Ending) (o : Outcome) (s : RingBufferScheduler) → Ends e o → Copies asked t (outcomeIn e) s → Copies asked t o s
+  ends-copies : (e : Ending) (o : Outcome) (s : RingBufferScheduler) → Ends e o → Copies asked t (e .outcome) s → Copies asked t o s
   ends-copies _ _ s as-dropped h = h
   ends-copies _ _ s as-told h = h
   ends-copies _ _ s told-failure h = tt
 
-  spends-on : (q : ReceiverState) (s : RingBufferScheduler) (e : Ending) (n : ℕ) (c : Call) → Spends q s e n c → Copies asked t (outcomeIn e) s → OnTheWay asked t c
+  spends-on : (q : ReceiverState) (s : RingBufferScheduler) (e : Ending) (n : ℕ) (c : Call) → Spends q s e n c → Copies asked t (e .outcome) s → OnTheWay asked t c
   spends-on q s e n c h k =
       record {
         copies = subst (Copies asked t (comingTo (c .phase))) (sym (h .source)) (ends-copies e (comingTo (c .phase)) s (h .ends) k);
@@ -88,7 +87,7 @@ module _ (asked : ℕ) (t : RingBufferScheduler) where
   module _ (c : Call) (ring : List ℕ) (a : Answer) (d : Call) (on : OnTheWay asked t c) where
     took-on : (n : ℕ) → n ≡ asked → c .receiver .scheduler ≡ t → dataIn t ≡ 0 → Took (c .receiver) (c .source) n d → OnTheWay asked t d
     took-on n e s z (handed r m b k l h) = hands-on r b d (subst (λ (x : ℕ). Hands r x b d) e h) (chunk z (subst (λ (x : RingBufferScheduler). Chunk x m (r .scheduler)) s k))
-    took-on n e s z (failed f h) = spends-on (c .receiver) (c .source) (Dropped (failedOutcome f)) 0 d h tt
+    took-on n e s z (failed f h) = spends-on (c .receiver) (c .source) (dropping (failedOutcome f)) 0 d h tt
 
     still : d ≡ c → OnTheWay asked t d
     still e = subst (OnTheWay asked t) (sym e) on

@@ -17,10 +17,10 @@ use Rattle.copies.specs.Ring.{get}
 use Rattle.receiver.proofs.ChunkLaws as chunk
 use Rattle.states.proofs.Rules.{advance-rule, holds-rule}
 use Rattle.receiver.proofs.Rules.{batch-rule, saidBy, announcement-says}
-use Rattle.receiver.specs.Call.{call, finishedCall, outcomeIn, toldIn, shutOrFinishBy, shutdownBy, advanceCall, flushCall, serviceCallBy, serviceCall, drainCall, sentCall, unsentCall, handOutCall, failedCall, blockedBy, announcedCall, afterReceive, liveCall, readBy, readCall}
+use Rattle.receiver.specs.Call.{dropping, call, finishedCall, toldIn, shutOrFinishBy, shutdownBy, advanceCall, flushCall, serviceCallBy, serviceCall, drainCall, sentCall, unsentCall, handOutCall, failedCall, blockedBy, announcedCall, afterReceive, liveCall, readBy, readCall}
 use Rattle.receiver.specs.Cases as cases
 use Rattle.states.specs.Promise.{violation-1}
-use Rattle.receiver.specs.Cases.{Meets, is-told, is-dropped, none-met, ComesTo, told-so, dropped-to, Closes, is-normal, shut-before, asks, Flushes, none-pending, sends, Serves, failed-before, flushes, Advances, TakesSent, none-went, some-went, send-blocks, send-fails, HandsOut, a-part, all-of-it, Fails, Blocks, goes-on, is-drained, Chunk, Header, TakesReceived, announces, header-violates, receive-blocks, receive-fails, Reading, BeginsRead, is-terminated, none-asked, awaits, holds-data, Goes}
+use Rattle.receiver.specs.Cases.{Meets, is-told, is-dropped, none-met, ComesTo, its-own, Closes, is-normal, shut-before, asks, Flushes, none-pending, sends, Serves, failed-before, flushes, Advances, TakesSent, none-went, some-went, send-blocks, send-fails, HandsOut, a-part, all-of-it, Fails, Blocks, goes-on, is-drained, Chunk, Header, TakesReceived, announces, header-violates, receive-blocks, receive-fails, Reading, BeginsRead, is-terminated, none-asked, awaits, holds-data, Goes}
 use Rattle.states.specs.Promise.{Holds}
 use Rattle.sched.specs.Chunk.{bodyFits}
 use Rattle.sched.proofs.ChunkLaws.{fits-by}
@@ -33,11 +33,11 @@ use Rattle.states.specs.declared.answer.Received.{Received}
 use Rattle.states.specs.declared.answer.Received.the-variants as received
 use Rattle.states.specs.declared.answer.Sent.the-variants as sent
 use Rattle.receiver.specs.declared.call.Ending.{Ending}
-use Rattle.receiver.specs.declared.call.Ending.the-variants.{Dropped, Told}
 use Rattle.receiver.specs.declared.call.Phase.the-variants as phase
 use Rattle.receiver.specs.declared.call.Step.{Step}
 use Rattle.receiver.specs.declared.call.Wanted.{Wanted}
 use Rattle.receiver.specs.declared.receiver.Beside.{Beside}
+use Rattle.receiver.specs.declared.receiver.Outcome.{Outcome}
 use Rattle.receiver.specs.declared.receiver.ReceiverState.{ReceiverState}
 use Rattle.states.specs.declared.state.Failure.{Failure}
 use Rattle.states.specs.declared.state.Failure.the-variants.{Io, Protocol}
@@ -48,13 +48,15 @@ use Rattle.states.specs.declared.state.PotentialFailure.the-variants.{Some, Non
 use Rattle.states.specs.declared.state.Violation.the-variants.{InvalidChunkAnnouncement}
 
 -- ---- what is answered
-pub comes : (e : Ending) → ComesTo e (outcomeIn e)
-comes (Dropped o) = dropped-to
-comes (Told o) = told-so
+pub comes : (e : Ending) → ComesTo e (e .outcome)
+comes e = its-own
 
 pub meets : (f : Failure) (e : Ending) → Meets (Some f) e (toldIn f e)
-meets f (Dropped o) = is-dropped
-meets f (Told o) = is-told
+meets f e = by (e .outcome) (e .told)
+  where
+    by : (o : Outcome) (b : Bool) → Meets (Some f) (record { outcome = o; told = b }) (toldIn f (record { outcome = o; told = b }))
+    by o true = is-told
+    by o false = is-dropped
 
 -- the kinds of a state differ
 draining-other : (f : Failure) → Draining f ≢ Normal
@@ -84,7 +86,7 @@ module _ (q : ReceiverState) (s : RingBufferScheduler) (e : Ending) where
   unfolding flushCall
   flushes-all = by (eqb (q .«pending_ack_count») 0) refl
     where
-      by : (b : Bool) → eqb (q .«pending_ack_count») 0 ≡ b → Flushes q s e (cond b (finishedCall q s (outcomeIn e)) (call q s (phase.Send (batchIn q) e)))
+      by : (b : Bool) → eqb (q .«pending_ack_count») 0 ≡ b → Flushes q s e (cond b (finishedCall q s (e .outcome)) (call q s (phase.Send (batchIn q) e)))
       by true z = none-pending (eqb-true _ _ z) (comes e)
       by false z = sends (batch-rule (q .«pending_ack_count») (eqb-false _ _ z))
 
@@ -119,8 +121,8 @@ module _ (q : ReceiverState) (s : RingBufferScheduler) (e : Ending) where
   pub takes-unsent : (n : ℕ) → TakesSent q s e (sent.Failed n) (unsentCall n q s e)
   takes-unsent n = by (eqb n 11) refl
     where
-      by : (b : Bool) → eqb n 11 ≡ b → TakesSent q s e (sent.Failed n) (cond b (finishedCall q s (outcomeIn e)) (drainCall (Io n) q s e))
-      by true z = subst (λ (k : ℕ). TakesSent q s e (sent.Failed k) (finishedCall q s (outcomeIn e))) (sym (eqb-true n 11 z)) (send-blocks (comes e))
+      by : (b : Bool) → eqb n 11 ≡ b → TakesSent q s e (sent.Failed n) (cond b (finishedCall q s (e .outcome)) (drainCall (Io n) q s e))
+      by true z = subst (λ (k : ℕ). TakesSent q s e (sent.Failed k) (finishedCall q s (e .outcome))) (sym (eqb-true n 11 z)) (send-blocks (comes e))
       by false z = send-fails (eqb-false n 11 z) (drains-with (Io n))
 
 -- ---- reading
@@ -149,19 +151,19 @@ module _ (q : ReceiverState) (sound : IsSound (q .scheduler)) (asked : ℕ) (bes
       by true z =
           let l : asked < d = ltb-true asked d z in
           let m : asked ≡ min asked d = omega (arith, l) in
-          subst (λ (n : ℕ). HandsOut q asked beside (serviceCall (handedOut q n) (q .scheduler) (Dropped (readOutcome n beside)))) m
-          (subst (λ (r : ReceiverState). HandsOut q asked beside (serviceCall r (q .scheduler) (Dropped (readOutcome asked beside)))) (sym (handed-part asked (omega (arith, l)) l))
+          subst (λ (n : ℕ). HandsOut q asked beside (serviceCall (handedOut q n) (q .scheduler) (dropping (readOutcome n beside)))) m
+          (subst (λ (r : ReceiverState). HandsOut q asked beside (serviceCall r (q .scheduler) (dropping (readOutcome asked beside)))) (sym (handed-part asked (omega (arith, l)) l))
           (a-part l (reads asked (omega (arith, l))) (serves _ _ _)))
       by false z =
           let l : d ≤ asked = ltb-false asked d z in
           let m : d ≡ min asked d = omega (arith, l) in
-          subst (λ (n : ℕ). HandsOut q asked beside (serviceCall (handedOut q n) (q .scheduler) (Dropped (readOutcome n beside)))) m
-          (subst (λ (r : ReceiverState). HandsOut q asked beside (serviceCall r (q .scheduler) (Dropped (readOutcome d beside)))) (sym (handed-all d (omega arith) refl))
+          subst (λ (n : ℕ). HandsOut q asked beside (serviceCall (handedOut q n) (q .scheduler) (dropping (readOutcome n beside)))) m
+          (subst (λ (r : ReceiverState). HandsOut q asked beside (serviceCall r (q .scheduler) (dropping (readOutcome d beside)))) (sym (handed-all d (omega arith) refl))
           (all-of-it l (reads d (omega arith)) (serves _ _ _)))
 
 module _ (q : ReceiverState) (s : RingBufferScheduler) where
   pub fails : (f : Failure) → Fails f q s (failedCall f q s)
-  fails f = advances (Terminated f) None q s (Dropped (failedOutcome f)) (Dropped (failedOutcome f)) none-met
+  fails f = advances (Terminated f) None q s (dropping (failedOutcome f)) (dropping (failedOutcome f)) none-met
 
   blocks-by : (st : OperationalState) → q .state ≡ st → ((f : Failure) → st ≢ Terminated f) → Blocks q s (blockedBy st q s)
   blocks-by Normal p h = goes-on p

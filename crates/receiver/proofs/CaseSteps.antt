@@ -14,7 +14,7 @@ use Rattle.receiver.proofs.CaseLaws.{comes, meets, closes-by, serves, a
 use Rattle.receiver.proofs.Made.{Made}
 use Rattle.receiver.specs.Admission.{admissionOf}
 use Rattle.states.specs.Answer.{interruptedOf, receivedOf, sentOf, shutOf}
-use Rattle.receiver.specs.Call.{serviceCall, advanceCall, sentCall, unsentCall, afterSend, afterShut, afterReceive, readCall, admittedStep, wanted, beginReadOf, beginServiceOf, beginShutdownOf, looksBy, looksAt, resumedBy, resumedOf, steppedBy, answeredFrom, answeredOf}
+use Rattle.receiver.specs.Call.{telling, serviceCall, advanceCall, sentCall, unsentCall, afterSend, afterShut, afterReceive, readCall, admittedStep, wanted, beginReadOf, beginServiceOf, beginShutdownOf, looksBy, looksAt, resumedBy, resumedOf, steppedBy, answeredFrom, answeredOf}
 use Rattle.receiver.specs.Cases.{none-met, Closes, is-normal, shut-before, asks, Flushes, none-pending, sends, Serves, failed-before, flushes, TakesSent, TakesReceived, TakesShut, is-shut, is-not, HandsOut, a-part, all-of-it, a-want, BeginsRead, is-terminated, none-asked, awaits, holds-data, BeginsService, BeginsShutdown, Looks, at-a-byte, at-no-byte, at-a-send, at-a-shutdown, at-the-end, ResumesIn, Resumes, Interrupts, TakesIn, Takes, Answered, Goes}
 use Rattle.states.specs.Promise.{AByte, SaysReceived, a-byte, closed, receive-failed, no-receive, SaysSent, so-many}
 use Rattle.receiver.specs.Promise.{Batch, all, most, nothing-more}
@@ -41,7 +41,6 @@ use Rattle.states.specs.declared.state.Failure.{Failure}
 use Rattle.states.specs.declared.state.Failure.the-variants.{Io}
 use Rattle.states.specs.declared.state.OperationalState.the-variants.{Draining, Terminated}
 use Rattle.states.specs.declared.state.PotentialFailure.the-variants.{None}
-use Rattle.receiver.specs.declared.call.Ending.the-variants.{Told}
 use Rattle.receiver.specs.declared.admission.Memory.the-variants as memory
 
 -- ---- where the tests were passed, the rules
@@ -188,12 +187,12 @@ module _ (q : ReceiverState) where
   begins-at n top asked = passing _ (admissionOf q (memory.Of n)) (readCall q (wanted top asked)) (λ k. begins-read q (passed-sound q (memory.Of n) k) (wanted top asked))
 
   pub serves-at : Goes (BeginsService q) (beginServiceOf q)
-  serves-at = passing _ (admissionOf q memory.None) (Of (serviceCall q (q .scheduler) (Told doneOutcome))) (λ k. serves q (q .scheduler) (Told doneOutcome))
+  serves-at = passing _ (admissionOf q memory.None) (Of (serviceCall q (q .scheduler) (telling doneOutcome))) (λ k. serves q (q .scheduler) (telling doneOutcome))
 
   pub shuts-at : Goes (BeginsShutdown q) (beginShutdownOf q)
   shuts-at =
-      passing _ (admissionOf q memory.None) (Of (advanceCall (Draining (Io 32)) q (q .scheduler) (Told doneOutcome)))
-      (λ k. advances (Draining (Io 32)) None q (q .scheduler) (Told doneOutcome) (Told doneOutcome) none-met)
+      passing _ (admissionOf q memory.None) (Of (advanceCall (Draining (Io 32)) q (q .scheduler) (telling doneOutcome)))
+      (λ k. advances (Draining (Io 32)) None q (q .scheduler) (telling doneOutcome) (telling doneOutcome) none-met)
 
   -- a read that is begun is of a sound record, over a ring of its length
   pub read-admitted : (n top asked : ℕ) (c : Call) → beginReadOf q n top asked ≡ Of c → IsSound (q .scheduler) × (n ≡ q .scheduler .«buf_len»)

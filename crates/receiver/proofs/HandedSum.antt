@@ -10,12 +10,12 @@ use Rattle.receiver.proofs.Made.{Made}
 use Rattle.receiver.proofs.MadeLaws.{MadeBy, awaiting, answered-made}
 use Rattle.receiver.proofs.StepLaws.{sent-spends, shut-spends, spends-whole, Took, handed, failed, took}
 use Rattle.receiver.proofs.SumLaws.{other-sends, says-sent, sent-taken}
+use Rattle.receiver.specs.Call.{dropping}
 use Rattle.receiver.specs.Cases.{ResumesIn, TakesIn, Takes, Goes}
 use Rattle.receiver.specs.Handed.{Handed, wholeIn, stepOf, keptBy, handedTo, sentAt, allSentTo, comingTo, wholeAt, allWholeTo}
 use Rattle.receiver.specs.Receiver.{failedOutcome}
 use Rattle.states.specs.declared.answer.Answer.{Answer}
 use Rattle.receiver.specs.declared.call.Call.{Call}
-use Rattle.receiver.specs.declared.call.Ending.the-variants.{Dropped}
 use Rattle.receiver.specs.declared.call.Phase.{Phase}
 use Rattle.receiver.specs.declared.call.Phase.the-variants as phase
 use Rattle.receiver.specs.declared.call.Step.{Step}
@@ -31,7 +31,7 @@ module _ (c : Call) (ring : List ℕ) (a : Answer) where
   module _ (d : Call) where
     took-sums : (w : Wanted) → Took (c .receiver) (c .source) (w .«dst_len») d → Sums (phase.Receive w) d
     took-sums w (handed r n b k e h) = omega (arith, e, h .counts)
-    took-sums w (failed f h) = omega (arith, h .counts, spends-whole (c .receiver) (c .source) (Dropped (failedOutcome f)) 0 d h tt)
+    took-sums w (failed f h) = omega (arith, h .counts, spends-whole (c .receiver) (c .source) (dropping (failedOutcome f)) 0 d h tt)
 
     takes-sums : (ph : Phase) → c .phase ≡ ph → ResumesIn ph c c → TakesIn ph c ring a d → Sums ph d
     takes-sums (phase.Receive w) p k (inl (i, e)) = subst (Sums (phase.Receive w)) (sym e) (omega (arith, ap (λ (x : Phase). wholeIn (c .receiver) (comingTo x)) p))

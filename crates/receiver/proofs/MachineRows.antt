@@ -13,7 +13,6 @@ use Rattle.copies.specs.declared.refusal.Refusal.the-variants.{Scheduler, RingM
 use Rattle.copies.specs.Copies.{readyFrom}
 use Rattle.states.specs.declared.answer.Answer.{Answer}
 use Rattle.receiver.specs.declared.call.Call.{Call}
-use Rattle.receiver.specs.declared.call.Ending.the-variants.{Dropped, Told}
 use Rattle.receiver.specs.declared.call.Phase.{Phase}
 use Rattle.receiver.specs.declared.call.Phase.the-variants.{Receive, Send, Shutdown}
 use Rattle.receiver.specs.declared.call.Step.the-variants.{Of, Refused}
@@ -24,7 +23,7 @@ use Rattle.states.specs.declared.state.OperationalState.the-variants.{Normal, D
 use Rattle.states.specs.Answer.{interruptedOf, receivedOf, sentOf, shutOf}
 use Rattle.states.specs.State.{fitsErrno}
 use Rattle.receiver.specs.Receiver.{noneBeside, readOutcome, failedOutcome, doneOutcome, receiver}
-use Rattle.receiver.specs.Call.{call, finishedCall, flushCall, wanted, beginReadOf, answeredOf}
+use Rattle.receiver.specs.Call.{dropping, telling, call, finishedCall, flushCall, wanted, beginReadOf, answeredOf}
 
 abbrev answer : ℕ → ℕ → Answer
 answer kind value = record { kind = kind; value = value; descriptors = 0 }
@@ -50,7 +49,7 @@ waits s st pending ph = call (receiver s st pending false) s ph
 
 -- three bytes were read to the end of their chunk, and are copied by (10, 3, 0)
 abbrev reading : ℕ → Call
-reading pending = call (receiver (ring 10 3 3) Normal pending false) (ring 10 3 0) (Send 128 (Dropped (readOutcome 3 noneBeside)))
+reading pending = call (receiver (ring 10 3 3) Normal pending false) (ring 10 3 0) (Send 128 (dropping (readOutcome 3 noneBeside)))
 
 -- the second answer does not fit: the call still waits to send, with pending 173, and goes on from there
 a-refused-answer-leaves-the-call :
@@ -58,17 +57,17 @@ a-refused-answer-leaves-the-call :
     (answeredOf (reading 301) [] (sends 128) 1 ≡ Of (reading 173)) ×
     (answeredOf (reading 173) [] done 2 ≡ Refused (Misfit 2)) ×
     (answeredOf (reading 173) [] (sends 129) 2 ≡ Refused (Misfit 2)) ×
-    (answeredOf (reading 173) [] (sends 100) 3 ≡ Of (call (receiver (ring 10 3 3) Normal 73 false) (ring 10 3 0) (Send 73 (Dropped (readOutcome 3 noneBeside)))))
+    (answeredOf (reading 173) [] (sends 100) 3 ≡ Of (call (receiver (ring 10 3 3) Normal 73 false) (ring 10 3 0) (Send 73 (dropping (readOutcome 3 noneBeside)))))
 unfolding flushCall readyFrom soundOf subMod addMod fitsErrno interruptedOf sentOf
 a-refused-answer-leaves-the-call = (refl, refl, refl, refl, refl)
 
 -- 1 to 5, then 12 with place 0, in every phase
 an-answer-tests-the-record-anew :
-    (answeredOf (waits (ring 10 11 0) (Draining (Io 5000)) 3 (Send 3 (Told doneOutcome))) [] (sends 3) 1 ≡
+    (answeredOf (waits (ring 10 11 0) (Draining (Io 5000)) 3 (Send 3 (telling doneOutcome))) [] (sends 3) 1 ≡
     Refused (Copy (Scheduler (DataAvailOutOfBounds 10 (record { 0 = 11 }) (record { 0 = 0 }))))) ×
-    (answeredOf (waits (ring 10 3 0) (Draining (Io 5000)) 3 (Send 3 (Told doneOutcome))) [] (sends 3) 1 ≡ Refused (Misfit 0)) ×
-    (answeredOf (waits (ring 10 3 0) (Draining (Io 5000)) 3 (Shutdown (Told doneOutcome))) [] done 1 ≡ Refused (Misfit 0)) ×
-    (answeredOf (waits (ring 10 11 0) (Draining (Io 5)) 3 (Shutdown (Told doneOutcome))) [] done 1 ≡
+    (answeredOf (waits (ring 10 3 0) (Draining (Io 5000)) 3 (Send 3 (telling doneOutcome))) [] (sends 3) 1 ≡ Refused (Misfit 0)) ×
+    (answeredOf (waits (ring 10 3 0) (Draining (Io 5000)) 3 (Shutdown (telling doneOutcome))) [] done 1 ≡ Refused (Misfit 0)) ×
+    (answeredOf (waits (ring 10 11 0) (Draining (Io 5)) 3 (Shutdown (telling doneOutcome))) [] done 1 ≡
     Refused (Copy (Scheduler (DataAvailOutOfBounds 10 (record { 0 = 11 }) (record { 0 = 0 })))))
 unfolding soundOf subMod fitsErrno
 an-answer-tests-the-record-anew = (refl, refl, refl, refl)
@@ -86,9 +85,9 @@ the-ring-is-looked-at-where-a-byte-was-received = (refl, refl, refl, refl)
 a-made-up-phase :
     (answeredOf (waits (ring 10 0 0) (Terminated (Io 9)) 0 (Receive (wanted 0 9))) (replicate 10 0) byte 1 ≡
     Of (finishedCall (receiver (ring 10 0 0) (Terminated (Io 9)) 0 false) (ring 10 0 0) (failedOutcome (Io 9)))) ×
-    (answeredOf (waits (ring 10 0 0) (Draining (Io 5)) 3 (Send 3 (Told doneOutcome))) [] (sends 3) 1 ≡
+    (answeredOf (waits (ring 10 0 0) (Draining (Io 5)) 3 (Send 3 (telling doneOutcome))) [] (sends 3) 1 ≡
     Of (finishedCall (receiver (ring 10 0 0) (Draining (Io 5)) 3 false) (ring 10 0 0) (failedOutcome (Io 5)))) ×
-    (answeredOf (waits (ring 10 0 0) Normal 3 (Shutdown (Told doneOutcome))) [] done 1 ≡
+    (answeredOf (waits (ring 10 0 0) Normal 3 (Shutdown (telling doneOutcome))) [] done 1 ≡
     Of (finishedCall (receiver (ring 10 0 0) Normal 3 false) (ring 10 0 0) doneOutcome))
 unfolding readyFrom soundOf subMod fitsErrno interruptedOf receivedOf sentOf shutOf
 a-made-up-phase = (refl, refl, refl)

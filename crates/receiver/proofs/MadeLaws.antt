@@ -17,7 +17,7 @@ use Rattle.receiver.proofs.ResumedLaws.{answered-on, steps-back}
 use Rattle.receiver.proofs.StepLaws.{Settled, hands}
 use Rattle.receiver.specs.Admission.{admissionOf}
 use Rattle.states.specs.Answer.{receivedOf}
-use Rattle.receiver.specs.Call.{call, admittedStep, beginReadOf, beginServiceOf, beginShutdownOf, retriesIn, retriesOf, looksBy, looksAt, resumedBy, answeredOf}
+use Rattle.receiver.specs.Call.{telling, call, admittedStep, beginReadOf, beginServiceOf, beginShutdownOf, retriesIn, retriesOf, looksBy, looksAt, resumedBy, answeredOf}
 use Rattle.receiver.specs.Cases.{Closes, is-normal, shut-before, asks, Flushes, none-pending, sends, Serves, failed-before, flushes, Advances, TakesSent, none-went, some-went, send-blocks, send-fails, TakesShut, is-shut, is-not, HandsOut, a-part, all-of-it, goes-on, is-drained, TakesReceived, announces, header-violates, byte-violates, receive-blocks, receive-fails, Reading, a-want, BeginsRead, is-terminated, none-asked, awaits, holds-data, BeginsService, BeginsShutdown, ResumesIn, Resumes, TakesIn, Takes, Goes}
 use Rattle.states.specs.Promise.{Errno, FailureFits, Stored, Reason, end-and-end, end-gives-way, error-and-end, error-stays, Holds, holds-none, draining-holds, terminated-holds, Advanced, calm-by-calm, calm-by-draining, calm-by-terminated, terminated-stays, draining-stays, draining-by-draining, draining-by-terminated, SaysReceived, a-byte, closed, receive-failed, no-receive, SaysSent, send-failed}
 use Rattle.receiver.specs.Promise.{Batch, all, most, nothing-more}
@@ -34,7 +34,6 @@ use Rattle.states.specs.declared.answer.Sent.the-variants as sent
 use Rattle.states.specs.declared.answer.Shut.{Shut}
 use Rattle.receiver.specs.declared.call.Call.{Call}
 use Rattle.receiver.specs.declared.call.Ending.{Ending}
-use Rattle.receiver.specs.declared.call.Ending.the-variants.{Told}
 use Rattle.receiver.specs.declared.call.Phase.{Phase}
 use Rattle.receiver.specs.declared.call.Phase.the-variants as phase
 use Rattle.receiver.specs.declared.call.Step.{Step}
@@ -227,7 +226,7 @@ module _ (q : ReceiverState) where
       by (admission.Refused r) e g = tt
 
   pub service-made : MadeBy (beginServiceOf q)
-  service-made = begun memory.None _ (BeginsService q) (λ t c h. serves-stays q t (q .scheduler) (Told doneOutcome) c h) (serves-at q)
+  service-made = begun memory.None _ (BeginsService q) (λ t c h. serves-stays q t (q .scheduler) (telling doneOutcome) c h) (serves-at q)
 
   pub shutdown-made : MadeBy (beginShutdownOf q)
   shutdown-made = begun memory.None _ (BeginsShutdown q) (λ t c h. advances-stays q t (q .scheduler) _ (omega arith, omega arith) _ _ c h) (shuts-at q)

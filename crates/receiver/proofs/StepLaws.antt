@@ -1,7 +1,7 @@
 -- What each step of a call comes to, by the cases of specs/Cases.antt: the scheduler that it copies by, the outcome, the pending count.
 use Prim.Native.Nat.{ℕ, _+_, _≤_, min}
 use mathlib.Core.Path.{_≡_, refl, ap, _∙_}
-use mathlib.Core.Bool.{cond}
+use mathlib.Core.Bool.{Bool, cond, true, false}
 use mathlib.Core.List.{List}
 use mathlib.Core.Logic.{_≢_}
 use native.Mathlib.Omega.{arith}
@@ -10,8 +10,8 @@ use borrow.Author.Tests.{eq-eqb, ne-eqb}
 use Rattle.sched.specs.declared.scheduler.RingBufferScheduler.{RingBufferScheduler}
 use Rattle.sched.specs.Scheduler.{dataIn}
 use Rattle.receiver.specs.Receiver.{readOutcome, failedOutcome}
-use Rattle.receiver.specs.Call.{outcomeIn}
-use Rattle.receiver.specs.Cases.{Meets, none-met, is-told, is-dropped, ComesTo, told-so, dropped-to, Closes, is-normal, shut-before, asks, Flushes, none-pending, sends, Serves, failed-before, flushes, Advances, TakesSent, none-went, some-went, send-blocks, send-fails, TakesShut, is-shut, is-not, HandsOut, a-part, all-of-it, goes-on, is-drained, Chunk, TakesReceived, announces, header-violates, byte-violates, receive-blocks, receive-fails}
+use Rattle.receiver.specs.Call.{dropping, telling}
+use Rattle.receiver.specs.Cases.{Meets, none-met, is-told, is-dropped, ComesTo, its-own, Closes, is-normal, shut-before, asks, Flushes, none-pending, sends, Serves, failed-before, flushes, Advances, TakesSent, none-went, some-went, send-blocks, send-fails, TakesShut, is-shut, is-not, HandsOut, a-part, all-of-it, goes-on, is-drained, Chunk, TakesReceived, announces, header-violates, byte-violates, receive-blocks, receive-fails}
 use Rattle.receiver.specs.Handed.{wholeBy, wholeIn, comingTo}
 use Rattle.receiver.specs.Promise.{body, Announces, accepted}
 use Rattle.states.specs.declared.answer.Received.{Received}
@@ -21,7 +21,6 @@ use Rattle.states.specs.declared.answer.Sent.the-variants as sent
 use Rattle.states.specs.declared.answer.Shut.{Shut}
 use Rattle.receiver.specs.declared.call.Call.{Call}
 use Rattle.receiver.specs.declared.call.Ending.{Ending}
-use Rattle.receiver.specs.declared.call.Ending.the-variants.{Dropped, Told}
 use Rattle.receiver.specs.declared.call.Phase.{Phase}
 use Rattle.receiver.specs.declared.call.Phase.the-variants as phase
 use Rattle.receiver.specs.declared.receiver.Came.{Came}
@@ -38,17 +37,19 @@ use Rattle.states.specs.declared.state.PotentialFailure.{PotentialFailure}
 -- ---- outcomes
 -- an ending comes to its own outcome, or to a failure that it tells
 pub data Ends : Ending → Outcome → Type 0 where
-  as-dropped : {o : Outcome} → Ends (Dropped o) o
-  as-told : {o : Outcome} → Ends (Told o) o
-  told-failure : {o : Outcome} {f : Failure} → Ends (Told o) (failedOutcome f)
+  as-dropped : {o : Outcome} → Ends (dropping o) o
+  as-told : {o : Outcome} → Ends (telling o) o
+  told-failure : {o : Outcome} {f : Failure} → Ends (telling o) (failedOutcome f)
 
-own-end : (e : Ending) → Ends e (outcomeIn e)
-own-end (Dropped o) = as-dropped
-own-end (Told o) = as-told
+own-end : (e : Ending) → Ends e (e .outcome)
+own-end e = by (e .outcome) (e .told)
+  where
+    by : (o : Outcome) (b : Bool) → Ends (record { outcome = o; told = b }) o
+    by o true = as-told
+    by o false = as-dropped
 
 comes-to : (e : Ending) (o : Outcome) → ComesTo e o → Ends e o
-comes-to _ _ told-so = as-told
-comes-to _ _ dropped-to = as-dropped
+comes-to e _ its-own = own-end e
 
 met-end : (f : PotentialFailure) (e ending : Ending) (o : Outcome) → Meets f e ending → Ends ending o → Ends e o
 met-end _ e _ o none-met h = h
@@ -62,9 +63,12 @@ Unread (came.Read n) = ⊥
 Unread came.Done = Unit {0}
 Unread (came.Failed f) = Unit {0}
 
+abbrev QuietBy : Bool → Came → Type 0
+QuietBy true x = Unread x
+QuietBy false x = Unit {0}
+
 abbrev pub Quiet : Ending → Type 0
-Quiet (Dropped o) = Unit {0}
-Quiet (Told o) = Unread (o .came)
+Quiet e = QuietBy (e .told) (e .outcome .came)
 
 -- nor does one wait for an announcement that was asked for no bytes
 abbrev pub QuietIn : Phase → Type 0
@@ -140,17 +144,17 @@ whole-same (came.Read n) q r e = ap (λ (s : RingBufferScheduler). cond (eqb n 0
 whole-same came.Done q r e = refl
 whole-same (came.Failed f) q r e = refl
 
-ends-whole : (q : ReceiverState) (e : Ending) (o : Outcome) → Quiet e → Ends e o → wholeIn q o ≡ wholeIn q (outcomeIn e)
+ends-whole : (q : ReceiverState) (e : Ending) (o : Outcome) → Quiet e → Ends e o → wholeIn q o ≡ wholeIn q (e .outcome)
 ends-whole q _ _ h as-dropped = refl
 ends-whole q _ _ h as-told = refl
-ends-whole q (Told o) _ h told-failure = unread-whole (o .came) h
+ends-whole q _ _ h (told-failure {o = o}) = unread-whole (o .came) h
   where
     unread-whole : (x : Came) → Unread x → 0 ≡ wholeBy q x
     unread-whole (came.Read n) k = absurd k
     unread-whole came.Done k = refl
     unread-whole (came.Failed f) k = refl
 
-pub spends-whole : (q : ReceiverState) (s : RingBufferScheduler) (e : Ending) (n : ℕ) (c : Call) → Spends q s e n c → Quiet e → whole c ≡ wholeIn q (outcomeIn e)
+pub spends-whole : (q : ReceiverState) (s : RingBufferScheduler) (e : Ending) (n : ℕ) (c : Call) → Spends q s e n c → Quiet e → whole c ≡ wholeIn q (e .outcome)
 spends-whole q s e n c h k = whole-same (comingTo (c .phase) .came) (c .receiver) q (h .scheduler) ∙ ends-whole q e (comingTo (c .phase)) k (h .ends)
 
 read-whole : (r : ReceiverState) (n : ℕ) (b : Beside) → n ≢ 0 → dataIn (r .scheduler) ≡ 0 → wholeIn r (readOutcome n b) ≡ 1
@@ -160,7 +164,7 @@ read-part : (r : ReceiverState) (n : ℕ) (b : Beside) → n ≢ 0 → dataIn (r
 read-part r n b some z = rw (ne-eqb n 0 some, ne-eqb (dataIn (r .scheduler)) 0 z)
 
 -- ---- bytes that are handed out
-dropped-end : (o x : Outcome) → Ends (Dropped o) x → x ≡ o
+dropped-end : (o x : Outcome) → Ends (dropping o) x → x ≡ o
 dropped-end _ _ as-dropped = refl
 
 module _ (q : ReceiverState) (asked : ℕ) (b : Beside) where
@@ -175,14 +179,14 @@ module _ (q : ReceiverState) (asked : ℕ) (b : Beside) where
 
   pub hands : asked ≢ 0 → 1 ≤ dataIn (q .scheduler) → (c : Call) → HandsOut q asked b c → Hands c
   hands some holds c (a-part {u} l r h) =
-      let k = serves-spends _ (q .scheduler) (Dropped (readOutcome asked b)) c h in
+      let k = serves-spends _ (q .scheduler) (dropping (readOutcome asked b)) c h in
       let e = dropped-end (readOutcome asked b) (comingTo (c .phase)) (k .ends) in
       let left : dataIn (c .receiver .scheduler) ≢ 0 = λ z. omega (arith, ap dataIn (k .scheduler), r .fill, l, z) in
       let w : whole c ≡ 0 = ap (wholeIn (c .receiver)) e ∙ read-part (c .receiver) asked b some left in
       record { bytes = asked; amount = omega (arith, l); comes = e; source = k .source; counts = omega (arith, k .counts, w); quiet = k .quiet tt; settled = k .settled }
   hands some holds c (all-of-it {u} l r h) =
       let d = dataIn (q .scheduler) in
-      let k = serves-spends _ (q .scheduler) (Dropped (readOutcome d b)) c h in
+      let k = serves-spends _ (q .scheduler) (dropping (readOutcome d b)) c h in
       let e = dropped-end (readOutcome d b) (comingTo (c .phase)) (k .ends) in
       let none : dataIn (c .receiver .scheduler) ≡ 0 = omega (arith, ap dataIn (k .scheduler), r .fill) in
       let w : whole c ≡ 1 = ap (wholeIn (c .receiver)) e ∙ read-whole (c .receiver) d b (λ z. omega (arith, holds, z)) none in
@@ -191,7 +195,7 @@ module _ (q : ReceiverState) (asked : ℕ) (b : Beside) where
 -- ---- what comes of a receive: a chunk's bytes are handed out, or a failure is answered
 pub data Took (q : ReceiverState) (s : RingBufferScheduler) (asked : ℕ) (c : Call) : Type 0 where
   handed : (r : ReceiverState) (n : ℕ) (b : Beside) → Chunk (q .scheduler) n (r .scheduler) → r .«pending_ack_count» ≡ q .«pending_ack_count» → Hands r asked b c → Took q s asked c
-  failed : (f : Failure) → Spends q s (Dropped (failedOutcome f)) 0 c → Took q s asked c
+  failed : (f : Failure) → Spends q s (dropping (failedOutcome f)) 0 c → Took q s asked c
 
 some-body : (L h n : ℕ) (b d : Beside) → Announces L h b (body n d) → 1 ≤ n
 some-body L h _ b _ (accepted k m l) = m

@@ -8,7 +8,7 @@ use native.Mathlib.Omega.{arith}
 use borrow.Author.Tests.{eq-eqb, ne-eqb}
 use Rattle.sched.specs.declared.scheduler.RingBufferScheduler.{RingBufferScheduler}
 use Rattle.receiver.specs.Receiver.{failedOutcome, doneOutcome}
-use Rattle.receiver.specs.Call.{outcomeIn, isOver}
+use Rattle.receiver.specs.Call.{dropping, telling, isOver}
 use Rattle.receiver.specs.Cases.{TakesSent, none-went, some-went, send-blocks, send-fails, TakesShut, is-shut, is-not, BeginsRead, is-terminated, none-asked, awaits, holds-data, BeginsService, BeginsShutdown, Interrupts, TakesIn}
 use Rattle.receiver.specs.Handed.{sentBy, wholeIn, comingTo}
 use Rattle.receiver.specs.Promise.{nothing-more}
@@ -22,7 +22,6 @@ use Rattle.states.specs.declared.answer.Shut.{Shut}
 use Rattle.states.specs.declared.answer.Shut.the-variants as shut
 use Rattle.receiver.specs.declared.call.Call.{Call}
 use Rattle.receiver.specs.declared.call.Ending.{Ending}
-use Rattle.receiver.specs.declared.call.Ending.the-variants.{Dropped, Told}
 use Rattle.receiver.specs.declared.call.Phase.{Phase}
 use Rattle.receiver.specs.declared.call.Phase.the-variants as phase
 use Rattle.receiver.specs.declared.call.Wanted.{Wanted}
@@ -73,11 +72,11 @@ module _ (c : Call) (ring : List ℕ) (a : Answer) (d : Call) where
   took-sums : (w : Wanted) → c .phase ≡ phase.Receive w → sentBy a ≡ 0 → Took (c .receiver) (c .source) (w .«dst_len») d → Sums
   took-sums w p z (handed r n b k e h) = (omega (arith, z, e, h .counts, ap (λ (x : Phase). wholeIn (c .receiver) (comingTo x)) p), h .quiet)
   took-sums w p z (failed f h) = (
-    omega (arith, z, h .counts, ap (λ (x : Phase). wholeIn (c .receiver) (comingTo x)) p, spends-whole (c .receiver) (c .source) (Dropped (failedOutcome f)) 0 d h tt),
+    omega (arith, z, h .counts, ap (λ (x : Phase). wholeIn (c .receiver) (comingTo x)) p, spends-whole (c .receiver) (c .source) (dropping (failedOutcome f)) 0 d h tt),
     h .quiet tt,
   )
 
-  spends-sums : (e : Ending) (n : ℕ) → whole c ≡ wholeIn (c .receiver) (outcomeIn e) → Quiet e → sentBy a ≡ n → Spends (c .receiver) (c .source) e n d → Sums
+  spends-sums : (e : Ending) (n : ℕ) → whole c ≡ wholeIn (c .receiver) (e .outcome) → Quiet e → sentBy a ≡ n → Spends (c .receiver) (c .source) e n d → Sums
   spends-sums e n w q z h = (omega (arith, w, z, h .counts, spends-whole (c .receiver) (c .source) e n d h q), h .quiet q)
 
   pub step-sums : (ph : Phase) → c .phase ≡ ph → isOver ph ≡ false → QuietIn ph → TakesIn ph c ring a d → Sums
@@ -97,14 +96,14 @@ module _ (q : ReceiverState) where
   abbrev pub Begun : Call → Type 0
   Begun c = (c .receiver .«pending_ack_count» ≡ q .«pending_ack_count» + whole c) × QuietIn (c .phase)
 
-  spends-begun : (s : RingBufferScheduler) (e : Ending) (c : Call) → wholeIn q (outcomeIn e) ≡ 0 → Quiet e → Spends q s e 0 c → Begun c
+  spends-begun : (s : RingBufferScheduler) (e : Ending) (c : Call) → wholeIn q (e .outcome) ≡ 0 → Quiet e → Spends q s e 0 c → Begun c
   spends-begun s e c w k h = (omega (arith, h .counts, w, spends-whole q s e 0 c h k), h .quiet k)
 
   pub service-begun : (c : Call) → BeginsService q c → Begun c
-  service-begun c h = spends-begun (q .scheduler) (Told doneOutcome) c refl tt (serves-spends q (q .scheduler) (Told doneOutcome) c h)
+  service-begun c h = spends-begun (q .scheduler) (telling doneOutcome) c refl tt (serves-spends q (q .scheduler) (telling doneOutcome) c h)
 
   pub shutdown-begun : (c : Call) → BeginsShutdown q c → Begun c
-  shutdown-begun c h = spends-begun (q .scheduler) (Told doneOutcome) c refl tt (advances-spends q (q .scheduler) (Told doneOutcome) _ _ c h)
+  shutdown-begun c h = spends-begun (q .scheduler) (telling doneOutcome) c refl tt (advances-spends q (q .scheduler) (telling doneOutcome) _ _ c h)
 
   pub read-begun : (w : Wanted) (c : Call) → BeginsRead q w c → Begun c
   read-begun w _ (is-terminated p) = (omega arith, tt)

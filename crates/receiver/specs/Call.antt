@@ -25,7 +25,6 @@ use Rattle.states.specs.declared.answer.Shut.{Shut}
 use Rattle.states.specs.declared.answer.Shut.the-variants as shut
 use Rattle.receiver.specs.declared.call.Call.{Call}
 use Rattle.receiver.specs.declared.call.Ending.{Ending}
-use Rattle.receiver.specs.declared.call.Ending.the-variants.{Dropped, Told}
 use Rattle.receiver.specs.declared.call.Phase.{Phase}
 use Rattle.receiver.specs.declared.call.Phase.the-variants as phase
 use Rattle.receiver.specs.declared.call.Step.{Step}
@@ -52,25 +51,27 @@ going q s e = record { receiver = q; source = s; ending = e }
 abbrev pub finishedCall : ReceiverState → RingBufferScheduler → Outcome → Call
 finishedCall q s o = call q s (phase.Finished o)
 
-abbrev pub outcomeIn : Ending → Outcome
-outcomeIn (Dropped o) = o
-outcomeIn (Told o) = o
+-- whatever comes on the way, or unless it fails
+abbrev pub dropping : Outcome → Ending
+dropping o = record { outcome = o; told = false }
 
--- a failure is told where the ending is told, and else dropped
+abbrev pub telling : Outcome → Ending
+telling o = record { outcome = o; told = true }
+
+-- a failure is told or dropped
 abbrev pub toldIn : Failure → Ending → Ending
-toldIn f (Dropped o) = Dropped o
-toldIn f (Told o) = Told (failedOutcome f)
+toldIn f e = cond (e .told) (telling (failedOutcome f)) e
 
 -- ---- shutting down
 abbrev pub shutOrFinishBy : Bool → ReceiverState → RingBufferScheduler → Ending → Call
-shutOrFinishBy true q s e = finishedCall q s (outcomeIn e)
+shutOrFinishBy true q s e = finishedCall q s (e .outcome)
 shutOrFinishBy false q s e = call q s (phase.Shutdown e)
 
 abbrev pub shutOrFinish : ReceiverState → RingBufferScheduler → Ending → Call
 shutOrFinish q s e = shutOrFinishBy (q .«notification_socket_shutdown_issued») q s e
 
 abbrev pub shutdownBy : OperationalState → ReceiverState → RingBufferScheduler → Ending → Call
-shutdownBy Normal q s e = finishedCall q s (outcomeIn e)
+shutdownBy Normal q s e = finishedCall q s (e .outcome)
 shutdownBy (Draining f) q s e = shutOrFinish q s e
 shutdownBy (Terminated f) q s e = shutOrFinish q s e
 
@@ -82,10 +83,10 @@ advanceCall to q s e = shutdownCall (withState q (advanceIn (q .state) to)) s e
 
 -- ---- acknowledgements
 unfoldable pub flushCall : ReceiverState → RingBufferScheduler → Ending → Call
-flushCall q s e = cond (eqb (q .«pending_ack_count») 0) (finishedCall q s (outcomeIn e)) (call q s (phase.Send (batchIn q) e))
+flushCall q s e = cond (eqb (q .«pending_ack_count») 0) (finishedCall q s (e .outcome)) (call q s (phase.Send (batchIn q) e))
 
 abbrev pub serviceCallBy : PotentialFailure → ReceiverState → RingBufferScheduler → Ending → Call
-serviceCallBy (Some f) q s e = finishedCall q s (outcomeIn (toldIn f e))
+serviceCallBy (Some f) q s e = finishedCall q s (toldIn f e .outcome)
 serviceCallBy None q s e = flushCall q s e
 
 abbrev pub serviceCall : ReceiverState → RingBufferScheduler → Ending → Call
@@ -103,7 +104,7 @@ abbrev pub sentCall : ℕ → ReceiverState → RingBufferScheduler → Ending �
 sentCall n q s e = cond (eqb n 0) (drainCall (Io 5) q s e) (flushCall (withPending q (q .«pending_ack_count» - n)) s e)
 
 abbrev pub unsentCall : ℕ → ReceiverState → RingBufferScheduler → Ending → Call
-unsentCall n q s e = cond (eqb n 11) (finishedCall q s (outcomeIn e)) (drainCall (Io n) q s e)
+unsentCall n q s e = cond (eqb n 11) (finishedCall q s (e .outcome)) (drainCall (Io n) q s e)
 
 -- an answer that the place cannot have is 12
 abbrev pub afterSend : ReceiverState → RingBufferScheduler → Ending → Answer → ℕ → Step
@@ -111,8 +112,8 @@ afterSend q s e a place =
     bySent (sentOf (batchIn q) a) (λ n. step.Of (sentCall n q s e)) (λ n. step.Of (unsentCall n q s e)) (step.Refused (Misfit place))
 
 abbrev pub afterShut : Shut → ReceiverState → RingBufferScheduler → Ending → ℕ → Step
-afterShut shut.Done q s e place = step.Of (finishedCall (withShutdown q) s (outcomeIn e))
-afterShut (shut.Failed n) q s e place = step.Of (finishedCall q s (outcomeIn (toldIn (Io n) e)))
+afterShut shut.Done q s e place = step.Of (finishedCall (withShutdown q) s (e .outcome))
+afterShut (shut.Failed n) q s e place = step.Of (finishedCall q s (toldIn (Io n) e .outcome))
 afterShut shut.Misfit q s e place = step.Refused (Misfit place)
 
 abbrev pub afterShutdown : ReceiverState → RingBufferScheduler → Ending → Answer → ℕ → Step
@@ -130,10 +131,10 @@ pub record Handing (q : ReceiverState) : Type 0 where
 
 abbrev pub handOutCall : ℕ → Beside → ReceiverState → Call
 handOutCall asked b q =
-    serviceCall (handedOut q (min asked (dataIn (q .scheduler)))) (q .scheduler) (Dropped (readOutcome (min asked (dataIn (q .scheduler))) b))
+    serviceCall (handedOut q (min asked (dataIn (q .scheduler)))) (q .scheduler) (dropping (readOutcome (min asked (dataIn (q .scheduler))) b))
 
 abbrev pub failedCall : Failure → ReceiverState → RingBufferScheduler → Call
-failedCall f q s = advanceCall (Terminated f) q s (Dropped (failedOutcome f))
+failedCall f q s = advanceCall (Terminated f) q s (dropping (failedOutcome f))
 
 abbrev pub blockedBy : OperationalState → ReceiverState → RingBufferScheduler → Call
 blockedBy Normal q s = finishedCall q s (failedOutcome (Io 11))
@@ -190,10 +191,10 @@ abbrev pub beginReadOf : ReceiverState → ℕ → ℕ → ℕ → Step
 beginReadOf q n top asked = admittedStep (admissionOf q (memory.Of n)) (readCall q (wanted top asked))
 
 abbrev pub beginServiceOf : ReceiverState → Step
-beginServiceOf q = admittedStep (admissionOf q memory.None) (step.Of (serviceCall q (q .scheduler) (Told doneOutcome)))
+beginServiceOf q = admittedStep (admissionOf q memory.None) (step.Of (serviceCall q (q .scheduler) (telling doneOutcome)))
 
 abbrev pub beginShutdownOf : ReceiverState → Step
-beginShutdownOf q = admittedStep (admissionOf q memory.None) (step.Of (advanceCall (Draining (Io 32)) q (q .scheduler) (Told doneOutcome)))
+beginShutdownOf q = admittedStep (admissionOf q memory.None) (step.Of (advanceCall (Draining (Io 32)) q (q .scheduler) (telling doneOutcome)))
 
 -- ---- what a driver asks
 -- a call that is over waits for nothing more

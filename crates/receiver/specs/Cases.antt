@@ -24,7 +24,6 @@ use Rattle.states.specs.declared.answer.Shut.{Shut}
 use Rattle.states.specs.declared.answer.Shut.the-variants as shut
 use Rattle.receiver.specs.declared.call.Call.{Call}
 use Rattle.receiver.specs.declared.call.Ending.{Ending}
-use Rattle.receiver.specs.declared.call.Ending.the-variants.{Dropped, Told}
 use Rattle.receiver.specs.declared.call.Phase.{Phase}
 use Rattle.receiver.specs.declared.call.Phase.the-variants as phase
 use Rattle.receiver.specs.declared.call.Step.{Step}
@@ -58,15 +57,20 @@ a-failure f = record { came = came.Failed f; beside = nothing-more }
 abbrev all-done : Outcome
 all-done = record { came = came.Done; beside = nothing-more }
 
+abbrev drops : Outcome → Ending
+drops o = record { outcome = o; told = false }
+
+abbrev tells : Outcome → Ending
+tells o = record { outcome = o; told = true }
+
 -- a failure that is met on the way: told in place of the outcome, or dropped
 pub data Meets : PotentialFailure → Ending → Ending → Type 0 where
   none-met : {e : Ending} → Meets None e e
-  is-told : {f : Failure} {o : Outcome} → Meets (Some f) (Told o) (Told (a-failure f))
-  is-dropped : {f : Failure} {o : Outcome} → Meets (Some f) (Dropped o) (Dropped o)
+  is-told : {f : Failure} {o : Outcome} → Meets (Some f) (tells o) (tells (a-failure f))
+  is-dropped : {f : Failure} {o : Outcome} → Meets (Some f) (drops o) (drops o)
 
-pub data ComesTo : Ending → Outcome → Type 0 where
-  told-so : {o : Outcome} → ComesTo (Told o) o
-  dropped-to : {o : Outcome} → ComesTo (Dropped o) o
+pub data ComesTo (e : Ending) : Outcome → Type 0 where
+  its-own : ComesTo e (e .outcome)
 
 module _ (q : ReceiverState) (s : RingBufferScheduler) (e : Ending) where
   -- ---- shutting down: asked for unless the state is Normal or one has succeeded before
@@ -111,14 +115,14 @@ module _ (q : ReceiverState) (s : RingBufferScheduler) (e : Ending) where
 -- servicing is dropped
 pub data HandsOut (q : ReceiverState) (asked : ℕ) (b : Beside) : Call → Type 0 where
   a-part : {u : RingBufferScheduler} {c : Call} → asked < dataIn (q .scheduler) → ReadBy (q .scheduler) asked u →
-      Serves (a-record u (q .state) (q .«pending_ack_count») (q .«notification_socket_shutdown_issued»)) (q .scheduler) (Dropped (a-read asked b)) c → HandsOut q asked b c
+      Serves (a-record u (q .state) (q .«pending_ack_count») (q .«notification_socket_shutdown_issued»)) (q .scheduler) (drops (a-read asked b)) c → HandsOut q asked b c
   all-of-it : {u : RingBufferScheduler} {c : Call} → dataIn (q .scheduler) ≤ asked → ReadBy (q .scheduler) (dataIn (q .scheduler)) u →
-      Serves (a-record u (q .state) (q .«pending_ack_count» + 1) (q .«notification_socket_shutdown_issued»)) (q .scheduler) (Dropped (a-read (dataIn (q .scheduler)) b)) c →
+      Serves (a-record u (q .state) (q .«pending_ack_count» + 1) (q .«notification_socket_shutdown_issued»)) (q .scheduler) (drops (a-read (dataIn (q .scheduler)) b)) c →
       HandsOut q asked b c
 
 -- a failure terminates, and is answered whatever comes of the shutdown
 abbrev pub Fails : Failure → ReceiverState → RingBufferScheduler → Call → Type 0
-Fails f q s c = Advances (Terminated f) None q s (Dropped (a-failure f)) c
+Fails f q s c = Advances (Terminated f) None q s (drops (a-failure f)) c
 
 -- nothing to receive: 11 where the stream is normal; one that drains ends with the reason that it has
 pub data Blocks (q : ReceiverState) (s : RingBufferScheduler) : Call → Type 0 where
@@ -143,7 +147,7 @@ module _ (q : ReceiverState) (s : RingBufferScheduler) (ring : List ℕ) (w : Wa
     announces : {fds n : ℕ} {b : Beside} {u : RingBufferScheduler} {c : Call} → Header (with-descriptors fds) (body n b) → Chunk (q .scheduler) n u →
         HandsOut (a-record u (q .state) (q .«pending_ack_count») (q .«notification_socket_shutdown_issued»)) (w .«dst_len») b c → TakesReceived (received.Byte 0 fds) c
     header-violates : {fds k : ℕ} {v : Violation} {c : Call} → Header (with-descriptors fds) (violates k) → Numbered v k → Fails (Protocol v) q s c → TakesReceived (received.Byte 0 fds) c
-    byte-violates : {b fds : ℕ} {v : Violation} {c : Call} → b ≢ 0 → Numbered v 1 → Fails (Protocol v) q s c → TakesReceived (received.Byte b fds) c
+    byte-violates : {byte fds : ℕ} {v : Violation} {c : Call} → byte ≢ 0 → Numbered v 1 → Fails (Protocol v) q s c → TakesReceived (received.Byte byte fds) c
     receive-blocks : {c : Call} → Blocks q s c → TakesReceived (received.Failed 11) c
     receive-fails : {n : ℕ} {c : Call} → n ≢ 11 → Fails (Io n) q s c → TakesReceived (received.Failed n) c
 
@@ -164,11 +168,11 @@ pub data BeginsRead (q : ReceiverState) (w : Wanted) : Call → Type 0 where
   holds-data : {c : Call} → Reading q (w .«dst_len») → 1 ≤ dataIn (q .scheduler) → HandsOut q (w .«dst_len») nothing-more c → BeginsRead q w c
 
 abbrev pub BeginsService : ReceiverState → Call → Type 0
-BeginsService q c = Serves q (q .scheduler) (Told all-done) c
+BeginsService q c = Serves q (q .scheduler) (tells all-done) c
 
 -- draining with 32, the end of the stream
 abbrev pub BeginsShutdown : ReceiverState → Call → Type 0
-BeginsShutdown q c = Advances (Draining (Io 32)) None q (q .scheduler) (Told all-done) c
+BeginsShutdown q c = Advances (Draining (Io 32)) None q (q .scheduler) (tells all-done) c
 
 -- ---- an answer
 -- the ring is looked at where a byte was received, and only there

@@ -7,7 +7,7 @@ use lib.Dec.{eqb}
 use Rattle.sched.specs.Scheduler.{dataIn}
 use Rattle.receiver.specs.Receiver.{doneOutcome}
 use Rattle.states.specs.Answer.{isSent}
-use Rattle.receiver.specs.Call.{outcomeIn, answeredOf}
+use Rattle.receiver.specs.Call.{answeredOf}
 use Rattle.states.specs.declared.answer.Answer.{Answer}
 use Rattle.receiver.specs.declared.call.Call.{Call}
 use Rattle.receiver.specs.declared.call.Phase.{Phase}
@@ -56,8 +56,8 @@ sentAt (Finished o) x a = 0
 -- the outcome that a call comes to if nothing fails; one that waits for a receive has none yet
 abbrev pub comingTo : Phase → Outcome
 comingTo (Receive w) = doneOutcome
-comingTo (Send batch e) = outcomeIn e
-comingTo (Shutdown e) = outcomeIn e
+comingTo (Send batch e) = e .outcome
+comingTo (Shutdown e) = e .outcome
 comingTo (Finished o) = o
 
 -- a chunk handed out whole: by a call that waits for its announcement, and comes to a read that leaves no data

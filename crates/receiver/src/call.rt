@@ -5,7 +5,7 @@ ghost use mathlib.Core.Bool.{false};
 ghost use lib.ListN.{length};
 ghost use Rattle.sched.specs.Scheduler.{IsSound};
 ghost use Rattle.receiver.specs.Receiver.{doneOutcome};
-ghost use Rattle.receiver.specs.Call.{going, outcomeIn, toldIn, beginReadOf, beginServiceOf, beginShutdownOf, looksBy, looksAt, resumedOf, Steps, steppedOf, answeredOf, overOf, retriesOf};
+ghost use Rattle.receiver.specs.Call.{going, telling, toldIn, beginReadOf, beginServiceOf, beginShutdownOf, looksBy, looksAt, resumedOf, Steps, steppedOf, answeredOf, overOf, retriesOf};
 use crate::admission::Admission;
 use crate::admission::Memory;
 use crate::admission::admit;
@@ -21,11 +21,11 @@ use states::OperationalState;
 use states::Received;
 use states::Refusal;
 
-// How a call ends that still services acknowledgements or shuts down: with this outcome whatever comes of that, or unless it
-// fails.
-pub enum Ending {
-    Dropped(Outcome),
-    Told(Outcome),
+// How a call ends that still services acknowledgements or shuts down: with this outcome, and a failure on the way is told in its place
+// or dropped.
+pub struct Ending {
+    pub outcome: Outcome,
+    pub told: bool,
 }
 
 // What a read that waits for its announcement wants: at most so many descriptors, and so many bytes.
@@ -61,23 +61,17 @@ pub enum Step {
 }
 
 impl Ending {
-    pub(crate) fn outcome(self) -> Outcome
-        ensures { λ r. ⌜ r ≡ outcomeIn self ⌝ }
-    {
-        match self {
-            Ending::Dropped(o) => o,
-            Ending::Told(o) => o,
-        }
-    }
-
     // What is told of a failure.
-    pub(crate) fn told(self, failure: Failure) -> Ending
+    pub(crate) fn met(self, failure: Failure) -> Ending
         ensures { λ r. ⌜ r ≡ toldIn failure self ⌝ }
     {
-        match self {
-            Ending::Dropped(o) => Ending::Dropped(o),
-            Ending::Told(_) => Ending::Told(Outcome::failed(failure)),
+        if self.told {
+            return Ending {
+                outcome: Outcome::failed(failure),
+                told: true,
+            };
         }
+        self
     }
 }
 
@@ -94,10 +88,13 @@ fn looks_by(received: Received, ring_len: usize) -> Memory
 
 // A call that tells what it comes to, and any failure on the way.
 fn telling(receiver: ReceiverState) -> Going
-    ensures { λ r. ⌜ r ≡ going receiver (receiver .scheduler) (Ending.Told doneOutcome) ⌝ }
+    ensures { λ r. ⌜ r ≡ going receiver (receiver .scheduler) (telling doneOutcome) ⌝ }
 {
     let source = receiver.scheduler;
-    let ending = Ending::Told(Outcome::done());
+    let ending = Ending {
+        outcome: Outcome::done(),
+        told: true,
+    };
     Going {
         receiver,
         source,

@@ -1,7 +1,7 @@
 // A call on its way to its ending: it services acknowledgements, or shuts the socket down, and ends.
 ghost use mathlib.Core.Path.{_≡_};
 ghost use Rattle.receiver.specs.Receiver.{withShutdown};
-ghost use Rattle.receiver.specs.Call.{call, going, toldIn, outcomeIn, finishedCall, shutOrFinish, shutdownCall, advanceCall, flushCall, serviceCall, drainCall, Covered, sentCall, unsentCall, afterSend, afterShutdown};
+ghost use Rattle.receiver.specs.Call.{call, going, toldIn, finishedCall, shutOrFinish, shutdownCall, advanceCall, flushCall, serviceCall, drainCall, Covered, sentCall, unsentCall, afterSend, afterShutdown};
 use crate::call::Call;
 use crate::call::Ending;
 use crate::call::Phase;
@@ -42,7 +42,7 @@ impl Going {
         let receiver = self.receiver;
         let source = self.source;
         let before = self.ending;
-        let ending = before.told(failure);
+        let ending = before.met(failure);
         Going {
             receiver,
             source,
@@ -63,10 +63,11 @@ impl Going {
     }
 
     pub(crate) fn finish(self) -> Call
-        ensures { λ r. ⌜ r ≡ finishedCall (self .receiver) (self .source) (outcomeIn (self .ending)) ⌝ }
+        ensures { λ r. ⌜ r ≡ finishedCall (self .receiver) (self .source) (self .ending .outcome) ⌝ }
     {
         let ending = self.ending;
-        self.waits(Phase::Finished(ending.outcome()))
+        let outcome = ending.outcome;
+        self.waits(Phase::Finished(outcome))
     }
 
     // A shutdown is asked for unless the state is Normal or one has succeeded before.
@@ -170,7 +171,7 @@ impl Going {
     }
 
     fn shut(self) -> Call
-        ensures { λ r. ⌜ r ≡ finishedCall (withShutdown (self .receiver)) (self .source) (outcomeIn (self .ending)) ⌝ }
+        ensures { λ r. ⌜ r ≡ finishedCall (withShutdown (self .receiver)) (self .source) (self .ending .outcome) ⌝ }
     {
         let receiver = self.receiver;
         self.with_receiver(receiver.with_shutdown()).finish()

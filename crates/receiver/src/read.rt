@@ -3,7 +3,7 @@ ghost use mathlib.Core.Path.{_≡_};
 ghost use lib.ListN.{length};
 ghost use Rattle.sched.specs.Scheduler.{IsSound};
 ghost use Rattle.receiver.specs.Receiver.{handedIn};
-ghost use Rattle.receiver.specs.Call.{going, Counts, Handing, Announces, handOutCall, failedCall, blockedCall, announcedCall, afterReceive, ByteSized, liveCall, readCall};
+ghost use Rattle.receiver.specs.Call.{going, dropping, Counts, Handing, Announces, handOutCall, failedCall, blockedCall, announcedCall, afterReceive, ByteSized, liveCall, readCall};
 use crate::announcement::Announced;
 use crate::announcement::recv_chunk_announcement;
 use crate::call::Call;
@@ -54,9 +54,12 @@ fn read_chunk_bytes(receiver: ReceiverState, asked: u64, beside: Beside) -> Call
 
 // Whatever comes of what the call still does, it answers this.
 fn dropping(receiver: ReceiverState, source: RingBufferScheduler, outcome: Outcome) -> Going
-    ensures { λ r. ⌜ r ≡ going receiver source (Ending.Dropped outcome) ⌝ }
+    ensures { λ r. ⌜ r ≡ going receiver source (dropping outcome) ⌝ }
 {
-    let ending = Ending::Dropped(outcome);
+    let ending = Ending {
+        outcome,
+        told: false,
+    };
     Going {
         receiver,
         source,

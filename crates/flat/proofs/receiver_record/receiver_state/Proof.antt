@@ -4,7 +4,7 @@ use Rattle.flat.proofs.receiver_record.receiver_state.Statement.{statem
 use Rattle.flat.proofs.receiver_record.receiver_state.Tie as tie
 
 returns : tie.Need-returns
-returns c = rw (c .issued .ensures, c .before .state .ensures, c .before .before .scheduler .ensures)
+returns c = rw (c .yes .ensures, c .before .state .ensures, c .before .before .scheduler .ensures)
 
 pub receiver-state-spec : {M : Type 1} → statement M
 receiver-state-spec = tie.close (tie.spec (search needs) (search needs) (search needs) returns)

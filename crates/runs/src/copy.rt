@@ -11,97 +11,50 @@ use ends::WritingEnd;
 use ends::Wrote;
 use sched::RingBufferScheduler;
 
-// Which copy is made: by an end, or over its lent scheduler.
-enum Copy {
-    Write,
-    Read,
-    WriteLent,
-    ReadLent,
-}
-
-// What a copy is told and leaves, and whether the lent one is told and leaves the same.
+// What a copy is told, and what it leaves where it goes: of a write the ring, of a read the destination.
 pub struct Copied {
     pub told: Told,
-    pub ring: [u8; 12],
-    pub bytes: [u8; 12],
-    pub is_same: bool,
+    pub left: [u8; 12],
 }
 
+impl Copied {
+    pub fn same(self, other: Copied) -> bool {
+        let left = self.left;
+        let other_left = other.left;
+        self.told.same(other.told) && differing(left, other_left, 0, 12) == 0
+    }
+}
+
+// ---- by the ends: of the ring the first `len` bytes are lent, and of the others as many as are asked
+
 pub fn written(
-    s: RingBufferScheduler,
+    scheduler: RingBufferScheduler,
     ring: [u8; 12],
     len: u64,
     src: [u8; 12],
     asked: u64,
 ) -> Copied {
-    let lent = made(Copy::WriteLent, s, ring, len, src, asked);
-    made(Copy::Write, s, ring, len, src, asked).beside(lent)
+    let mut left = ring;
+    let len = min(len, 12) as usize;
+    let asked = min(asked, 12) as usize;
+    let answer = (WritingEnd { scheduler }).write(&mut left[0..len], &src[0..asked]);
+    let told = wrote(scheduler, answer);
+    Copied { told, left }
 }
 
 pub fn read_out(
-    s: RingBufferScheduler,
+    scheduler: RingBufferScheduler,
     ring: [u8; 12],
     len: u64,
     dst: [u8; 12],
     asked: u64,
 ) -> Copied {
-    let lent = made(Copy::ReadLent, s, ring, len, dst, asked);
-    made(Copy::Read, s, ring, len, dst, asked).beside(lent)
-}
-
-impl Copied {
-    fn beside(mut self, lent: Copied) -> Copied {
-        let ring = self.ring;
-        let lent_ring = lent.ring;
-        let bytes = self.bytes;
-        let lent_bytes = lent.bytes;
-        self.is_same = self.told.same(lent.told)
-            && differing(ring, lent_ring, 0, 12) == 0
-            && differing(bytes, lent_bytes, 0, 12) == 0;
-        self
-    }
-}
-
-fn made(
-    copy: Copy,
-    s: RingBufferScheduler,
-    ring: [u8; 12],
-    len: u64,
-    bytes: [u8; 12],
-    asked: u64,
-) -> Copied {
-    let mut ring = ring;
-    let mut bytes = bytes;
-    let told = over_first(copy, s, &mut ring, len, &mut bytes, asked);
-    Copied {
-        told,
-        ring,
-        bytes,
-        is_same: true,
-    }
-}
-
-// Of the ring the first `len` bytes are lent, and of the others as many as are asked.
-fn over_first(
-    copy: Copy,
-    s: RingBufferScheduler,
-    ring: &mut [u8],
-    len: u64,
-    bytes: &mut [u8],
-    asked: u64,
-) -> Told {
-    let len = min(len, ring.len() as u64) as usize;
-    let asked = min(asked, bytes.len() as u64) as usize;
-    over(copy, s, &mut ring[0..len], &mut bytes[0..asked])
-}
-
-fn over(copy: Copy, scheduler: RingBufferScheduler, ring: &mut [u8], bytes: &mut [u8]) -> Told {
-    match copy {
-        Copy::Write => wrote(scheduler, (WritingEnd { scheduler }).write(ring, bytes)),
-        Copy::Read => got(scheduler, (ReadingEnd { scheduler }).read(ring, bytes)),
-        Copy::WriteLent => flat(write(scheduler, ring, bytes)),
-        Copy::ReadLent => flat(read(scheduler, ring, bytes)),
-    }
+    let mut left = dst;
+    let len = min(len, 12) as usize;
+    let asked = min(asked, 12) as usize;
+    let answer = (ReadingEnd { scheduler }).read(&ring[0..len], &mut left[0..asked]);
+    let told = got(scheduler, answer);
+    Copied { told, left }
 }
 
 fn wrote(before: RingBufferScheduler, answer: Wrote) -> Told {
@@ -116,6 +69,38 @@ fn got(before: RingBufferScheduler, answer: Got) -> Told {
         Got::Moved { end, n } => accepted(end.scheduler, n),
         Got::Refused(e) => refused(before, e.number()),
     }
+}
+
+// ---- over a lent scheduler
+
+pub fn written_lent(
+    scheduler: RingBufferScheduler,
+    ring: [u8; 12],
+    len: u64,
+    src: [u8; 12],
+    asked: u64,
+) -> Copied {
+    let mut left = ring;
+    let len = min(len, 12) as usize;
+    let asked = min(asked, 12) as usize;
+    let lent = write(scheduler, &mut left[0..len], &src[0..asked]);
+    let told = flat(lent);
+    Copied { told, left }
+}
+
+pub fn read_out_lent(
+    scheduler: RingBufferScheduler,
+    ring: [u8; 12],
+    len: u64,
+    dst: [u8; 12],
+    asked: u64,
+) -> Copied {
+    let mut left = dst;
+    let len = min(len, 12) as usize;
+    let asked = min(asked, 12) as usize;
+    let lent = read(scheduler, &ring[0..len], &mut left[0..asked]);
+    let told = flat(lent);
+    Copied { told, left }
 }
 
 fn flat(lent: Lent) -> Told {

@@ -1,5 +1,6 @@
 // The events: each end copies, sends its counter and takes the other's.
 use crate::calls;
+use crate::calls::Told;
 use crate::copy;
 use crate::copy::Copied;
 use crate::memory;
@@ -28,39 +29,38 @@ pub fn happened(world: World, random: u64) -> World {
     }
 }
 
-fn writes(world: World, asked: u64) -> World {
+fn writes(mut world: World, asked: u64) -> World {
     let ring = world.ring;
     let src = memory::source(world.written);
-    wrote(
-        world,
-        asked,
-        copy::written(world.writer, ring, world.len, src, asked),
-    )
+    let copied = copy::written(world.writer, ring, world.len, src, asked);
+    let lent = copy::written_lent(world.writer, ring, world.len, src, asked);
+    world.report = world.report.check(report::LENT, copied.same(lent));
+    wrote(world, asked, copied)
 }
 
-fn reads(world: World, asked: u64) -> World {
+fn reads(mut world: World, asked: u64) -> World {
     let ring = world.ring;
     let marks = [memory::MARK; 12];
-    got(
-        world,
-        asked,
-        copy::read_out(world.reader, ring, world.len, marks, asked),
-    )
+    let copied = copy::read_out(world.reader, ring, world.len, marks, asked);
+    let lent = copy::read_out_lent(world.reader, ring, world.len, marks, asked);
+    world.report = world.report.check(report::LENT, copied.same(lent));
+    got(world, asked, copied)
 }
 
 fn wrote(mut world: World, asked: u64, copied: Copied) -> World {
     let told = copied.told;
-    let ring = copied.ring;
+    let ring = copied.left;
     let old = world.ring;
     let space = calls::amount(world.writer.space_avail());
-    world.report = moved(
+    let report = moved(
         world.report,
         report::WRITES,
-        copied,
+        told,
         asked,
         space,
         world.space(),
-    ).same(
+    );
+    world.report = report.same(
         report::ONLY_OWN,
         world.cells(old, world.written),
         world.cells(ring, world.written),
@@ -76,16 +76,10 @@ fn wrote(mut world: World, asked: u64, copied: Copied) -> World {
 
 fn got(mut world: World, asked: u64, copied: Copied) -> World {
     let told = copied.told;
-    let dst = copied.bytes;
+    let dst = copied.left;
     let data = calls::amount(world.reader.data_avail());
-    world.report = moved(
-            world.report,
-            report::READS,
-            copied,
-            asked,
-            data,
-            world.data(),
-        )
+    let report = moved(world.report, report::READS, told, asked, data, world.data());
+    world.report = report
         .same(report::IN_ORDER, dst, memory::source(world.read), 0, told.n)
         .same(report::UNTOUCHED, dst, [memory::MARK; 12], told.n, asked);
     let after = told.scheduler;
@@ -95,15 +89,13 @@ fn got(mut world: World, asked: u64, copied: Copied) -> World {
 }
 
 // As many bytes as asked and as the record has; and the record has as many as the positions allow.
-fn moved(report: Report, by: usize, copied: Copied, asked: u64, has: u64, allowed: u64) -> Report {
-    let n = copied.told.n;
+fn moved(report: Report, by: usize, told: Told, asked: u64, has: u64, allowed: u64) -> Report {
     report
-        .check(report::ACCEPTED, copied.told.number == 0)
-        .check(report::LENT, copied.is_same)
+        .check(report::ACCEPTED, told.number == 0)
         .check(report::VIEWS, has == allowed)
-        .check(report::EXACT, n == min(asked, has))
+        .check(report::EXACT, told.n == min(asked, has))
         .plus(by, 1)
-        .plus(behind(by, 1), n)
+        .plus(behind(by, 1), told.n)
 }
 
 fn writer_sends(mut world: World) -> World {

@@ -57,25 +57,29 @@ fn ran_back(report: Report, number: u64) -> Report {
 
 // Memory of any other length up to 12 is lent to both ends in the ring's place.
 fn writes_wrong(mut world: World, len: u64) -> World {
+    let marks = [memory::MARK; 12];
     let src = memory::source(world.written);
-    let copied = copy::written(world.writer, [memory::MARK; 12], len, src, 12);
-    let ring = copied.ring;
-    world.report = memory_wrong(world.report, copied, ring, len);
-    world
+    let copied = copy::written(world.writer, marks, len, src, 12);
+    let lent = copy::written_lent(world.writer, marks, len, src, 12);
+    world.report = world.report.check(report::LENT, copied.same(lent));
+    memory_wrong(world, copied, len)
 }
 
 fn reads_wrong(mut world: World, len: u64) -> World {
+    let marks = [memory::MARK; 12];
     let ring = memory::source(world.read);
-    let copied = copy::read_out(world.reader, ring, len, [memory::MARK; 12], 12);
-    let dst = copied.bytes;
-    world.report = memory_wrong(world.report, copied, dst, 12);
-    world
+    let copied = copy::read_out(world.reader, ring, len, marks, 12);
+    let lent = copy::read_out_lent(world.reader, ring, len, marks, 12);
+    world.report = world.report.check(report::LENT, copied.same(lent));
+    memory_wrong(world, copied, 12)
 }
 
-fn memory_wrong(report: Report, copied: Copied, marks: [u8; 12], len: u64) -> Report {
-    report
+fn memory_wrong(mut world: World, copied: Copied, len: u64) -> World {
+    let left = copied.left;
+    world.report = world
+        .report
         .plus(report::WRONG_MEMORY, 1)
-        .check(report::LENT, copied.is_same)
         .check(report::NUMBERS, copied.told.number == 9)
-        .same(report::LEFT, marks, [memory::MARK; 12], 0, len)
+        .same(report::LEFT, left, [memory::MARK; 12], 0, len);
+    world
 }

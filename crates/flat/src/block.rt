@@ -1,4 +1,4 @@
-// Blocks.
+// A block as four numbers, and back; a layout and a fill state as one.
 ghost use mathlib.Core.Path.{_≡_};
 ghost use Rattle.flat.specs.Block.{blockTypeNumber, bitNumber, blockTypeAt, bitAt, noBlock, flatBlock, flatBlockAnswer, flatBlocks, layoutNumber, flatLayout, fillStateNumber, flatFillState};
 use crate::counter::u64_of;

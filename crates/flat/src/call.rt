@@ -1,5 +1,4 @@
-// A call in progress: a host begins one, does what it waits for on a socket of its own, and hands in the answer, until it is
-// finished. An answer that is refused leaves the call as it was.
+// A call in progress as a host holds it between two calls, and back: it comes back in as it went out.
 ghost use mathlib.Core.Path.{_≡_};
 ghost use Rattle.flat.specs.Call.{endingAt, noEnding, flatEnding, wantedAt, phaseAt, noPhase, flatPhase, callAt, noCall, flatCall, flatStep};
 use crate::counter::bool_number;

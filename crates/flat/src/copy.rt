@@ -1,4 +1,4 @@
-// Copies between the ring's lent memory and a host's slice.
+// What a copy by value answers: the scheduler after it, and how many bytes were moved.
 ghost use mathlib.Core.Path.{_≡_};
 ghost use Rattle.flat.specs.Copy.{flatCopied};
 use crate::refusal::flat_copy_refusal;

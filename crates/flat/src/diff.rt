@@ -1,4 +1,4 @@
-// Whether two values are the same or different.
+// A difference as three numbers, and back.
 ghost use mathlib.Core.Path.{_≡_};
 ghost use Rattle.flat.specs.Diff.{diffAt, flatDiff};
 use crate::structs::Diff;

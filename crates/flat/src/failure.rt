@@ -1,4 +1,4 @@
-// Why a stream fails. Every call tests the failures that it is given.
+// A failure as two numbers, and back: an errno, or a violation by its number.
 ghost use mathlib.Core.Path.{_≡_};
 ghost use Rattle.flat.specs.Failure.{failureAt, potentialFailureAt, noFailure, flatFailure, flatFailureAnswer, flatPotentialFailure};
 use crate::refusal::flat_receiver_refusal;

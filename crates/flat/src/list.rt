@@ -1,4 +1,4 @@
-// The two-place list of operations.
+// The two-place list as a count and two operations, and back, and what the calls of a list answer.
 ghost use mathlib.Core.Path.{_≡_};
 ghost use Rattle.flat.specs.List.{operationsAt, flatOperations, flatOperationsAnswer, flatStarts, flatStartsAnswer, noRange, flatRange, flatRanges, flatRangesAnswer};
 use crate::operation::flat_operation;

@@ -1,4 +1,4 @@
-// The calls of `modular`. A modulus is its raw number, and 0 is the full range.
+// What the calls of `modular` answer, where there may be none.
 ghost use mathlib.Core.Path.{_≡_};
 ghost use Rattle.flat.specs.Modulus.{flatModulus, flatNumber};
 use modular::OptionModulus;

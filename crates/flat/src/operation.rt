@@ -1,4 +1,4 @@
-// Operations.
+// An operation as three numbers, and back, and the next one, where there may be none.
 ghost use mathlib.Core.Path.{_≡_};
 ghost use Rattle.flat.specs.Operation.{typeAt, operationAt, noOperation, flatOperation, flatNext};
 use crate::refusal::flat_refusal;

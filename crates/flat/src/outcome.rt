@@ -1,4 +1,4 @@
-// What an accepted call of the receiver comes to.
+// What an accepted call of the receiver comes to, as numbers, and back.
 ghost use mathlib.Core.Path.{_≡_};
 ghost use Rattle.flat.specs.Outcome.{cameAt, besideAt, outcomeAt, noOutcome, flatCame, flatOutcome};
 use crate::failure::failure;

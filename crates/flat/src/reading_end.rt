@@ -1,4 +1,4 @@
-// The calls of the reading end. Every one tests the end that it is given anew.
+// A reading end and the counter that it sends, as numbers, and back, and what its calls answer.
 ghost use mathlib.Core.Path.{_≡_};
 ghost use Rattle.flat.specs.ReadingEnd.{readCounterAt, readingEndAt, noReadingEnd, flatReadingEnd, flatReadingEndAnswer, flatGot, flatReadCounter};
 use crate::refusal::flat_end_refusal;

@@ -1,4 +1,4 @@
-// The receiver's record, and what its calls come to.
+// The receiver's record as numbers, and back, and what its calls over a run answer.
 ghost use mathlib.Core.Path.{_≡_};
 ghost use Rattle.flat.specs.Receiver.{yesAt, receiverAt, noReceiver, flatReceiver, flatReceiverAnswer, flatEnded};
 use crate::counter::bool_number;

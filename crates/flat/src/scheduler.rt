@@ -1,4 +1,4 @@
-// The calls of the scheduler that make it, count and register. Every one tests the scheduler that it is given anew.
+// A scheduler as three numbers, and back, and what a test and a registering answer.
 ghost use mathlib.Core.Path.{_≡_};
 ghost use Rattle.flat.specs.Scheduler.{schedulerAt, noScheduler, flatScheduler, flatChecked, flatRegistered};
 use crate::refusal::flat_refusal;

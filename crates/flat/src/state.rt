@@ -1,4 +1,4 @@
-// The states of the receiver. Every call tests the states and failures that it is given.
+// A state of the receiver as numbers, and back.
 ghost use mathlib.Core.Path.{_≡_};
 ghost use Rattle.flat.specs.State.{stateAt, noState, flatState, flatStateAnswer};
 use crate::failure::failure;

@@ -1,4 +1,4 @@
-// The calls of the writing end. Every one tests the end that it is given anew.
+// A writing end and the counter that it sends, as numbers, and back, and what its calls answer.
 ghost use mathlib.Core.Path.{_≡_};
 ghost use Rattle.flat.specs.WritingEnd.{writtenCounterAt, writingEndAt, noWritingEnd, flatWritingEnd, flatWritingEndAnswer, flatWrote, flatWrittenCounter};
 use crate::refusal::flat_end_refusal;

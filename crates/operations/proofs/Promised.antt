@@ -1,4 +1,4 @@
--- Of the calls on lists, differences and parts: every outcome that an attached contract allows is what `Parts` of specs/ says, in
+-- Of the calls on lists, differences and operations: every outcome that an attached contract allows is what `Promise` of specs/ says, in
 -- other words than the definitions.
 use Prim.Native.Nat.{ℕ, _+_}
 use mathlib.Core.Path.{_≡_, refl, sym, ap, _∙_}

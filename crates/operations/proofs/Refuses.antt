@@ -1,5 +1,5 @@
--- "Given exactly when", 1 to 8, of every call that can refuse: whatever its attached contract allows is refused with a number
--- and values exactly when the paper's table says so.
+-- "Given exactly when", 7 and 8, of every call of a list: whatever its attached contract allows is refused with a number and values exactly
+-- when the paper's table says so.
 use Rattle.modular.proofs.Saying.{Keeps}
 use Rattle.operations.specs.Given.{Exactly, GivenList, ofAmount, ofOperations, ofCumulativeOffsets, ofOutsideRanges}
 use Rattle.operations.proofs.Given.{list-exactly, listed-exactly}

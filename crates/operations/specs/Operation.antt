@@ -1,4 +1,4 @@
--- Operations.
+-- An operation of a type, at an offset, of so many items.
 use Prim.Native.Nat.{ℕ}
 use Rattle.operations.specs.declared.counter.Offset.{Offset}
 use Rattle.operations.specs.declared.operation.OperationType.{OperationType}

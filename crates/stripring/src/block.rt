@@ -1,4 +1,4 @@
-// Blocks.
+// A block that is put together of its four parts.
 ghost use mathlib.Core.Path.{_≡_};
 ghost use Rattle.sched.specs.Block.{blockOf};
 ghost use Rattle.flat.specs.Block.{blockTypeAt, bitAt, flatBlock};

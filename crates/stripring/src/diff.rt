@@ -1,4 +1,4 @@
-// Whether two values are the same or different.
+// The calls of a difference: by the case, and not by the values.
 ghost use mathlib.Core.Path.{_≡_};
 ghost use Rattle.operations.specs.Diff.{diffOf, isSameOf, isDifferentOf, oldValueOf, newValueOf};
 ghost use Rattle.flat.specs.Diff.{diffAt, flatDiff};

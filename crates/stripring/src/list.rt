@@ -1,4 +1,4 @@
-// The two-place list of operations.
+// The calls of the two-place list. Every one tests the list that it is given anew.
 ghost use mathlib.Core.Path.{_≡_};
 ghost use Rattle.operations.specs.List.{soundListOf, cumulativeLengthOf, cumulativeOffsetsOf, outsideRangesOf};
 ghost use Rattle.flat.specs.Counter.{flatAmount};

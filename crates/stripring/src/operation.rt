@@ -1,4 +1,4 @@
-// Operations.
+// Operations that are put together.
 ghost use mathlib.Core.Path.{_≡_};
 ghost use Rattle.operations.specs.Operation.{operationOf, defaultOperation};
 ghost use Rattle.flat.specs.Operation.{typeAt, flatOperation};

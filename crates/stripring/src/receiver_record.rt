@@ -1,4 +1,4 @@
-// The receiver's record, and what its calls come to.
+// A receiver that is made new.
 ghost use mathlib.Core.Path.{_≡_};
 ghost use Rattle.receiver.specs.Receiver.{receiverOf};
 ghost use Rattle.flat.specs.Receiver.{flatReceiverAnswer};

@@ -1,4 +1,5 @@
 pub mod ListLaws
+pub mod PortionLaws
 pub mod Says
 pub mod Given
 pub mod Refuses

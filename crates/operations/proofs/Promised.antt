@@ -22,9 +22,12 @@ use Rattle.operations.specs.declared.operation.OperationType.the-variant
 use Rattle.operations.specs.declared.refusal.Refusal.{Refusal}
 use Rattle.operations.specs.Diff.{diffOf, isSameOf, isDifferentOf, oldValueOf, newValueOf}
 use Rattle.operations.specs.List.{soundListOf, listed, totalIn, cumulativeLengthOf, cumulativeIn, cumulativeOffsetsOf, outsideIn, outsideRangesOf}
-use Rattle.operations.specs.Promise.{StartsOf, starts-none, starts-one, starts-two, RangesOf, ranges-none, ranges-one, ranges-two, lastEnd, DiffOf}
+use Rattle.operations.specs.Promise.{LeftOver, StartsOf, starts-none, starts-one, starts-two, RangesOf, ranges-none, ranges-one, ranges-two, lastEnd, DiffOf}
 use Rattle.operations.proofs.Given.{list-kept}
-use Rattle.operations.proofs.Says.{ScheduledOperations-try-new-says, container-says, into-container-says, cumulative-operation-length-says, with-cumulative-offset-says, with-outside-buffer-range-says, Diff-new-says, is-same-says, is-different-says, old-value-says, new-value-says, ScheduledOperation-new-says, default-says}
+use Rattle.operations.proofs.PortionLaws.{left-over}
+use Rattle.operations.proofs.Says.{ScheduledOperations-try-new-says, container-says, into-container-says, cumulative-operation-length-says, with-cumulative-offset-says, with-outside-buffer-range-says, Diff-new-says, is-same-says, is-different-says, old-value-says, new-value-says, ScheduledOperation-new-says, default-says, portion-of-says}
+use Rattle.operations.proofs.portion.portion_of.Kinds as portion-of-kinds
+use Rattle.operations.proofs.portion.portion_of.Reads as portion-of
 use Rattle.operations.proofs.list.ScheduledOperations.try_new.Kinds as list-try-new-kinds
 use Rattle.operations.proofs.list.ScheduledOperations.try_new.Reads as list-try-new
 use Rattle.operations.proofs.list.ScheduledOperations.container.Kinds as container-kinds
@@ -182,3 +185,7 @@ operation-new-promised κs a z q = rw (ScheduledOperation-new-says κs a z (q .0
 
 pub operation-default-promised : Keeps 0 default-kinds.ps default-kinds.r default.Learnt (λ κs a z. (z .typ ≡ Read) × (z .off .0 ≡ 0) × (z .len ≡ 0))
 operation-default-promised κs a z q = rw (default-says κs a z (q .0) (q .1)) (refl, refl, refl)
+
+-- ---- portions
+pub portion-promised : Keeps 0 portion-of-kinds.ps portion-of-kinds.r portion-of.Learnt (λ κs a z. LeftOver (a .0) (a .1 .0) (z .len) (z .remainder))
+portion-promised κs a z q = rw (portion-of-says κs a z (q .0) (q .1)) (left-over (a .0) (a .1 .0))

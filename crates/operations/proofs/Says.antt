@@ -5,11 +5,14 @@ use Rattle.modular.proofs.Saying.{Says}
 use Rattle.operations.specs.Diff.{diffOf, isSameOf, isDifferentOf, oldValueOf, newValueOf}
 use Rattle.operations.specs.List.{soundListOf, cumulativeLengthOf, cumulativeOffsetsOf, outsideRangesOf}
 use Rattle.operations.specs.Operation.{operationOf, defaultOperation}
+use Rattle.operations.specs.Portion.{portionOf}
 use Rattle.operations.specs.Refusal.{typeNumber, numberOf, valuesOf, packed}
 use Rattle.operations.proofs.operation.ScheduledOperation.new.Kinds as ScheduledOperation-new-kinds
 use Rattle.operations.proofs.operation.ScheduledOperation.new.Reads as ScheduledOperation-new
 use Rattle.operations.proofs.operation.ScheduledOperation.default.Kinds as default-kinds
 use Rattle.operations.proofs.operation.ScheduledOperation.default.Reads as default
+use Rattle.operations.proofs.portion.portion_of.Kinds as portion-of-kinds
+use Rattle.operations.proofs.portion.portion_of.Reads as portion-of
 use Rattle.operations.proofs.list.ScheduledOperations.try_new.Kinds as ScheduledOperations-try-new-kinds
 use Rattle.operations.proofs.list.ScheduledOperations.try_new.Reads as ScheduledOperations-try-new
 use Rattle.operations.proofs.list.ScheduledOperations.container.Kinds as container-kinds
@@ -52,6 +55,9 @@ ScheduledOperation-new-says κs a z ws p = p
 
 pub default-says : Says 0 default-kinds.ps default-kinds.r default.Learnt (λ κs a. defaultOperation)
 default-says κs a z ws p = p
+
+pub portion-of-says : Says 0 portion-of-kinds.ps portion-of-kinds.r portion-of.Learnt (λ κs a. portionOf (a .0) (a .1 .0))
+portion-of-says κs a z ws p = p
 
 -- ---- the two-place list
 pub ScheduledOperations-try-new-says : Says 0 ScheduledOperations-try-new-kinds.ps ScheduledOperations-try-new-kinds.r ScheduledOperations-try-new.Learnt (λ κs a. soundListOf (a .0))

@@ -1,5 +1,6 @@
 pub mod Refusal
 pub mod Operation
+pub mod Portion
 pub mod List
 pub mod Diff
 pub mod Given

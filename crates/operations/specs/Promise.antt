@@ -1,5 +1,5 @@
--- What lists of operations and differences promise, told in other words than the definitions.
-use Prim.Native.Nat.{ℕ, _+_}
+-- What portions, lists of operations and differences promise, told in other words than the definitions.
+use Prim.Native.Nat.{ℕ, _+_, _<_}
 use mathlib.Core.Path.{_≡_}
 use Rattle.operations.specs.declared.diff.Diff.{Diff}
 use Rattle.operations.specs.declared.diff.Diff.the-variants.{Same, Different}
@@ -12,6 +12,14 @@ use Rattle.operations.specs.declared.list.OutsideRanges.the-variants as 
 use Rattle.operations.specs.declared.list.ScheduledOperations.{ScheduledOperations}
 use Rattle.operations.specs.declared.list.ScheduledOperations.the-variants as list
 use Rattle.operations.specs.declared.operation.ScheduledOperation.{ScheduledOperation}
+
+-- ---- portions: of what is asked so many are taken and the others left over; some are left exactly when more is asked than there is
+-- room for, and then the room is taken whole
+pub record LeftOver (asked room taken left : ℕ) : Type 0 where
+  pub whole : asked ≡ taken + left
+  pub some-left : room < asked → 0 < left
+  pub only-then : 0 < left → room < asked
+  pub room-taken : 0 < left → taken ≡ room
 
 -- ---- lists: each operation once, in order, one behind the other in the linear buffer outside the ring
 pub data StartsOf : ScheduledOperations → CumulativeOffsets → Type 0 where

@@ -4,6 +4,7 @@ mod counter;
 mod diff;
 mod list;
 mod operation;
+mod portion;
 mod refusal;
 mod values;
 
@@ -24,5 +25,7 @@ pub use list::OutsideRangesAnswer;
 pub use list::ScheduledOperations;
 pub use operation::OperationType;
 pub use operation::ScheduledOperation;
+pub use portion::Portion;
+pub use portion::portion_of;
 pub use refusal::Refusal;
 pub use values::Values;

@@ -9,6 +9,7 @@ use Rattle.operations.specs.declared.list.OperationsAnswer.{OperationsAnswer}
 use Rattle.operations.specs.declared.list.OperationsAnswer.the-variants as operations
 use Rattle.operations.specs.declared.list.ScheduledOperations.{ScheduledOperations}
 use Rattle.operations.specs.declared.list.ScheduledOperations.the-variants as list
+use Rattle.sched.specs.declared.schedule.Next.{Next}
 use Rattle.sched.specs.declared.schedule.NextOperation.{NextOperation}
 use Rattle.sched.specs.declared.schedule.NextOperation.the-variants as next
 use Rattle.operations.specs.declared.operation.OperationType.{OperationType}
@@ -23,8 +24,8 @@ use Rattle.sched.specs.declared.register.Registered.the-variants as regi
 use Rattle.sched.specs.declared.scheduler.RingBufferScheduler.{RingBufferScheduler}
 use Rattle.operations.specs.List.{soundListOf}
 use Rattle.operations.specs.Operation.{operationOf}
-use Rattle.sched.specs.Promise.{MovedByList, by-none, by-one, by-two, Next, Between, Taken, MovedBy}
-use Rattle.sched.specs.Scheduler.{Sized, IsSound, soundOf, dataIn, greatestIn, offsetIn, nextIn, advancedIn, registerOf, registerListOf, thenRegister}
+use Rattle.sched.specs.Promise.{MovedByList, by-none, by-one, by-two, NextIs, Between, Taken, MovedBy}
+use Rattle.sched.specs.Scheduler.{Sized, IsSound, soundOf, dataIn, greatestIn, offsetIn, someOf, nextIn, advancedIn, registerOf, registerListOf, thenRegister}
 use Rattle.sched.proofs.Laws.{sound-is, sound-both, offset-lt}
 use Rattle.sched.proofs.RegisterLaws.{registered-sound, advanced-sound}
 use Rattle.sched.proofs.ScheduleLaws.{next-is, some-none, some-some}
@@ -130,10 +131,13 @@ list-moved s ops u p = go (soundOf s) refl
     go (checked.Refused e) q = never u e (rw q at p)
 
 -- ---- the next operation
-pub next-promised : (s : RingBufferScheduler) → IsSound s → (t : OperationType) (m : ℕ) (o : NextOperation) → nextIn s t m ≡ o → Next s t m o
-next-promised s h t m next.None e =
-    let z : min m (min (greatestIn s t) (s .«buf_len» - offsetIn s t .0)) ≡ 0 = some-none _ _ _ (sym e ∙ next-is s h t m) in
-    omega (arith, offset-lt s h t)
-next-promised s h t m (next.Some f) e =
-    let q : (f ≡ operationOf t (offsetIn s t) (min m (min (greatestIn s t) (s .«buf_len» - offsetIn s t .0)))) × (0 < min m (min (greatestIn s t) (s .«buf_len» - offsetIn s t .0))) = some-some _ _ _ f (sym e ∙ next-is s h t m) in
-    rw (q .0) (record { typed = refl; nonempty = q .1; starts = refl; runs = refl })
+pub next-promised : (s : RingBufferScheduler) → IsSound s → (t : OperationType) (m : ℕ) (o : NextOperation) → nextIn s t m .operation ≡ o → NextIs s t m o
+next-promised s h t m o e = go o (sym e ∙ ap (λ (x : Next). x .operation) (next-is s h t m))
+  where
+    go : (o : NextOperation) → o ≡ someOf t (offsetIn s t) (min m (min (greatestIn s t) (s .«buf_len» - offsetIn s t .0))) → NextIs s t m o
+    go next.None p =
+        let z : min m (min (greatestIn s t) (s .«buf_len» - offsetIn s t .0)) ≡ 0 = some-none _ _ _ p in
+        omega (arith, offset-lt s h t)
+    go (next.Some f) p =
+        let q : (f ≡ operationOf t (offsetIn s t) (min m (min (greatestIn s t) (s .«buf_len» - offsetIn s t .0)))) × (0 < min m (min (greatestIn s t) (s .«buf_len» - offsetIn s t .0))) = some-some _ _ _ f p in
+        rw (q .0) (record { typed = refl; nonempty = q .1; starts = refl; runs = refl })

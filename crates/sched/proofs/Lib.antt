@@ -4,6 +4,7 @@ pub mod RegisterLaws
 pub mod ScheduleLaws
 pub mod ChunkLaws
 pub mod Promises
+pub mod Remainder
 pub mod Says
 pub mod Given
 pub mod GivenLists

@@ -5,14 +5,15 @@ use native.Mathlib.Omega.{arith}
 use Rattle.modular.proofs.Saying.{Allows, Keeps}
 use Rattle.operations.specs.declared.counter.AmountAnswer.{AmountAnswer}
 use Rattle.operations.specs.declared.counter.AmountAnswer.the-variants as amount
-use Rattle.operations.specs.declared.list.OperationsAnswer.{OperationsAnswer}
-use Rattle.operations.specs.declared.list.OperationsAnswer.the-variants as operations
-use Rattle.operations.specs.declared.list.ScheduledOperations.{ScheduledOperations}
 use Rattle.operations.specs.declared.list.ScheduledOperations.the-variants as list
+use Rattle.sched.specs.declared.schedule.Next.{Next}
 use Rattle.sched.specs.declared.schedule.NextOperation.{NextOperation}
 use Rattle.sched.specs.declared.schedule.NextOperation.the-variants as next
 use Rattle.sched.specs.declared.schedule.NextOperationAnswer.{NextOperationAnswer}
 use Rattle.sched.specs.declared.schedule.NextOperationAnswer.the-variants as nexts
+use Rattle.sched.specs.declared.schedule.Scheduled.{Scheduled}
+use Rattle.sched.specs.declared.schedule.ScheduledAnswer.{ScheduledAnswer}
+use Rattle.sched.specs.declared.schedule.ScheduledAnswer.the-variants as schedules
 use Rattle.operations.specs.declared.operation.OperationType.{OperationType}
 use Rattle.operations.specs.declared.operation.OperationType.the-variants.{Read, Write}
 use Rattle.operations.specs.declared.operation.ScheduledOperation.{ScheduledOperation}
@@ -20,12 +21,13 @@ use Rattle.sched.specs.declared.scheduler.Checked.the-variants as checke
 use Rattle.sched.specs.declared.register.Registered.{Registered}
 use Rattle.sched.specs.declared.register.Registered.the-variants as registered
 use Rattle.sched.specs.declared.scheduler.RingBufferScheduler.{RingBufferScheduler}
-use Rattle.sched.specs.Promise.{Schedules, Asks, Moves, NextPromise, joined, byBlocks, Between, Taken, WrittenBy, MovedBy, MovedByList}
-use Rattle.sched.specs.Scheduler.{IsSound, soundOf, dataIn, spaceIn, greatestIn, nextIn, scheduleIn, advancedIn, nextOf, scheduleOf, registerOf, registerListOf}
+use Rattle.sched.specs.Promise.{Schedules, Asks, Moves, NextPromise, Between, Taken, WrittenBy, MovedBy, MovedByList}
+use Rattle.sched.specs.Scheduler.{IsSound, soundOf, dataIn, spaceIn, greatestIn, nextIn, scheduledOf, joined, byBlocks, scheduleIn, advancedIn, nextOf, scheduleOf, registerOf, registerListOf}
 use Rattle.sched.proofs.Counting.{between, taken-sound, sound-taken, moved, registered-moved, list-moved, next-promised}
 use Rattle.sched.proofs.Laws.{sound-is, sound-both}
 use Rattle.sched.proofs.RegisterLaws.{advanced-sound}
-use Rattle.sched.proofs.Promises.{scheduling, by-blocks, registers}
+use Rattle.sched.proofs.Promises.{scheduling, registers}
+use Rattle.sched.proofs.Remainder.{next-leaves, list-leaves}
 use Rattle.sched.proofs.Says.{demand-soundness-says, data-avail-says, space-avail-says, max-operation-len-says, schedule-contiguous-operations-says, schedule-reads-says, schedule-writes-says, schedule-next-contiguous-operation-says, schedule-next-read-says, schedule-next-write-says, try-register-read-says, try-register-write-says, try-register-operation-manually-says, try-register-operation-says, try-register-operations-says}
 use Rattle.sched.proofs.scheduler.RingBufferScheduler.demand_soundness.Kinds as demand-soundness-kinds
 use Rattle.sched.proofs.scheduler.RingBufferScheduler.demand_soundness.Reads as demand-soundness
@@ -61,10 +63,10 @@ use Rattle.sched.proofs.scheduler.RingBufferScheduler.try_register_oper
 same-amount : (d e : ℕ) → amount.Of d ≡ amount.Of e → d ≡ e
 same-amount d e p = cc
 
-same-operations : (o p : ScheduledOperations) → operations.Of o ≡ operations.Of p → o ≡ p
-same-operations o p q = cc
+same-scheduled : (o p : Scheduled) → schedules.Of o ≡ schedules.Of p → o ≡ p
+same-scheduled o p q = cc
 
-same-next : (o p : NextOperation) → nexts.Of o ≡ nexts.Of p → o ≡ p
+same-next : (o p : Next) → nexts.Of o ≡ nexts.Of p → o ≡ p
 same-next o p q = cc
 
 advanced-by : (s : RingBufferScheduler) → IsSound s → (t : OperationType) (f : ScheduledOperation) (u : RingBufferScheduler) → f .typ ≡ t → f .len ≤ greatestIn s t → registerOf s (f .typ) (f .len) ≡ registered.Advanced u → u ≡ advancedIn s t (f .len)
@@ -144,21 +146,21 @@ data-after-write s u n d z p q r =
     data-is u (m .1 .sound) z r ∙ ap amount.Of (m .1 .fill ∙ ap (λ (x : ℕ). x + n) (sym e))
 
 -- ---- scheduling
-schedules : (s : RingBufferScheduler) (t : OperationType) (m : ℕ) (z : OperationsAnswer) → z ≡ scheduleOf s t m → Schedules s t m z
-schedules s t m z e h = (scheduleIn s t m, rw (e, ← sound-is s h), scheduling s h t m)
+scheduled-all : (s : RingBufferScheduler) (t : OperationType) (m : ℕ) (z : ScheduledAnswer) → z ≡ scheduleOf s t m → Schedules s t m z
+scheduled-all s t m z e h = (scheduleIn s t m, rw (e, ← sound-is s h), scheduling s h t m, list-leaves s h t m)
 
 pub schedule-promised : Keeps 0 schedule-contiguous-operations-kinds.ps schedule-contiguous-operations-kinds.r schedule-contiguous-operations.Learnt (λ κs a z. Schedules (a .0) (a .1 .0) (a .1 .1 .0) z)
-schedule-promised κs a z q = schedules (a .0) (a .1 .0) (a .1 .1 .0) z (schedule-contiguous-operations-says κs a z (q .0) (q .1))
+schedule-promised κs a z q = scheduled-all (a .0) (a .1 .0) (a .1 .1 .0) z (schedule-contiguous-operations-says κs a z (q .0) (q .1))
 
 pub reads-promised : Keeps 0 schedule-reads-kinds.ps schedule-reads-kinds.r schedule-reads.Learnt (λ κs a z. Schedules (a .0) Read (a .1 .0) z)
-reads-promised κs a z q = schedules (a .0) Read (a .1 .0) z (schedule-reads-says κs a z (q .0) (q .1))
+reads-promised κs a z q = scheduled-all (a .0) Read (a .1 .0) z (schedule-reads-says κs a z (q .0) (q .1))
 
 pub writes-promised : Keeps 0 schedule-writes-kinds.ps schedule-writes-kinds.r schedule-writes.Learnt (λ κs a z. Schedules (a .0) Write (a .1 .0) z)
-writes-promised κs a z q = schedules (a .0) Write (a .1 .0) z (schedule-writes-says κs a z (q .0) (q .1))
+writes-promised κs a z q = scheduled-all (a .0) Write (a .1 .0) z (schedule-writes-says κs a z (q .0) (q .1))
 
 -- the next operation alone
 asks : (s : RingBufferScheduler) (t : OperationType) (m : ℕ) (z : NextOperationAnswer) → z ≡ nextOf s t m → Asks s t m z
-asks s t m z e h = (nextIn s t m, rw (e, ← sound-is s h), next-promised s h t m (nextIn s t m) refl)
+asks s t m z e h = (nextIn s t m, rw (e, ← sound-is s h), next-promised s h t m (nextIn s t m .operation) refl, next-leaves s t m)
 
 pub next-operation-promised : Keeps 0 schedule-next-contiguous-operation-kinds.ps schedule-next-contiguous-operation-kinds.r schedule-next-contiguous-operation.Learnt (λ κs a z. Asks (a .0) (a .1 .0) (a .1 .1 .0) z)
 next-operation-promised κs a z q = asks (a .0) (a .1 .0) (a .1 .1 .0) z (schedule-next-contiguous-operation-says κs a z (q .0) (q .1))
@@ -169,9 +171,9 @@ next-read-promised κs a z q = asks (a .0) Read (a .1 .0) z (schedule-next-read-
 pub next-write-promised : Keeps 0 schedule-next-write-kinds.ps schedule-next-write-kinds.r schedule-next-write.Learnt (λ κs a z. Asks (a .0) Write (a .1 .0) z)
 next-write-promised κs a z q = asks (a .0) Write (a .1 .0) z (schedule-next-write-says κs a z (q .0) (q .1))
 
--- ---- asking block after block, as the Rust does, gives the same: the next operation, and the next of the scheduler after it
--- with what it left over
-abbrev pub Schedule : RingBufferScheduler → OperationType → ℕ → OperationsAnswer → Type 0
+-- ---- the list is what asking block after block gives, as the Rust does: the next operation, and the next of the scheduler after it,
+-- asked for what it left over
+abbrev pub Schedule : RingBufferScheduler → OperationType → ℕ → ScheduledAnswer → Type 0
 Schedule s t m z = Allows 0 schedule-contiguous-operations-kinds.ps schedule-contiguous-operations-kinds.r schedule-contiguous-operations.Learnt tt (s, (t, (m, tt))) z
 
 abbrev pub NextOne : RingBufferScheduler → OperationType → ℕ → NextOperationAnswer → Type 0
@@ -180,39 +182,44 @@ NextOne s t m z = Allows 0 schedule-next-contiguous-operation-kinds.ps schedule-
 abbrev pub TryRegister : RingBufferScheduler → ScheduledOperation → Registered → Type 0
 TryRegister s f z = Allows 0 try-register-operation-kinds.ps try-register-operation-kinds.r try-register-operation.Learnt tt (s, (f, tt)) z
 
-next-of : (s : RingBufferScheduler) → IsSound s → (t : OperationType) (m : ℕ) (o : NextOperation) → NextOne s t m (nexts.Of o) → o ≡ nextIn s t m
-next-of s h t m o q = same-next o (nextIn s t m) (rw (← sound-is s h) at (schedule-next-contiguous-operation-says tt (s, (t, (m, tt))) (nexts.Of o) (q .0) (q .1)))
+module _ (s : RingBufferScheduler) (h : IsSound s) (t : OperationType) (m : ℕ) where
+  next-of : (o : Next) → NextOne s t m (nexts.Of o) → o ≡ nextIn s t m
+  next-of o q = same-next o (nextIn s t m) (rw (← sound-is s h) at (schedule-next-contiguous-operation-says tt (s, (t, (m, tt))) (nexts.Of o) (q .0) (q .1)))
 
-module _ (s : RingBufferScheduler) (h : IsSound s) (t : OperationType) (m : ℕ) (z : OperationsAnswer) (q : Schedule s t m z) where
-  by-blocks-is : z ≡ operations.Of (byBlocks s t m (nextIn s t m))
-  by-blocks-is =
-      (rw (← sound-is s h) at (schedule-contiguous-operations-says tt (s, (t, (m, tt))) z (q .0) (q .1)))
-      ∙ ap operations.Of (sym (by-blocks s h t m))
+  pub scheduled : (z : ScheduledAnswer) → Schedule s t m z → z ≡ schedules.Of (scheduleIn s t m)
+  scheduled z q = rw (schedule-contiguous-operations-says tt (s, (t, (m, tt))) z (q .0) (q .1), ← sound-is s h)
 
-  pub block-after-none : NextOne s t m (nexts.Of next.None) → z ≡ operations.Of list.None
-  block-after-none p = by-blocks-is ∙ ap (λ (x : NextOperation). operations.Of (byBlocks s t m x)) (sym (next-of s h t m next.None p))
+  pub schedule-of : (r : Scheduled) → Schedule s t m (schedules.Of r) → r ≡ scheduleIn s t m
+  schedule-of r q = same-scheduled r (scheduleIn s t m) (scheduled (schedules.Of r) q)
+
+module _ (s : RingBufferScheduler) (h : IsSound s) (t : OperationType) (m : ℕ) (z : ScheduledAnswer) (q : Schedule s t m z) where
+  by-blocks-is : (o : Next) → o ≡ nextIn s t m → z ≡ schedules.Of (byBlocks s t (o .operation) (o .remainder))
+  unfolding scheduleIn
+  by-blocks-is o e = scheduled s h t m z q ∙ ap (λ (x : Next). schedules.Of (byBlocks s t (x .operation) (x .remainder))) (sym e)
+
+  pub block-after-none : (k : ℕ) → NextOne s t m (nexts.Of (record { operation = next.None; remainder = k })) → z ≡ schedules.Of (scheduledOf list.None k)
+  block-after-none k p = by-blocks-is (record { operation = next.None; remainder = k }) (next-of s h t m (record { operation = next.None; remainder = k }) p)
 
   pub block-after-block :
-      (f : ScheduledOperation) → NextOne s t m (nexts.Of (next.Some f)) →
+      (f : ScheduledOperation) (k : ℕ) → NextOne s t m (nexts.Of (record { operation = next.Some f; remainder = k })) →
       (u : RingBufferScheduler) → TryRegister s f (registered.Advanced u) →
-      (o : NextOperation) → NextOne u t (m - f .len) (nexts.Of o) → z ≡ operations.Of (joined f o)
-  block-after-block f p u r o v =
-      let e : next.Some f ≡ nextIn s t m = next-of s h t m (next.Some f) p in
-      let n : NextPromise s t m f = next-promised s h t m (next.Some f) (sym e) in
-      let k : registerOf s (f .typ) (f .len) ≡ registered.Advanced u = sym (try-register-operation-says tt (s, (f, tt)) (registered.Advanced u) (r .0) (r .1)) in
+      (o : Next) → NextOne u t k (nexts.Of o) → z ≡ schedules.Of (joined f o)
+  block-after-block f k p u r o v =
+      let e : record { operation = next.Some f; remainder = k } ≡ nextIn s t m = next-of s h t m (record { operation = next.Some f; remainder = k }) p in
+      let n : NextPromise s t m f = next-promised s h t m (next.Some f) (ap (λ (x : Next). x .operation) (sym e)) in
+      let g : registerOf s (f .typ) (f .len) ≡ registered.Advanced u = sym (try-register-operation-says tt (s, (f, tt)) (registered.Advanced u) (r .0) (r .1)) in
       let l : f .len ≤ greatestIn s t = omega (arith, n .runs) in
-      let a : u ≡ advancedIn s t (f .len) = advanced-by s h t f u (n .typed) l k in
-      let w : o ≡ nextIn (advancedIn s t (f .len)) t (m - f .len) = next-of u (rw a (advanced-sound s h (f .len) t l)) t (m - f .len) o v ∙ ap (λ (x : RingBufferScheduler). nextIn x t (m - f .len)) a in
-      by-blocks-is ∙ ap (λ (x : NextOperation). operations.Of (byBlocks s t m x)) (sym e) ∙ ap (λ (x : NextOperation). operations.Of (joined f x)) (sym w)
+      let a : u ≡ advancedIn s t (f .len) = advanced-by s h t f u (n .typed) l g in
+      let w : o ≡ nextIn (advancedIn s t (f .len)) t k = next-of u (rw a (advanced-sound s h (f .len) t l)) t k o v ∙ ap (λ (x : RingBufferScheduler). nextIn x t k) a in
+      by-blocks-is (record { operation = next.Some f; remainder = k }) e ∙ ap (λ (x : Next). schedules.Of (joined f x)) (sym w)
 
 -- ---- what is scheduled is taken by registering, and moves all of it
 pub schedule-registers :
-    (s : RingBufferScheduler) → IsSound s → (t : OperationType) (m : ℕ) (ops : ScheduledOperations) → Schedule s t m (operations.Of ops) →
-    (z : Registered) → Allows 0 try-register-operations-kinds.ps try-register-operations-kinds.r try-register-operations.Learnt tt (s, (ops, tt)) z →
+    (s : RingBufferScheduler) → IsSound s → (t : OperationType) (m : ℕ) (r : Scheduled) → Schedule s t m (schedules.Of r) →
+    (z : Registered) → Allows 0 try-register-operations-kinds.ps try-register-operations-kinds.r try-register-operations.Learnt tt (s, (r .operations, tt)) z →
     (u : RingBufferScheduler) × (z ≡ registered.Advanced u) × MovedBy s t (min m (greatestIn s t)) u
-schedule-registers s h t m ops q z p =
-    let e : ops ≡ scheduleIn s t m = same-operations ops (scheduleIn s t m) (rw (← sound-is s h) at (schedule-contiguous-operations-says tt (s, (t, (m, tt))) (operations.Of ops) (q .0) (q .1))) in (
-      advancedIn s t (min m (greatestIn s t)),
-      try-register-operations-says tt (s, (ops, tt)) z (p .0) (p .1) ∙ ap (registerListOf s) e ∙ scheduling s h t m .registers,
-      moved s h (min m (greatestIn s t)) t (omega arith),
-    )
+schedule-registers s h t m r q z p = (
+  advancedIn s t (min m (greatestIn s t)),
+  try-register-operations-says tt (s, (r .operations, tt)) z (p .0) (p .1) ∙ ap (λ (x : Scheduled). registerListOf s (x .operations)) (schedule-of s h t m r q) ∙ scheduling s h t m .registers,
+  moved s h (min m (greatestIn s t)) t (omega arith),
+)

@@ -6,9 +6,7 @@ use mathlib.Core.Logic.{_⊎_, inl, inr, ⊎-elim}
 use native.Mathlib.Omega.{arith}
 use Rattle.modular.proofs.Laws.{lt-or-le}
 use Rattle.modular.proofs.Saying.{Allows, Keeps}
-use Rattle.operations.specs.declared.list.OperationsAnswer.{OperationsAnswer}
-use Rattle.operations.specs.declared.list.OperationsAnswer.the-variants as operations
-use Rattle.operations.specs.declared.list.ScheduledOperations.{ScheduledOperations}
+use Rattle.operations.proofs.PortionLaws.{left-over}
 use Rattle.operations.specs.declared.operation.OperationType.{OperationType}
 use Rattle.operations.specs.declared.refusal.Refusal.{Refusal}
 use Rattle.sched.specs.declared.register.Move.{Move}
@@ -16,14 +14,18 @@ use Rattle.sched.specs.declared.register.MoveAnswer.{MoveAnswer}
 use Rattle.sched.specs.declared.register.MoveAnswer.the-variants as moves
 use Rattle.sched.specs.declared.register.Registered.{Registered}
 use Rattle.sched.specs.declared.register.Registered.the-variants as registered
+use Rattle.sched.specs.declared.schedule.Scheduled.{Scheduled}
+use Rattle.sched.specs.declared.schedule.ScheduledAnswer.{ScheduledAnswer}
+use Rattle.sched.specs.declared.schedule.ScheduledAnswer.the-variants as schedules
 use Rattle.sched.specs.declared.scheduler.RingBufferScheduler.{RingBufferScheduler}
-use Rattle.sched.specs.Promise.{MovePromise, MovesAtOnce}
-use Rattle.sched.specs.Scheduler.{IsSound, greatestIn, cutOf, scheduleIn, registerListOf, moveIn}
+use Rattle.sched.specs.Promise.{cutOf, MovePromise, MovesAtOnce}
+use Rattle.sched.specs.Scheduler.{IsSound, greatestIn, scheduledOf, scheduleIn, registerListOf, moveIn}
 use Rattle.sched.proofs.Counting.{moved}
 use Rattle.sched.proofs.Laws.{sound-is}
 use Rattle.sched.proofs.RegisterLaws.{move-of, move-refused}
+use Rattle.sched.proofs.ScheduleLaws.{schedule-is}
 use Rattle.sched.proofs.Promises.{scheduling}
-use Rattle.sched.proofs.Promised.{Schedule}
+use Rattle.sched.proofs.Promised.{Schedule, scheduled, schedule-of}
 use Rattle.sched.proofs.Says.{schedule-and-register-says, schedule-contiguous-operations-says, try-register-operations-says}
 use Rattle.sched.proofs.scheduler.RingBufferScheduler.schedule_and_register.Kinds as schedule-and-register-kinds
 use Rattle.sched.proofs.scheduler.RingBufferScheduler.schedule_and_register.Reads as schedule-and-register
@@ -44,6 +46,7 @@ move-keeps s h t m =
       asked = omega arith;
       there = omega arith;
       all = all-of-one m (greatestIn s t);
+      leaves = left-over m (greatestIn s t);
       registered = moved s h (min m (greatestIn s t)) t (omega arith);
     }
 
@@ -60,25 +63,20 @@ module _ (s : RingBufferScheduler) (t : OperationType) (m : ℕ) where
     is : IsSound s × (v ≡ moveIn s t m)
     is = move-of s t m v (schedule-and-register-says tt (s, (t, (m, tt))) (moves.Of v) (p .0) (p .1))
 
-    scheduled : (z : OperationsAnswer) → Schedule s t m z → z ≡ operations.Of (scheduleIn s t m)
-    scheduled z q = rw (schedule-contiguous-operations-says tt (s, (t, (m, tt))) z (q .0) (q .1), ← sound-is s (is .0))
-
-    -- cut where the buffer ends it is the list that is scheduled
-    pub move-cut : (z : OperationsAnswer) → Schedule s t m z → z ≡ operations.Of (cutOf t (s .«buf_len») (v .off) (v .len))
-    move-cut z q = scheduled z q ∙ ap (λ (x : Move). operations.Of (cutOf t (s .«buf_len») (x .off) (x .len))) (sym (is .1))
+    -- cut where the buffer ends it is the list that is scheduled, with what is left over
+    pub move-cut : (z : ScheduledAnswer) → Schedule s t m z → z ≡ schedules.Of (scheduledOf (cutOf t (s .«buf_len») (v .off) (v .portion .len)) (v .portion .remainder))
+    move-cut z q = scheduled s (is .0) t m z q ∙ ap schedules.Of (schedule-is s (is .0) t m) ∙ ap (λ (x : Move). schedules.Of (scheduledOf (cutOf t (s .«buf_len») (x .off) (x .portion .len)) (x .portion .remainder))) (sym (is .1))
 
     -- and registering that list answers its scheduler
     pub move-registers :
-        (ops : ScheduledOperations) → Schedule s t m (operations.Of ops) →
-        (z : Registered) → Allows 0 try-register-operations-kinds.ps try-register-operations-kinds.r try-register-operations.Learnt tt (s, (ops, tt)) z →
+        (r : Scheduled) → Schedule s t m (schedules.Of r) →
+        (z : Registered) → Allows 0 try-register-operations-kinds.ps try-register-operations-kinds.r try-register-operations.Learnt tt (s, (r .operations, tt)) z →
         z ≡ registered.Advanced (v .scheduler)
-    move-registers ops q z r =
-        let e : operations.Of ops ≡ operations.Of (scheduleIn s t m) = scheduled (operations.Of ops) q in
-        let o : ops ≡ scheduleIn s t m = cc in
-        try-register-operations-says tt (s, (ops, tt)) z (r .0) (r .1) ∙ ap (registerListOf s) o ∙ scheduling s (is .0) t m .registers
+    move-registers r q z p =
+        try-register-operations-says tt (s, (r .operations, tt)) z (p .0) (p .1) ∙ ap (λ (x : Scheduled). registerListOf s (x .operations)) (schedule-of s (is .0) t m r q) ∙ scheduling s (is .0) t m .registers
         ∙ ap (λ (x : Move). registered.Advanced (x .scheduler)) (sym (is .1))
 
   -- it is refused as scheduling is
-  pub move-refused-too : (e : Refusal) → ScheduleAndRegister s t m (moves.Refused e) → (z : OperationsAnswer) → Schedule s t m z → z ≡ operations.Refused e
+  pub move-refused-too : (e : Refusal) → ScheduleAndRegister s t m (moves.Refused e) → (z : ScheduledAnswer) → Schedule s t m z → z ≡ schedules.Refused e
   move-refused-too e p z q =
       rw (schedule-contiguous-operations-says tt (s, (t, (m, tt))) z (q .0) (q .1), move-refused s t m e (schedule-and-register-says tt (s, (t, (m, tt))) (moves.Refused e) (p .0) (p .1)))

@@ -11,8 +11,6 @@ use Rattle.modular.proofs.Laws.{lt-or-le}
 use Rattle.operations.proofs.ListLaws.{list-taken}
 use Rattle.sched.specs.declared.block.BufferFillState.the-variants.{Empty, Partial, Full}
 use Rattle.operations.specs.declared.list.ScheduledOperations.the-variants as list
-use Rattle.sched.specs.declared.schedule.NextOperation.{NextOperation}
-use Rattle.sched.specs.declared.schedule.NextOperation.the-variants as next
 use Rattle.operations.specs.declared.operation.OperationType.{OperationType}
 use Rattle.operations.specs.declared.operation.OperationType.the-variants.{Read, Write}
 use Rattle.operations.specs.declared.operation.ScheduledOperation.{ScheduledOperation}
@@ -20,13 +18,13 @@ use Rattle.operations.specs.declared.refusal.Refusal.the-variants.{OperationToo
 use Rattle.sched.specs.declared.register.Registered.the-variants as registered
 use Rattle.sched.specs.declared.scheduler.RingBufferScheduler.{RingBufferScheduler}
 use Rattle.operations.specs.Operation.{operationOf}
-use Rattle.sched.specs.Promise.{Promise, upFrom, roundFrom, joined, byBlocks}
+use Rattle.sched.specs.Promise.{Promise, upFrom, roundFrom, cutOf}
 use Rattle.operations.specs.List.{sameTypeOf, totalIn}
-use Rattle.sched.specs.Scheduler.{IsSound, dataIn, spaceIn, offsetIn, greatestIn, fillStateIn, nextBlockIn, nextIn, scheduleIn, advancedIn, registerIn, registerOf, registerListOf}
+use Rattle.sched.specs.Scheduler.{IsSound, dataIn, spaceIn, offsetIn, greatestIn, fillStateIn, nextBlockIn, scheduleIn, advancedIn, registerIn, registerOf, registerListOf}
 use Rattle.sched.proofs.Laws.{sound-is, offset-lt, greatest-most}
 use Rattle.sched.proofs.LayoutLaws.{arranged, next-len}
 use Rattle.sched.proofs.RegisterLaws.{advanced-greatest, advanced-twice, advanced-nothing}
-use Rattle.sched.proofs.ScheduleLaws.{min-min, cut-none, cut-one, cut-two, schedule-none, schedule-one, schedule-two}
+use Rattle.sched.proofs.ScheduleLaws.{min-min, cut-none, cut-one, cut-two, schedule-is}
 
 abbrev L : RingBufferScheduler → ℕ
 L s = s .«buf_len»
@@ -196,32 +194,24 @@ module _ (s : RingBufferScheduler) (h : IsSound s) (t : OperationType) (m : ℕ)
           second : registerIn after t (all - (L s - at)) ≡ registered.Advanced (advancedIn s t all)
           second = advances after t (all - (L s - at)) left ∙ ap registered.Advanced (advanced-twice s (L s - at) (all - (L s - at)) t ∙ ap (advancedIn s t) sum)
 
--- the promise of every scheduled list
-pub scheduling : (s : RingBufferScheduler) → IsSound s → (t : OperationType) (m : ℕ) → Promise s t m (scheduleIn s t m)
-scheduling s h t m = ⊎-elim none some (eq-zero-or-pos (all s h t m))
+-- all that is asked and there, cut where the buffer ends
+cut-promised : (s : RingBufferScheduler) → IsSound s → (t : OperationType) (m : ℕ) → Promise s t m (cutOf t (s .«buf_len») (offsetIn s t) (min m (greatestIn s t)))
+cut-promised s h t m = ⊎-elim none some (eq-zero-or-pos (all s h t m))
   where
-    none : all s h t m ≡ 0 → Promise s t m (scheduleIn s t m)
+    none : all s h t m ≡ 0 → Promise s t m (cutOf t (s .«buf_len») (offsetIn s t) (all s h t m))
     none z = rw (← cut-none t (s .«buf_len») (offsetIn s t) (all s h t m) z) (promise-none s h t m z)
 
-    some : 0 < all s h t m → Promise s t m (scheduleIn s t m)
+    some : 0 < all s h t m → Promise s t m (cutOf t (s .«buf_len») (offsetIn s t) (all s h t m))
     some p =
         ⊎-elim
         (λ l. rw (← cut-two t (s .«buf_len») (offsetIn s t) (all s h t m) p l) (promise-two s h t m p l))
         (λ l. rw (← cut-one t (s .«buf_len») (offsetIn s t) (all s h t m) p l) (promise-one s h t m p l))
         (lt-or-le (s .«buf_len») (at s h t m + all s h t m))
 
--- asking block after block gives the same
-pub by-blocks : (s : RingBufferScheduler) → IsSound s → (t : OperationType) (m : ℕ) → byBlocks s t m (nextIn s t m) ≡ scheduleIn s t m
-by-blocks s h t m = first (nextIn s t m) refl
-  where
-    second : (f : ScheduledOperation) → next.Some f ≡ nextIn s t m → (x : NextOperation) → x ≡ nextIn (advancedIn s t (f .len)) t (m - f .len) → joined f x ≡ scheduleIn s t m
-    second f p next.None q = schedule-one s h t m f p (advancedIn s t (f .len)) refl (m - f .len) q refl
-    second f p (next.Some g) q = schedule-two s h t m f p (advancedIn s t (f .len)) refl g (m - f .len) q refl
-
-    first : (x : NextOperation) → nextIn s t m ≡ x → byBlocks s t m x ≡ scheduleIn s t m
-    first next.None p = schedule-none s h t m (sym p)
-    first (next.Some f) p = second f (sym p) (nextIn (advancedIn s t (f .len)) t (m - f .len)) refl
+-- the promise of every scheduled list
+pub scheduling : (s : RingBufferScheduler) → IsSound s → (t : OperationType) (m : ℕ) → Promise s t m (scheduleIn s t m .operations)
+scheduling s h t m = rw (schedule-is s h t m) (cut-promised s h t m)
 
 -- so the sum of a scheduled list's lengths, at which the Rust could panic, is a number of 64 bits
-pub sum-fits : (s : RingBufferScheduler) → IsSound s → (t : OperationType) (m : ℕ) → totalIn (scheduleIn s t m) < 2 ^ 64
+pub sum-fits : (s : RingBufferScheduler) → IsSound s → (t : OperationType) (m : ℕ) → totalIn (scheduleIn s t m .operations) < 2 ^ 64
 sum-fits s h t m = rw (scheduling s h t m .total) (omega (arith, greatest-most s h t))

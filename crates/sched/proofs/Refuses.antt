@@ -2,8 +2,8 @@
 -- and values exactly when the paper's table says so.
 use Rattle.modular.proofs.Saying.{Keeps}
 use Rattle.operations.specs.declared.operation.OperationType.the-variants.{Read, Write}
-use Rattle.operations.specs.Given.{Exactly, ofAmount, ofOperations}
-use Rattle.sched.specs.Given.{Given, GivenRegister, GivenOperations, ofChecked, ofRegistered, ofMove, ofBool, ofCounter, ofOffset, ofFillState, ofLayout, ofBlock, ofBlocks, ofNext}
+use Rattle.operations.specs.Given.{Exactly, ofAmount}
+use Rattle.sched.specs.Given.{Given, GivenRegister, GivenOperations, ofChecked, ofRegistered, ofMove, ofBool, ofCounter, ofOffset, ofFillState, ofLayout, ofBlock, ofBlocks, ofNext, ofScheduled}
 use Rattle.sched.specs.Scheduler.{schedulerOf}
 use Rattle.sched.proofs.Given.{record-exactly, tested-exactly, register-exactly}
 use Rattle.sched.proofs.GivenLists.{operations-exactly}
@@ -209,13 +209,13 @@ schedule-next-read-refuses κs a z q = rw (schedule-next-read-says κs a z (q .0
 pub schedule-next-write-refuses : Keeps 0 schedule-next-write-kinds.ps schedule-next-write-kinds.r schedule-next-write.Learnt (λ κs a z. Exactly (Given (a .0)) (ofNext z))
 schedule-next-write-refuses κs a z q = rw (schedule-next-write-says κs a z (q .0) (q .1)) (tested-exactly (a .0) _ (λ u p. rw p) (λ e p. rw p))
 
-pub schedule-contiguous-operations-refuses : Keeps 0 schedule-contiguous-operations-kinds.ps schedule-contiguous-operations-kinds.r schedule-contiguous-operations.Learnt (λ κs a z. Exactly (Given (a .0)) (ofOperations z))
+pub schedule-contiguous-operations-refuses : Keeps 0 schedule-contiguous-operations-kinds.ps schedule-contiguous-operations-kinds.r schedule-contiguous-operations.Learnt (λ κs a z. Exactly (Given (a .0)) (ofScheduled z))
 schedule-contiguous-operations-refuses κs a z q = rw (schedule-contiguous-operations-says κs a z (q .0) (q .1)) (tested-exactly (a .0) _ (λ u p. rw p) (λ e p. rw p))
 
-pub schedule-reads-refuses : Keeps 0 schedule-reads-kinds.ps schedule-reads-kinds.r schedule-reads.Learnt (λ κs a z. Exactly (Given (a .0)) (ofOperations z))
+pub schedule-reads-refuses : Keeps 0 schedule-reads-kinds.ps schedule-reads-kinds.r schedule-reads.Learnt (λ κs a z. Exactly (Given (a .0)) (ofScheduled z))
 schedule-reads-refuses κs a z q = rw (schedule-reads-says κs a z (q .0) (q .1)) (tested-exactly (a .0) _ (λ u p. rw p) (λ e p. rw p))
 
-pub schedule-writes-refuses : Keeps 0 schedule-writes-kinds.ps schedule-writes-kinds.r schedule-writes.Learnt (λ κs a z. Exactly (Given (a .0)) (ofOperations z))
+pub schedule-writes-refuses : Keeps 0 schedule-writes-kinds.ps schedule-writes-kinds.r schedule-writes.Learnt (λ κs a z. Exactly (Given (a .0)) (ofScheduled z))
 schedule-writes-refuses κs a z q = rw (schedule-writes-says κs a z (q .0) (q .1)) (tested-exactly (a .0) _ (λ u p. rw p) (λ e p. rw p))
 
 pub schedule-and-register-refuses : Keeps 0 schedule-and-register-kinds.ps schedule-and-register-kinds.r schedule-and-register.Learnt (λ κs a z. Exactly (Given (a .0)) (ofMove z))

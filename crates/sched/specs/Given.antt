@@ -21,6 +21,8 @@ use Rattle.operations.specs.declared.list.ScheduledOperations.{ScheduledOperati
 use Rattle.operations.specs.declared.list.ScheduledOperations.the-variants as list
 use Rattle.sched.specs.declared.schedule.NextOperationAnswer.{NextOperationAnswer}
 use Rattle.sched.specs.declared.schedule.NextOperationAnswer.the-variants as nexts
+use Rattle.sched.specs.declared.schedule.ScheduledAnswer.{ScheduledAnswer}
+use Rattle.sched.specs.declared.schedule.ScheduledAnswer.the-variants as schedules
 use Rattle.operations.specs.declared.operation.OperationType.{OperationType}
 use Rattle.operations.specs.declared.operation.ScheduledOperation.{ScheduledOperation}
 use Rattle.sched.specs.declared.scheduler.Checked.{Checked}
@@ -113,3 +115,7 @@ ofBlocks (blocks.Refused e) = refused e
 abbrev pub ofNext : NextOperationAnswer → Verdict
 ofNext (nexts.Of o) = accepted
 ofNext (nexts.Refused e) = refused e
+
+abbrev pub ofScheduled : ScheduledAnswer → Verdict
+ofScheduled (schedules.Of r) = accepted
+ofScheduled (schedules.Refused e) = refused e

@@ -1,16 +1,21 @@
 -- What the paper promises of scheduling and registering, as it is told there: docs/PAPER.md, "Scheduling", "Registering".
 use Prim.Native.Nat.{ℕ, zero, suc, _+_, _-_, _*_, _%_, _<_, _≤_, min}
+use mathlib.Core.Bool.{cond}
 use mathlib.Core.Path.{_≡_}
 use mathlib.Core.List.{List, [], _∷_, _++_}
 use mathlib.Core.Logic.{_⊎_}
-use Rattle.operations.specs.declared.list.OperationsAnswer.{OperationsAnswer}
-use Rattle.operations.specs.declared.list.OperationsAnswer.the-variants as operations
+use lib.Dec.{eqb, leb}
+use Rattle.operations.specs.declared.counter.Offset.{Offset}
 use Rattle.operations.specs.declared.list.ScheduledOperations.{ScheduledOperations}
 use Rattle.operations.specs.declared.list.ScheduledOperations.the-variants as list
+use Rattle.sched.specs.declared.schedule.Next.{Next}
 use Rattle.sched.specs.declared.schedule.NextOperation.{NextOperation}
 use Rattle.sched.specs.declared.schedule.NextOperation.the-variants as next
 use Rattle.sched.specs.declared.schedule.NextOperationAnswer.{NextOperationAnswer}
 use Rattle.sched.specs.declared.schedule.NextOperationAnswer.the-variants as nexts
+use Rattle.sched.specs.declared.schedule.Scheduled.{Scheduled}
+use Rattle.sched.specs.declared.schedule.ScheduledAnswer.{ScheduledAnswer}
+use Rattle.sched.specs.declared.schedule.ScheduledAnswer.the-variants as schedules
 use Rattle.operations.specs.declared.operation.OperationType.{OperationType}
 use Rattle.operations.specs.declared.operation.OperationType.the-variants.{Read, Write}
 use Rattle.operations.specs.declared.operation.ScheduledOperation.{ScheduledOperation}
@@ -21,7 +26,9 @@ use Rattle.sched.specs.declared.register.Registered.{Registered}
 use Rattle.sched.specs.declared.register.Registered.the-variants as registered
 use Rattle.sched.specs.declared.scheduler.RingBufferScheduler.{RingBufferScheduler}
 use Rattle.operations.specs.List.{totalIn}
-use Rattle.sched.specs.Scheduler.{Sized, IsSound, dataIn, offsetIn, greatestIn, nextBlockIn, nextIn, advancedIn, registerListOf}
+use Rattle.operations.specs.Operation.{operationOf}
+use Rattle.operations.specs.Promise.{LeftOver}
+use Rattle.sched.specs.Scheduler.{Sized, IsSound, dataIn, offsetIn, greatestIn, nextBlockIn, advancedIn, registerListOf}
 
 -- what holds of each operation of a list
 abbrev pub Each : (ScheduledOperation → Type 0) → ScheduledOperations → Type 0
@@ -75,25 +82,37 @@ pub record NextPromise (s : RingBufferScheduler) (t : OperationType) (m : ℕ) (
   pub starts : f .off ≡ offsetIn s t
   pub runs : f .len ≡ min m (min (greatestIn s t) (s .«buf_len» - f .off .0))
 
-abbrev pub Next : RingBufferScheduler → OperationType → ℕ → NextOperation → Type 0
-Next s t m next.None = min m (greatestIn s t) ≡ 0
-Next s t m (next.Some f) = NextPromise s t m f
+abbrev pub NextIs : RingBufferScheduler → OperationType → ℕ → NextOperation → Type 0
+NextIs s t m next.None = min m (greatestIn s t) ≡ 0
+NextIs s t m (next.Some f) = NextPromise s t m f
+
+-- n items from the offset a in at most two operations, cut where the buffer of l items ends
+unfoldable pub cutOf : OperationType → ℕ → Offset → ℕ → ScheduledOperations
+cutOf t l a n =
+    cond (eqb n 0) list.None
+    (cond (leb (a .0 + n) l) (list.One (operationOf t a n))
+    (list.Two (operationOf t a (l - a .0)) (operationOf t (record { 0 = 0 }) (n - (l - a .0)))))
+
+-- ---- how much was not scheduled
+-- the length of the next operation, 0 for none
+abbrev pub nextLen : NextOperation → ℕ
+nextLen next.None = 0
+nextLen (next.Some f) = f .len
+
+-- of m items the next operation takes its length and leaves the others over, some exactly when m is above its block; a list takes its
+-- sum, and leaves some over exactly when m is above the data of a read, the space of a write
+abbrev pub NextLeaves : RingBufferScheduler → OperationType → ℕ → Next → Type 0
+NextLeaves s t m o = LeftOver m (nextBlockIn s t .len) (nextLen (o .operation)) (o .remainder)
+
+abbrev pub ListLeaves : RingBufferScheduler → OperationType → ℕ → Scheduled → Type 0
+ListLeaves s t m r = LeftOver m (greatestIn s t) (totalIn (r .operations)) (r .remainder)
 
 -- so of an answer: a sound scheduler is scheduled
-abbrev pub Schedules : RingBufferScheduler → OperationType → ℕ → OperationsAnswer → Type 0
-Schedules s t m z = IsSound s → (ops : ScheduledOperations) × (z ≡ operations.Of ops) × Promise s t m ops
+abbrev pub Schedules : RingBufferScheduler → OperationType → ℕ → ScheduledAnswer → Type 0
+Schedules s t m z = IsSound s → (r : Scheduled) × (z ≡ schedules.Of r) × Promise s t m (r .operations) × ListLeaves s t m r
 
 abbrev pub Asks : RingBufferScheduler → OperationType → ℕ → NextOperationAnswer → Type 0
-Asks s t m z = IsSound s → (o : NextOperation) × (z ≡ nexts.Of o) × Next s t m o
-
--- asking block after block, as the Rust does: the second of the scheduler after the first, with what the first left over
-abbrev pub joined : ScheduledOperation → NextOperation → ScheduledOperations
-joined f next.None = list.One f
-joined f (next.Some g) = list.Two f g
-
-abbrev pub byBlocks : RingBufferScheduler → OperationType → ℕ → NextOperation → ScheduledOperations
-byBlocks s t m next.None = list.None
-byBlocks s t m (next.Some f) = joined f (nextIn (advancedIn s t (f .len)) t (m - f .len))
+Asks s t m z = IsSound s → (o : Next) × (z ≡ nexts.Of o) × NextIs s t m (o .operation) × NextLeaves s t m o
 
 -- ---- the record, in words that do not subtract
 -- d items lie between the counters, round 2L
@@ -138,13 +157,15 @@ pub data MovedByList (s : RingBufferScheduler) : ScheduledOperations → RingBuf
   by-two : {a b : ScheduledOperation} {u : RingBufferScheduler} (v : RingBufferScheduler) → MovedBy s (a .typ) (a .len) v → MovedBy v (b .typ) (b .len) u → MovedByList s (list.Two a b) u
 
 -- ---- scheduling and registering at once
--- it starts at the offset; no more is moved than is asked and there, and all of one of the two; and just that is registered
+-- it starts at the offset; no more is moved than is asked and there, and all of one of the two; the others are left over; and just
+-- what is moved is registered
 pub record MovePromise (s : RingBufferScheduler) (t : OperationType) (m : ℕ) (v : Move) : Type 0 where
   pub starts : v .off ≡ offsetIn s t
-  pub asked : v .len ≤ m
-  pub there : v .len ≤ greatestIn s t
-  pub all : (v .len ≡ m) ⊎ (v .len ≡ greatestIn s t)
-  pub registered : MovedBy s t (v .len) (v .scheduler)
+  pub asked : v .portion .len ≤ m
+  pub there : v .portion .len ≤ greatestIn s t
+  pub all : (v .portion .len ≡ m) ⊎ (v .portion .len ≡ greatestIn s t)
+  pub leaves : LeftOver m (greatestIn s t) (v .portion .len) (v .portion .remainder)
+  pub registered : MovedBy s t (v .portion .len) (v .scheduler)
 
 abbrev pub MovesAtOnce : RingBufferScheduler → OperationType → ℕ → MoveAnswer → Type 0
 MovesAtOnce s t m z = IsSound s → (v : Move) × (z ≡ moves.Of v) × MovePromise s t m v

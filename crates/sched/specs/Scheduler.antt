@@ -28,14 +28,17 @@ use Rattle.sched.specs.declared.block.FillStateAnswer.{FillStateAnswer}
 use Rattle.sched.specs.declared.block.FillStateAnswer.the-variants as fill
 use Rattle.sched.specs.declared.block.LayoutAnswer.{LayoutAnswer}
 use Rattle.sched.specs.declared.block.LayoutAnswer.the-variants as layout
-use Rattle.operations.specs.declared.list.OperationsAnswer.{OperationsAnswer}
-use Rattle.operations.specs.declared.list.OperationsAnswer.the-variants as operations
 use Rattle.operations.specs.declared.list.ScheduledOperations.{ScheduledOperations}
 use Rattle.operations.specs.declared.list.ScheduledOperations.the-variants as list
+use Rattle.operations.specs.declared.portion.Portion.{Portion}
+use Rattle.sched.specs.declared.schedule.Next.{Next}
 use Rattle.sched.specs.declared.schedule.NextOperation.{NextOperation}
 use Rattle.sched.specs.declared.schedule.NextOperation.the-variants as next
 use Rattle.sched.specs.declared.schedule.NextOperationAnswer.{NextOperationAnswer}
 use Rattle.sched.specs.declared.schedule.NextOperationAnswer.the-variants as nexts
+use Rattle.sched.specs.declared.schedule.Scheduled.{Scheduled}
+use Rattle.sched.specs.declared.schedule.ScheduledAnswer.{ScheduledAnswer}
+use Rattle.sched.specs.declared.schedule.ScheduledAnswer.the-variants as schedules
 use Rattle.operations.specs.declared.operation.OperationType.{OperationType}
 use Rattle.operations.specs.declared.operation.OperationType.the-variants.{Read, Write}
 use Rattle.operations.specs.declared.operation.ScheduledOperation.{ScheduledOperation}
@@ -51,6 +54,7 @@ use Rattle.sched.specs.declared.register.Registered.the-variants as regi
 use Rattle.sched.specs.declared.scheduler.RingBufferScheduler.{RingBufferScheduler}
 use Rattle.sched.specs.Counter.{offsetOf, dataOf, laterOf}
 use Rattle.operations.specs.Operation.{operationOf}
+use Rattle.operations.specs.Portion.{portionOf}
 use Rattle.sched.specs.Block.{blockOf, outerOf, innerOf}
 use Rattle.operations.specs.List.{soundListOf, listed}
 
@@ -98,6 +102,11 @@ abbrev pub greatestIn : RingBufferScheduler → OperationType → ℕ
 greatestIn s Read = dataIn s
 greatestIn s Write = spaceIn s
 
+-- the scheduler after n items have been read or written
+abbrev pub advancedIn : RingBufferScheduler → OperationType → ℕ → RingBufferScheduler
+advancedIn s Read n = schedulerOf (s .«buf_len») (s .«items_written») (laterOf (s .«buf_len») (s .«items_read») n)
+advancedIn s Write n = schedulerOf (s .«buf_len») (laterOf (s .«buf_len») (s .«items_written») n) (s .«items_read»)
+
 unfoldable pub fillStateIn : RingBufferScheduler → BufferFillState
 fillStateIn s = cond (eqb (dataIn s) 0) Empty (cond (eqb (dataIn s) (s .«buf_len»)) Full Partial)
 
@@ -138,26 +147,35 @@ nextBlockIn s t = nextBlockAt (layoutIn s) t (blocksIn s)
 unfoldable pub someOf : OperationType → Offset → ℕ → NextOperation
 someOf t a n = cond (eqb n 0) next.None (next.Some (operationOf t a n))
 
+-- an operation of what is taken, and what is left over
+abbrev pub portioned : OperationType → Offset → Portion → Next
+portioned t a p = record { operation = someOf t a (p .len); remainder = p .remainder }
+
 -- to the end of the block, or to m
-abbrev pub nextIn : RingBufferScheduler → OperationType → ℕ → NextOperation
-nextIn s t m = someOf t (nextBlockIn s t .off) (min m (nextBlockIn s t .len))
+abbrev pub nextIn : RingBufferScheduler → OperationType → ℕ → Next
+nextIn s t m = portioned t (nextBlockIn s t .off) (portionOf m (nextBlockIn s t .len))
 
--- n items from the offset a, cut where the buffer of l items ends
-unfoldable pub cutOf : OperationType → ℕ → Offset → ℕ → ScheduledOperations
-cutOf t l a n =
-    cond (eqb n 0) list.None
-    (cond (leb (a .0 + n) l) (list.One (operationOf t a n))
-    (list.Two (operationOf t a (l - a .0)) (operationOf t (record { 0 = 0 }) (n - (l - a .0)))))
+-- in a list there is no second without a first
+abbrev pub bothOf : NextOperation → NextOperation → ScheduledOperations
+bothOf next.None b = list.None
+bothOf (next.Some f) next.None = list.One f
+bothOf (next.Some f) (next.Some g) = list.Two f g
 
-abbrev pub scheduleIn : RingBufferScheduler → OperationType → ℕ → ScheduledOperations
-scheduleIn s t m = cutOf t (s .«buf_len») (offsetIn s t) (min m (greatestIn s t))
+abbrev pub scheduledOf : ScheduledOperations → ℕ → Scheduled
+scheduledOf ops k = record { operations = ops; remainder = k }
+
+abbrev pub joined : ScheduledOperation → Next → Scheduled
+joined f n = scheduledOf (bothOf (next.Some f) (n .operation)) (n .remainder)
+
+-- block after block: the second operation is asked of the scheduler after the first, for the k items that the first left over
+abbrev pub byBlocks : RingBufferScheduler → OperationType → NextOperation → ℕ → Scheduled
+byBlocks s t next.None k = scheduledOf list.None k
+byBlocks s t (next.Some f) k = joined f (nextIn (advancedIn s t (f .len)) t k)
+
+unfoldable pub scheduleIn : RingBufferScheduler → OperationType → ℕ → Scheduled
+scheduleIn s t m = byBlocks s t (nextIn s t m .operation) (nextIn s t m .remainder)
 
 -- ---- registering
--- the scheduler after n items have been read or written
-abbrev pub advancedIn : RingBufferScheduler → OperationType → ℕ → RingBufferScheduler
-advancedIn s Read n = schedulerOf (s .«buf_len») (s .«items_written») (laterOf (s .«buf_len») (s .«items_read») n)
-advancedIn s Write n = schedulerOf (s .«buf_len») (laterOf (s .«buf_len») (s .«items_written») n) (s .«items_read»)
-
 -- 6 where the length is above the greatest
 unfoldable pub registerIn : RingBufferScheduler → OperationType → ℕ → Registered
 registerIn s t n =
@@ -173,9 +191,9 @@ registerListIn s list.None = registered.Advanced s
 registerListIn s (list.One a) = registerIn s (a .typ) (a .len)
 registerListIn s (list.Two a b) = thenRegister (registerIn s (a .typ) (a .len)) b
 
--- ---- scheduling and registering at once: from the offset, the smaller of m and the greatest length, and the scheduler after it
+-- ---- scheduling and registering at once: from the offset, the portion of m that there is, and the scheduler after it
 abbrev pub moveIn : RingBufferScheduler → OperationType → ℕ → Move
-moveIn s t m = record { off = offsetIn s t; len = min m (greatestIn s t); scheduler = advancedIn s t (min m (greatestIn s t)) }
+moveIn s t m = record { off = offsetIn s t; portion = portionOf m (greatestIn s t); scheduler = advancedIn s t (portionOf m (greatestIn s t) .len) }
 
 -- ---- what the calls answer: of a record that the tests take the above, else the tests' refusal
 abbrev pub tested : {A : Type 0} → Checked → (RingBufferScheduler → A) → (Refusal → A) → A
@@ -237,8 +255,8 @@ nextBlockOf s t = tested (soundOf s) (λ u. block.Of (nextBlockIn u t)) block.Re
 abbrev pub nextOf : RingBufferScheduler → OperationType → ℕ → NextOperationAnswer
 nextOf s t m = tested (soundOf s) (λ u. nexts.Of (nextIn u t m)) nexts.Refused
 
-abbrev pub scheduleOf : RingBufferScheduler → OperationType → ℕ → OperationsAnswer
-scheduleOf s t m = tested (soundOf s) (λ u. operations.Of (scheduleIn u t m)) operations.Refused
+abbrev pub scheduleOf : RingBufferScheduler → OperationType → ℕ → ScheduledAnswer
+scheduleOf s t m = tested (soundOf s) (λ u. schedules.Of (scheduleIn u t m)) schedules.Refused
 
 abbrev pub registerOf : RingBufferScheduler → OperationType → ℕ → Registered
 registerOf s t n = tested (soundOf s) (λ u. registerIn u t n) registered.Refused

@@ -5,14 +5,15 @@ ghost use Rattle.sched.specs.Scheduler.{Sized, IsSound, advancedIn, regi
 use crate::scheduler::Checked;
 use crate::scheduler::RingBufferScheduler;
 use crate::scheduler::double_modulus;
-use crate::scheduler::least;
 use operations::Counter;
 use operations::Offset;
 use operations::OperationType;
 use operations::OperationsAnswer;
+use operations::Portion;
 use operations::Refusal;
 use operations::ScheduledOperation;
 use operations::ScheduledOperations;
+use operations::portion_of;
 
 // The scheduler after an operation, or why there is none.
 pub enum Registered {
@@ -20,11 +21,11 @@ pub enum Registered {
     Refused(Refusal),
 }
 
-// All that is asked and there, scheduled and registered at once: `len` items from `off` on, which may go round the buffer's end, and the
-// scheduler after them.
+// All that is asked and there, scheduled and registered at once: how many items from `off` on, which may go round the buffer's end, how
+// many are left over, and the scheduler after them.
 pub struct Move {
     pub off: Offset,
-    pub len: u64,
+    pub portion: Portion,
     pub scheduler: RingBufferScheduler,
 }
 
@@ -153,11 +154,11 @@ impl RingBufferScheduler {
         ensures { λ r. ⌜ r ≡ moveIn self op «max_len» ⌝ }
     {
         let off = self.offset_in(op);
-        let len = least(max_len, self.greatest_in(op));
-        let scheduler = self.advanced_in(op, len);
+        let portion = portion_of(max_len, self.greatest_in(op));
+        let scheduler = self.advanced_in(op, portion.len);
         Move {
             off,
-            len,
+            portion,
             scheduler,
         }
     }

@@ -4,7 +4,7 @@ use Rattle.sched.proofs.scheduler.RingBufferScheduler.next_in.Statement
 use Rattle.sched.proofs.scheduler.RingBufferScheduler.next_in.Tie as tie
 
 returns : tie.Need-returns
-returns c = rw (c .some-of .ensures, c .before .least .ensures, c .before .before .next-block-in .ensures)
+returns c = rw (c .next-of .ensures, c .before .portion-of .ensures, c .before .before .next-block-in .ensures)
 
 pub next-in-spec : {M : Type 1} → statement M
 next-in-spec = tie.close (tie.spec (search needs) (search needs) (search needs) returns)

@@ -11,7 +11,10 @@ use lib.ListN.{length, take, drop, length-take, length-drop, drop-of-length-le}
 use lib.Seq.{length-take-le, take-length, take-at, drop-append-add, drop-drop, take-add}
 use Rattle.operations.specs.declared.operation.OperationType.{OperationType}
 use Rattle.operations.specs.declared.operation.OperationType.the-variants.{Read, Write}
+use Rattle.operations.specs.declared.portion.Portion.{Portion}
 use Rattle.operations.specs.declared.refusal.Refusal as sched
+use Rattle.operations.specs.Portion.{portionOf}
+use Rattle.operations.proofs.PortionLaws.{portion-fits, portion-over}
 use Rattle.sched.specs.declared.register.Move.{Move}
 use Rattle.sched.specs.declared.register.MoveAnswer.the-variants as moves
 use Rattle.sched.specs.declared.scheduler.RingBufferScheduler.{RingBufferScheduler}
@@ -47,13 +50,13 @@ module _ (l at n : ℕ) (inside : at < l) (most : n ≤ l) where
   abbrev room : ℕ
   room = l - at
 
-  pub put-before : (ring src : List ℕ) → length ring ≡ l → n ≤ length src → n ≤ room → pasted ring at (take n src) ≡ put l ring at (take n src)
+  put-before : (ring src : List ℕ) → length ring ≡ l → n ≤ length src → n ≤ room → pasted ring at (take n src) ≡ put l ring at (take n src)
   put-before ring src e h g =
       let t : length (take n src) ≡ n = length-take-le n src h in
       sym (put-ahead l ring at (take n src) e (omega arith))
 
   -- the second part goes to the ring that the first has left
-  pub put-over : (ring src : List ℕ) → length ring ≡ l → n ≤ length src → room < n → pasted (pasted ring at (take room src)) 0 (part src room (n - room)) ≡ put l ring at (take n src)
+  put-over : (ring src : List ℕ) → length ring ≡ l → n ≤ length src → room < n → pasted (pasted ring at (take room src)) 0 (part src room (n - room)) ≡ put l ring at (take n src)
   put-over ring src e h g =
       let x : List ℕ = take room src in
       let y : List ℕ = part src room (n - room) in
@@ -66,10 +69,10 @@ module _ (l at n : ℕ) (inside : at < l) (most : n ≤ l) where
       let turn : (at + length x) % l ≡ 0 % l = (ap (λ (i : ℕ). i % l) (let q : at + length x ≡ l = omega arith in q)) ∙ mod-self l ∙ sym (zero-mod l) in
       rw (← p1) (sym p2 ∙ sym (put-place l (put l ring at x) (at + length x) 0 y turn) ∙ sym (put-append l ring at x y) ∙ ap (put l ring at) (sym s))
 
-  pub get-before : (ring dst : List ℕ) → length ring ≡ l → n ≤ length dst → n ≤ room → pasted dst 0 (part ring at n) ≡ get l ring at n ++ drop n dst
+  get-before : (ring dst : List ℕ) → length ring ≡ l → n ≤ length dst → n ≤ room → pasted dst 0 (part ring at n) ≡ get l ring at n ++ drop n dst
   get-before ring dst e h g = rw (zero-add, part-length ring at n (omega arith), get-ahead l ring at n e (omega arith))
 
-  pub get-over : (ring dst : List ℕ) → length ring ≡ l → n ≤ length dst → room < n → pasted (pasted dst 0 (part ring at room)) room (part ring 0 (n - room)) ≡ get l ring at n ++ drop n dst
+  get-over : (ring dst : List ℕ) → length ring ≡ l → n ≤ length dst → room < n → pasted (pasted dst 0 (part ring at room)) room (part ring 0 (n - room)) ≡ get l ring at n ++ drop n dst
   get-over ring dst e h g =
       let x : List ℕ = part ring at room in
       let y : List ℕ = part ring 0 (n - room) in
@@ -83,6 +86,31 @@ module _ (l at n : ℕ) (inside : at < l) (most : n ≤ l) where
       let k : room + length y ≡ length x + (n - room) = omega arith in
       let d : drop (room + length y) (x ++ drop room dst) ≡ drop n dst = ap (λ (i : ℕ). drop i (x ++ drop room dst)) k ∙ drop-append-add x (drop room dst) (n - room) ∙ drop-drop (n - room) room dst ∙ ap (λ (i : ℕ). drop i dst) (let q : room + (n - room) ≡ n = omega arith in q) in
       rw (zero-add, lx, f, d, s, append-assoc)
+
+  -- by the portion of them that goes before its end: one part where nothing is left of them, else two
+  module _ (p : Portion) (is : p ≡ portionOf n room) where
+    pub ahead-fits : (p .len ≤ room) × (p .len + p .remainder ≡ n)
+    ahead-fits = rw is (omega arith, omega arith)
+
+    module _ (z : p .remainder ≡ 0) where
+      fits : (n ≤ room) × (p .len ≡ n)
+      fits = rw is (portion-fits n room (rw is at z))
+
+      pub put-one : (ring src : List ℕ) → length ring ≡ l → n ≤ length src → pasted ring at (take (p .len) src) ≡ put l ring at (take n src)
+      put-one ring src e h = rw (fits .1) (put-before ring src e h (fits .0))
+
+      pub get-one : (ring dst : List ℕ) → length ring ≡ l → n ≤ length dst → pasted dst 0 (part ring at (p .len)) ≡ get l ring at n ++ drop n dst
+      get-one ring dst e h = rw (fits .1) (get-before ring dst e h (fits .0))
+
+    module _ (z : p .remainder ≢ 0) where
+      goes-round : (room < n) × (p .len ≡ room) × (p .remainder ≡ n - room)
+      goes-round = rw is (portion-over n room (λ y. z (rw is y)))
+
+      pub put-two : (ring src : List ℕ) → length ring ≡ l → n ≤ length src → pasted (pasted ring at (take (p .len) src)) 0 (part src (p .len) (p .remainder)) ≡ put l ring at (take n src)
+      put-two ring src e h = rw (goes-round .1, goes-round .2) (put-over ring src e h (goes-round .0))
+
+      pub get-two : (ring dst : List ℕ) → length ring ≡ l → n ≤ length dst → pasted (pasted dst 0 (part ring at (p .len))) (p .len) (part ring 0 (p .remainder)) ≡ get l ring at n ++ drop n dst
+      get-two ring dst e h = rw (goes-round .1, goes-round .2) (get-over ring dst e h (goes-round .0))
 
 -- ---- the tests, by what the move answered
 module _ (s : RingBufferScheduler) (t : OperationType) (m n : ℕ) where
@@ -100,17 +128,17 @@ module _ (s : RingBufferScheduler) (t : OperationType) (m n : ℕ) where
     passed e = rw (← sound-is s (move-of s t m v p .0), eq-eqb n (s .«buf_len») e)
 
     -- it lies in ring memory of the right length, and is no longer than what is asked
-    pub move-fits : n ≡ s .«buf_len» → (v .off .0 < n) × (v .len ≤ n) × (v .len ≤ m)
+    pub move-fits : n ≡ s .«buf_len» → (v .off .0 < n) × (v .portion .len ≤ n) × (v .portion .len ≤ m)
     move-fits e =
         let k = move-of s t m v p in
         rw (k .1, e) (offset-lt s (k .0) t, omega (arith, greatest-most s (k .0) t), omega arith)
 
 -- ---- what the two copies come to, where the memory has the right length
 module _ (s : RingBufferScheduler) (ring bytes : List ℕ) (right : length ring ≡ s .«buf_len») (v : Move) (answer : Copied) (last : List ℕ) (a : answer ≡ movedBy v) where
-  pub written : moves.Of v ≡ moveOf s Write (length bytes) → last ≡ put (length ring) ring (v .off .0) (take (v .len) bytes) → left answer last ≡ writeOf s ring bytes
+  pub written : moves.Of v ≡ moveOf s Write (length bytes) → last ≡ put (length ring) ring (v .off .0) (take (v .portion .len) bytes) → left answer last ≡ writeOf s ring bytes
   written p b = rw (a, b, passed s Write (length bytes) (length ring) v p right, right, move-of s Write (length bytes) v p .1)
 
-  pub got : moves.Of v ≡ moveOf s Read (length bytes) → last ≡ get (length ring) ring (v .off .0) (v .len) ++ drop (v .len) bytes → left answer last ≡ readOf s ring bytes
+  pub got : moves.Of v ≡ moveOf s Read (length bytes) → last ≡ get (length ring) ring (v .off .0) (v .portion .len) ++ drop (v .portion .len) bytes → left answer last ≡ readOf s ring bytes
   got p b = rw (a, b, passed s Read (length bytes) (length ring) v p right, right, move-of s Read (length bytes) v p .1)
 
 -- ---- a lent copy: of what the copy by value leaves, its answer is told, and its record or the old one is kept

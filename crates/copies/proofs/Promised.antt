@@ -13,6 +13,8 @@ use contract.Lifetimes.{Lfts}
 use denote.Triple.Clauses.{Lasts, atExit}
 use borrow.Author.Tests.{eqb-true, eqb-false}
 use borrow.Fn.Kinds.{PK, RK, Out, Dens, resT, endedOf}
+use Rattle.operations.specs.Portion.{portionOf}
+use Rattle.operations.proofs.PortionLaws.{left-over}
 use Rattle.operations.specs.declared.operation.OperationType.the-variants.{Read, Write}
 use Rattle.operations.specs.declared.refusal.Refusal as sched
 use Rattle.sched.specs.declared.scheduler.Checked.{Checked}
@@ -147,7 +149,7 @@ same-read ring dst (ready.Sound u) = refl
 same-read ring dst (ready.Refused e) = refl
 
 same-told : (c : Copied) → ofCopied c ≡ ofTold (toldOf c)
-same-told (copied.Moved u n) = refl
+same-told (copied.Moved u p) = refl
 same-told (copied.Refused e) = refl
 
 -- ---- what is got from a ring: as many bytes, each that of its cell
@@ -161,7 +163,7 @@ module _ (s : RingBufferScheduler) (ring : List ℕ) where
   writes src z (right h e) =
       let n : ℕ = min (length src) (greatestIn s Write) in
       let t : length (take n src) ≡ n = length-take-le n src (omega arith) in
-      promise.moves n _ _ refl (registers s h Write n (omega arith))
+      promise.moves (portionOf (length src) (greatestIn s Write)) _ _ refl (left-over (length src) (greatestIn s Write)) (registers s h Write n (omega arith))
       (rw t at (get-put (s .«buf_len») ring (offsetIn s Write .0) (take n src) e (omega (arith, greatest-most s h Write))))
       (rw t at (put-own (s .«buf_len») ring (offsetIn s Write .0) (take n src)))
   writes src z (wrong h ne) = promise.refuses RingMemory
@@ -171,7 +173,7 @@ module _ (s : RingBufferScheduler) (ring : List ℕ) where
       Reads s ring dst (toldOf (readFrom ring dst z .answer)) (recordAfter s (readFrom ring dst z .answer)) (readFrom ring dst z .memory)
   reads dst z (right h e) =
       let n : ℕ = min (length dst) (greatestIn s Read) in
-      promise.moves n _ _ refl (registers s h Read n (omega arith))
+      promise.moves (portionOf (length dst) (greatestIn s Read)) _ _ refl (left-over (length dst) (greatestIn s Read)) (registers s h Read n (omega arith))
       (take-at (get (s .«buf_len») ring (offsetIn s Read .0) n) (drop n dst) n (length-get (s .«buf_len») ring (offsetIn s Read .0) n))
       (get-own (s .«buf_len») ring (offsetIn s Read .0) n dst (omega arith))
   reads dst z (wrong h ne) = promise.refuses RingMemory

@@ -1,5 +1,5 @@
 -- What a copy answers, and what it leaves in the lent memory.
-use Prim.Native.Nat.{ℕ, _+_, min}
+use Prim.Native.Nat.{ℕ, _+_}
 use mathlib.Core.Bool.{cond}
 use mathlib.Core.List.{List, _++_}
 use lib.Dec.{eqb}
@@ -9,7 +9,7 @@ use Rattle.sched.specs.declared.scheduler.Checked.{Checked}
 use Rattle.sched.specs.declared.scheduler.Checked.the-variants as checked
 use Rattle.sched.specs.declared.register.Move.{Move}
 use Rattle.sched.specs.declared.scheduler.RingBufferScheduler.{RingBufferScheduler}
-use Rattle.sched.specs.Scheduler.{soundOf, dataIn, spaceIn, offsetIn, advancedIn}
+use Rattle.sched.specs.Scheduler.{soundOf, moveIn}
 use Rattle.copies.specs.declared.Copied.{Copied}
 use Rattle.copies.specs.declared.Copied.the-variants as copied
 use Rattle.copies.specs.declared.Ready.{Ready}
@@ -33,19 +33,23 @@ pub record Left : Type 0 where
 abbrev pub left : Copied → List ℕ → Left
 left a m = record { answer = a; memory = m }
 
--- n bytes, the smaller of what is asked and the space, from the write offset on
-abbrev pub writeIn : RingBufferScheduler → List ℕ → List ℕ → Left
-writeIn s ring src =
-    left
-    (copied.Moved (advancedIn s Write (min (length src) (spaceIn s))) (min (length src) (spaceIn s)))
-    (put (s .«buf_len») ring (offsetIn s Write .0) (take (min (length src) (spaceIn s)) src))
+-- what a move comes to, once its bytes are copied: how many were moved and how many left over are the scheduler's
+abbrev pub movedBy : Move → Copied
+movedBy m = copied.Moved (m .scheduler) (m .portion)
 
--- n bytes, the smaller of what is asked and the data, from the read offset on; the rest of the destination stays
+-- a write moves the front of the source to the cells from the offset on
+abbrev pub writeBy : Move → ℕ → List ℕ → List ℕ → Left
+writeBy m l ring src = left (movedBy m) (put l ring (m .off .0) (take (m .portion .len) src))
+
+abbrev pub writeIn : RingBufferScheduler → List ℕ → List ℕ → Left
+writeIn s ring src = writeBy (moveIn s Write (length src)) (s .«buf_len») ring src
+
+-- a read moves the bytes in the cells from the offset on to the front of the destination, the rest of which stays
+abbrev pub readBy : Move → ℕ → List ℕ → List ℕ → Left
+readBy m l ring dst = left (movedBy m) (get l ring (m .off .0) (m .portion .len) ++ drop (m .portion .len) dst)
+
 abbrev pub readIn : RingBufferScheduler → List ℕ → List ℕ → Left
-readIn s ring dst =
-    left
-    (copied.Moved (advancedIn s Read (min (length dst) (dataIn s))) (min (length dst) (dataIn s)))
-    (get (s .«buf_len») ring (offsetIn s Read .0) (min (length dst) (dataIn s)) ++ drop (min (length dst) (dataIn s)) dst)
+readIn s ring dst = readBy (moveIn s Read (length dst)) (s .«buf_len») ring dst
 
 -- a refused copy leaves the memory as it was
 abbrev pub writeFrom : List ℕ → List ℕ → Ready → Left
@@ -63,10 +67,6 @@ abbrev pub readOf : RingBufferScheduler → List ℕ → List ℕ → Left
 readOf s ring dst = readFrom ring dst (readyOf s (length ring))
 
 -- ---- the parts of a copy
--- what a move comes to, once its bytes are copied
-abbrev pub movedBy : Move → Copied
-movedBy m = copied.Moved (m .scheduler) (m .len)
-
 abbrev pub part : List ℕ → ℕ → ℕ → List ℕ
 part xs a n = take n (drop a xs)
 

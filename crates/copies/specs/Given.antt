@@ -48,9 +48,9 @@ ofReady (ready.Sound s) = verdict 0 []
 ofReady (ready.Refused e) = verdict (numberOf e) (valuesOf e)
 
 abbrev pub ofCopied : Copied → Verdict
-ofCopied (copied.Moved s n) = verdict 0 []
+ofCopied (copied.Moved s p) = verdict 0 []
 ofCopied (copied.Refused e) = verdict (numberOf e) (valuesOf e)
 
 abbrev pub ofTold : Told → Verdict
-ofTold (told.Moved n) = verdict 0 []
+ofTold (told.Moved p) = verdict 0 []
 ofTold (told.Refused e) = verdict (numberOf e) (valuesOf e)

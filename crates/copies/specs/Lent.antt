@@ -10,12 +10,12 @@ use Rattle.copies.specs.declared.lent.Told.the-variants as told
 use Rattle.copies.specs.Copies.{Left, writeOf, readOf}
 
 abbrev pub toldOf : Copied → Told
-toldOf (copied.Moved s n) = told.Moved n
+toldOf (copied.Moved s p) = told.Moved p
 toldOf (copied.Refused e) = told.Refused e
 
 -- the record after: the answer's, or the old one where the copy is refused
 abbrev pub recordAfter : RingBufferScheduler → Copied → RingBufferScheduler
-recordAfter s (copied.Moved u n) = u
+recordAfter s (copied.Moved u p) = u
 recordAfter s (copied.Refused e) = s
 
 -- what is told, the record and the memory are those of a copy by value of the record s

@@ -5,6 +5,8 @@ use mathlib.Core.Logic.{_≢_}
 use mathlib.Core.List.{List}
 use lib.ListN.{length, getD, take, drop}
 use Rattle.operations.specs.declared.operation.OperationType.the-variants.{Read, Write}
+use Rattle.operations.specs.declared.portion.Portion.{Portion}
+use Rattle.operations.specs.Promise.{LeftOver}
 use Rattle.sched.specs.declared.register.Registered.the-variants as registered
 use Rattle.sched.specs.declared.scheduler.RingBufferScheduler.{RingBufferScheduler}
 use Rattle.sched.specs.Scheduler.{greatestIn, offsetIn, registerOf}
@@ -39,22 +41,25 @@ CellsOf l ring at bytes = (j : ℕ) → j < length bytes → getD bytes j 0 ≡ 
 
 module _ (s : RingBufferScheduler) (ring : List ℕ) where
   -- A write is refused, and changes neither the scheduler nor the memory. Or it moves exactly the smaller of what is asked and
-  -- the greatest length, which is what is registered; the front of the source then stands in its cells, and no other changed.
+  -- the greatest length, which is what is registered, and leaves the others over; the front of the source then stands in its cells,
+  -- and no other changed.
   pub data Writes (src : List ℕ) : Told → RingBufferScheduler → List ℕ → Type 0 where
     refuses : (e : Refusal) → Writes src (told.Refused e) s ring
-    moves : (n : ℕ) (after : RingBufferScheduler) (memory : List ℕ) →
-        n ≡ min (length src) (greatestIn s Write) →
-        registerOf s Write n ≡ registered.Advanced after →
-        get (s .«buf_len») memory (offsetIn s Write .0) n ≡ take n src →
-        OnlyCells (s .«buf_len») (offsetIn s Write .0) n ring memory →
+    moves : (n : Portion) (after : RingBufferScheduler) (memory : List ℕ) →
+        n .len ≡ min (length src) (greatestIn s Write) →
+        LeftOver (length src) (greatestIn s Write) (n .len) (n .remainder) →
+        registerOf s Write (n .len) ≡ registered.Advanced after →
+        get (s .«buf_len») memory (offsetIn s Write .0) (n .len) ≡ take (n .len) src →
+        OnlyCells (s .«buf_len») (offsetIn s Write .0) (n .len) ring memory →
         Writes src (told.Moved n) after memory
 
   -- A read likewise: the front of the destination then holds what stands in its cells, and the rest of it stays.
   pub data Reads (dst : List ℕ) : Told → RingBufferScheduler → List ℕ → Type 0 where
     refuses : (e : Refusal) → Reads dst (told.Refused e) s dst
-    moves : (n : ℕ) (after : RingBufferScheduler) (memory : List ℕ) →
-        n ≡ min (length dst) (greatestIn s Read) →
-        registerOf s Read n ≡ registered.Advanced after →
-        take n memory ≡ get (s .«buf_len») ring (offsetIn s Read .0) n →
-        OnlyFront n dst memory →
+    moves : (n : Portion) (after : RingBufferScheduler) (memory : List ℕ) →
+        n .len ≡ min (length dst) (greatestIn s Read) →
+        LeftOver (length dst) (greatestIn s Read) (n .len) (n .remainder) →
+        registerOf s Read (n .len) ≡ registered.Advanced after →
+        take (n .len) memory ≡ get (s .«buf_len») ring (offsetIn s Read .0) (n .len) →
+        OnlyFront (n .len) dst memory →
         Reads dst (told.Moved n) after memory

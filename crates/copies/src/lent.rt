@@ -6,11 +6,12 @@ use crate::Copied;
 use crate::Refusal;
 use crate::read;
 use crate::write;
+use sched::Portion;
 use sched::RingBufferScheduler;
 
-// How many bytes were moved, or why none were.
+// How many bytes were moved and how many left over, or why none were.
 pub enum Told {
-    Moved(u64),
+    Moved(Portion),
     Refused(Refusal),
 }
 
@@ -54,9 +55,12 @@ fn keep(scheduler: RingBufferScheduler, answer: Copied) -> Kept
     ensures { λ r. ⌜ (r .told ≡ toldOf answer) × (r .scheduler ≡ recordAfter scheduler answer) ⌝ }
 {
     match answer {
-        Copied::Moved { scheduler: next, n } => Kept {
+        Copied::Moved {
             scheduler: next,
-            told: Told::Moved(n),
+            portion,
+        } => Kept {
+            scheduler: next,
+            told: Told::Moved(portion),
         },
         Copied::Refused(e) => Kept {
             scheduler,

@@ -11,7 +11,9 @@ use sched::Checked;
 use sched::Move;
 use sched::MoveAnswer;
 use sched::OperationType;
+use sched::Portion;
 use sched::RingBufferScheduler;
+use sched::portion_of;
 
 mod lent;
 mod number;
@@ -29,11 +31,11 @@ pub enum Ready {
     Refused(Refusal),
 }
 
-// The scheduler after the copy and how many bytes were moved, or why none were.
+// The scheduler after the copy, how many bytes were moved and how many left over, or why none were.
 pub enum Copied {
     Moved {
         scheduler: RingBufferScheduler,
-        n: u64,
+        portion: Portion,
     },
     Refused(Refusal),
 }
@@ -62,7 +64,7 @@ pub fn write(scheduler: RingBufferScheduler, ring: &mut [u8], src: &[u8]) -> Cop
             if ring.len() as u64 != scheduler.buf_len {
                 return Copied::Refused(Refusal::RingMemory);
             }
-            put_round(src, ring, m.off.0 as usize, m.len as usize);
+            put_round(src, ring, m.off.0 as usize, m.portion.len);
             moved(m)
         }
         MoveAnswer::Refused(e) => Copied::Refused(Refusal::Scheduler(e)),
@@ -78,7 +80,7 @@ pub fn read(scheduler: RingBufferScheduler, ring: &[u8], dst: &mut [u8]) -> Copi
             if ring.len() as u64 != scheduler.buf_len {
                 return Copied::Refused(Refusal::RingMemory);
             }
-            get_round(ring, m.off.0 as usize, dst, m.len as usize);
+            get_round(ring, m.off.0 as usize, dst, m.portion.len);
             moved(m)
         }
         MoveAnswer::Refused(e) => Copied::Refused(Refusal::Scheduler(e)),
@@ -89,38 +91,34 @@ fn moved(m: Move) -> Copied
     ensures { λ r. ⌜ r ≡ movedBy m ⌝ }
 {
     let scheduler = m.scheduler;
-    Copied::Moved {
-        scheduler,
-        n: m.len,
-    }
+    let portion = m.portion;
+    Copied::Moved { scheduler, portion }
 }
 
 // The first n bytes of `src` go to the ring's places from `at` on, and go on at its start where it ends.
-fn put_round(src: &[u8], ring: &mut [u8], at: usize, n: usize)
+fn put_round(src: &[u8], ring: &mut [u8], at: usize, n: u64)
     requires { ⌜ (at < length (now ring)) × (n ≤ length (now ring)) × (n ≤ length (now src)) ⌝ }
     ensures { λ _. ⌜ now (ring .exit) ≡ put (length (now (ring .entry))) (now (ring .entry)) at (take n (now (src .entry))) ⌝ }
 {
-    let room = ring.len() - at;
-    if n <= room {
-        copy_part(src, 0, ring, at, n);
+    let ahead = portion_of(n, (ring.len() - at) as u64);
+    copy_part(src, 0, ring, at, ahead.len as usize);
+    if ahead.remainder == 0 {
         return;
     }
-    copy_part(src, 0, ring, at, room);
-    copy_part(src, room, ring, 0, n - room);
+    copy_part(src, ahead.len as usize, ring, 0, ahead.remainder as usize);
 }
 
 // The n bytes at the ring's places from `at` on, which go on at its start where it ends, go to the front of `dst`.
-fn get_round(ring: &[u8], at: usize, dst: &mut [u8], n: usize)
+fn get_round(ring: &[u8], at: usize, dst: &mut [u8], n: u64)
     requires { ⌜ (at < length (now ring)) × (n ≤ length (now ring)) × (n ≤ length (now dst)) ⌝ }
     ensures { λ _. ⌜ now (dst .exit) ≡ get (length (now (ring .entry))) (now (ring .entry)) at n ++ drop n (now (dst .entry)) ⌝ }
 {
-    let room = ring.len() - at;
-    if n <= room {
-        copy_part(ring, at, dst, 0, n);
+    let ahead = portion_of(n, (ring.len() - at) as u64);
+    copy_part(ring, at, dst, 0, ahead.len as usize);
+    if ahead.remainder == 0 {
         return;
     }
-    copy_part(ring, at, dst, 0, room);
-    copy_part(ring, 0, dst, room, n - room);
+    copy_part(ring, 0, dst, ahead.len as usize, ahead.remainder as usize);
 }
 
 // The n bytes of `from` at a become those of `to` at b.

@@ -24,3 +24,10 @@ module _ (m r : ℕ) where
         only-then = λ l. omega arith;
         room-taken = λ l. omega arith;
       }
+
+  -- by what is left over
+  pub portion-fits : portionOf m r .remainder ≡ 0 → (m ≤ r) × (portionOf m r .len ≡ m)
+  portion-fits z = (omega arith, omega arith)
+
+  pub portion-over : (portionOf m r .remainder ≡ 0 → ⊥) → (r < m) × (portionOf m r .len ≡ r) × (portionOf m r .remainder ≡ m - r)
+  portion-over z = (omega (arith, z), omega (arith, z), omega (arith, z))

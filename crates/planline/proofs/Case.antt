@@ -5,8 +5,8 @@ use mathlib.Core.List.{List, [], _∷_}
 use Rattle.lines.specs.Answer.{textsOf}
 use Rattle.lines.specs.Decimal.{digitsBy, decimal, isDigit, digitsOn, numberFront}
 use Rattle.lines.specs.Lines.{lastLines, linesFrom, linesOf}
-use Rattle.modular.specs.Modulus.{subMod}
-use Rattle.sched.specs.Scheduler.{soundOf, cutOf}
+use Rattle.modular.specs.Modulus.{subMod, addMod}
+use Rattle.sched.specs.Scheduler.{soundOf, layoutIn, someOf, scheduleIn}
 use Rattle.planline.specs.Cut.{lineText}
 use Rattle.planline.specs.Line.{spaceThen, endThen, kindOf, kindFront, parseOf, planOf}
 use Rattle.planline.specs.Text.{operationText, listText, planText}
@@ -18,5 +18,5 @@ abbrev pub output : List ℕ
 output = 111 ∷ 107 ∷ 32 ∷ 50 ∷ 32 ∷ 55 ∷ 32 ∷ 51 ∷ 32 ∷ 48 ∷ 32 ∷ 51 ∷ 10 ∷ 114 ∷ 101 ∷ 102 ∷ 117 ∷ 115 ∷ 101 ∷ 100 ∷ 32 ∷ 49 ∷ 10 ∷ 98 ∷ 97 ∷ 100 ∷ 10 ∷ []
 
 pub case : textsOf lineText (linesOf input) ≡ output
-unfolding subMod soundOf cutOf digitsBy decimal isDigit digitsOn numberFront lastLines linesFrom textsOf spaceThen endThen kindOf kindFront parseOf planOf operationText listText planText
+unfolding subMod addMod soundOf layoutIn someOf scheduleIn digitsBy decimal isDigit digitsOn numberFront lastLines linesFrom textsOf spaceThen endThen kindOf kindFront parseOf planOf operationText listText planText
 case = refl

@@ -117,7 +117,7 @@ scheduled-small s t m = go (soundOf s) refl
     go (checked.Refused e) p = rw p (number-small e)
     go (checked.Sound u) p =
         let b : IsSound s × (u ≡ s) = sound-both u s (sym p) in
-        rw (p, b .1) (inside-small (s .«buf_len») (scheduleIn s t m) (b .0 .sized .fits) (scheduling s (b .0) t m .inside))
+        rw (p, b .1) (inside-small (s .«buf_len») (scheduleIn s t m .operations) (b .0 .sized .fits) (scheduling s (b .0) t m .inside))
 
 plan-small : (xs : List ℕ) → Small (planOf xs)
 plan-small xs = ⊎-elim (λ long. rw (← plan-long xs long) tt) (λ short. rw (← plan-short xs short) (go (parseOf xs))) (lt-or-le 120 (length xs))

@@ -17,11 +17,11 @@ use Rattle.lines.proofs.LinesLaws.{lines-are}
 use Rattle.lines.proofs.Runs.{run-text}
 use Rattle.lines.proofs.TextLaws.{appended}
 use Rattle.modular.proofs.Saying.{Allows, Keeps}
-use Rattle.operations.specs.declared.list.OperationsAnswer.{OperationsAnswer}
-use Rattle.operations.specs.declared.list.OperationsAnswer.the-variants as operations
-use Rattle.operations.specs.declared.list.ScheduledOperations.{ScheduledOperations}
 use Rattle.operations.specs.declared.refusal.Refusal.{Refusal}
 use Rattle.operations.specs.Refusal.{numberOf}
+use Rattle.sched.specs.declared.schedule.Scheduled.{Scheduled}
+use Rattle.sched.specs.declared.schedule.ScheduledAnswer.{ScheduledAnswer}
+use Rattle.sched.specs.declared.schedule.ScheduledAnswer.the-variants as schedules
 use Rattle.sched.specs.Scheduler.{schedulerOf}
 use Rattle.sched.proofs.Says.{schedule-contiguous-operations-says}
 use Rattle.sched.proofs.scheduler.RingBufferScheduler.schedule_contiguous_operations.Kinds as schedule-kinds
@@ -60,8 +60,8 @@ parse-promised κs a z q x = (λ l. said ∙ line-parsed (a .0 .now) x l, λ e. 
     said = parse-says κs a z (q .0) (q .1)
 
 -- its answer is what the scheduler's call answers to that, a refusal by the scheduler's number of it, and `bad` where it is no line
-abbrev pub Scheduled : Asked → OperationsAnswer → Type 0
-Scheduled x y =
+abbrev pub Schedule : Asked → ScheduledAnswer → Type 0
+Schedule x y =
     Allows 0 schedule-kinds.ps schedule-kinds.r schedule.Learnt tt
     (schedulerOf (x .«buf_len») (record { 0 = x .written }) (record { 0 = x .read }), (x .typ, (x .«max_len», tt))) y
 
@@ -69,14 +69,14 @@ pub plan-line-promised :
     Keeps 1 plan-line-kinds.ps plan-line-kinds.r plan-line.Learnt
     (λ κs a z.
     ((x : Asked) → Line (a .0 .now) x →
-    ((ops : ScheduledOperations) → Scheduled x (operations.Of ops) → z ≡ plan.Ok ops) × ((e : Refusal) → Scheduled x (operations.Refused e) → z ≡ plan.Refused (numberOf e)))
+    ((r : Scheduled) → Schedule x (schedules.Of r) → z ≡ plan.Ok (r .operations)) × ((e : Refusal) → Schedule x (schedules.Refused e) → z ≡ plan.Refused (numberOf e)))
     × (((x : Asked) → Line (a .0 .now) x → ⊥) → z ≡ plan.Bad))
-plan-line-promised κs a z q = (λ x l. (λ ops r. planned x l (operations.Of ops) r, λ e r. planned x l (operations.Refused e) r), λ n. said ∙ else-bad (a .0 .now) n)
+plan-line-promised κs a z q = (λ x l. (λ o r. planned x l (schedules.Of o) r, λ e r. planned x l (schedules.Refused e) r), λ n. said ∙ else-bad (a .0 .now) n)
   where
     said : z ≡ planOf (a .0 .now)
     said = plan-line-says κs a z (q .0) (q .1)
 
-    planned : (x : Asked) → Line (a .0 .now) x → (y : OperationsAnswer) → Scheduled x y → z ≡ planAfter y
+    planned : (x : Asked) → Line (a .0 .now) x → (y : ScheduledAnswer) → Schedule x y → z ≡ planAfter y
     planned x l y r = said ∙ line-planned (a .0 .now) x l ∙ ap planAfter (sym (schedule-contiguous-operations-says tt _ y (r .0) (r .1)))
 
 -- ---- the text of a line's answer, of which every number is worth what it says

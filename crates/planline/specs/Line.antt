@@ -4,11 +4,11 @@ use mathlib.Core.Bool.{cond}
 use mathlib.Core.List.{List, [], _∷_, _++_}
 use lib.Dec.{eqb, ltb}
 use lib.ListN.{length, drop}
-use Rattle.operations.specs.declared.list.OperationsAnswer.{OperationsAnswer}
-use Rattle.operations.specs.declared.list.OperationsAnswer.the-variants as operations
 use Rattle.operations.specs.declared.operation.OperationType.{OperationType}
 use Rattle.operations.specs.declared.operation.OperationType.the-variants.{Read, Write}
 use Rattle.operations.specs.Refusal.{numberOf}
+use Rattle.sched.specs.declared.schedule.ScheduledAnswer.{ScheduledAnswer}
+use Rattle.sched.specs.declared.schedule.ScheduledAnswer.the-variants as schedules
 use Rattle.sched.specs.Scheduler.{schedulerOf, scheduleOf}
 use Rattle.lines.specs.Decimal.{decimal, Front, some, none, numberFront}
 use Rattle.planline.specs.declared.line.Asked.{Asked}
@@ -86,9 +86,9 @@ unfoldable pub parseOf : List ℕ → Parsed
 parseOf xs = withLength (spacedFront xs)
 
 -- ---- its answer
-abbrev pub planAfter : OperationsAnswer → Plan
-planAfter (operations.Of ops) = plan.Ok ops
-planAfter (operations.Refused e) = plan.Refused (numberOf e)
+abbrev pub planAfter : ScheduledAnswer → Plan
+planAfter (schedules.Of r) = plan.Ok (r .operations)
+planAfter (schedules.Refused e) = plan.Refused (numberOf e)
 
 abbrev pub planFor : Asked → Plan
 planFor a = planAfter (scheduleOf (schedulerOf (a .«buf_len») (record { 0 = a .written }) (record { 0 = a .read })) (a .typ) (a .«max_len»))

@@ -7,8 +7,8 @@ use lines::Number;
 use lines::number_at;
 use sched::Counter;
 use sched::OperationType;
-use sched::OperationsAnswer;
 use sched::RingBufferScheduler;
+use sched::ScheduledAnswer;
 use sched::ScheduledOperations;
 
 pub struct Asked {
@@ -166,7 +166,10 @@ fn plan_for(asked: Asked) -> Plan
     };
     let typ = asked.typ;
     match scheduler.schedule_contiguous_operations(typ, asked.max_len) {
-        OperationsAnswer::Of(list) => Plan::Ok(list),
-        OperationsAnswer::Refused(e) => Plan::Refused(e.number()),
+        ScheduledAnswer::Of(r) => {
+            let list = r.operations;
+            Plan::Ok(list)
+        }
+        ScheduledAnswer::Refused(e) => Plan::Refused(e.number()),
     }
 }

@@ -7,7 +7,7 @@ use Rattle.planline.proofs.line.plan_for.Statement.{statement}
 use Rattle.planline.proofs.line.plan_for.Tie as tie
 
 returns : tie.Need-returns
-returns c = ap planAfter (sym (c .before .list .given .1) ∙ c .before .before .before .schedule-contiguous-operations .ensures)
+returns c = ap planAfter (sym (c .before .r .given .1) ∙ c .before .before .before .schedule-contiguous-operations .ensures)
 
 returns-2 : tie.Need-returns-2
 returns-2 c =

@@ -25,13 +25,14 @@ use Rattle.states.specs.Promise.{Holds}
 use Rattle.sched.specs.Chunk.{bodyFits}
 use Rattle.sched.proofs.ChunkLaws.{fits-by}
 use Rattle.copies.specs.Number.{numberFrom}
-use Rattle.receiver.specs.Receiver.{noneBeside, besideByte, readOutcome, failedOutcome, withScheduler, withState, withPending, batchIn, headerIn, announcedIn, byteIn, handedOut}
+use Rattle.receiver.specs.Receiver.{noneBeside, besideByte, readOutcome, failedOutcome, withScheduler, withState, withPending, batchIn, headerIn, announcedIn, byteIn, handedIn}
 use Rattle.states.specs.State.{failureIn, advanceIn}
 use Rattle.receiver.specs.declared.announcement.Announced.{Announced}
 use Rattle.receiver.specs.declared.announcement.Announced.the-variants as announced
 use Rattle.states.specs.declared.answer.Received.{Received}
 use Rattle.states.specs.declared.answer.Received.the-variants as received
 use Rattle.states.specs.declared.answer.Sent.the-variants as sent
+use Rattle.receiver.specs.declared.call.Call.{Call}
 use Rattle.receiver.specs.declared.call.Ending.{Ending}
 use Rattle.receiver.specs.declared.call.Phase.the-variants as phase
 use Rattle.receiver.specs.declared.call.Step.{Step}
@@ -138,11 +139,15 @@ module _ (q : ReceiverState) (sound : IsSound (q .scheduler)) (asked : ℕ) (bes
     pub reads : ReadBy (q .scheduler) n u
     reads = moved (q .scheduler) sound n Read l
 
-    handed-all : n ≡ d → handedOut q n ≡ withPending (withScheduler q u) (q .«pending_ack_count» + 1)
+    handed-all : n ≡ d → handedIn q u ≡ withPending (withScheduler q u) (q .«pending_ack_count» + 1)
     handed-all e = ap (λ (b : Bool). cond b (withPending (withScheduler q u) (q .«pending_ack_count» + 1)) (withScheduler q u)) (eq-eqb (dataIn u) 0 (omega (arith, reads .fill, e)))
 
-    handed-part : n < d → handedOut q n ≡ withScheduler q u
+    handed-part : n < d → handedIn q u ≡ withScheduler q u
     handed-part e = ap (λ (b : Bool). cond b (withPending (withScheduler q u) (q .«pending_ack_count» + 1)) (withScheduler q u)) (ne-eqb (dataIn u) 0 (λ z. omega (arith, reads .fill, e, z)))
+
+  -- the call after a move of n bytes
+  abbrev handsOut : ℕ → Call
+  handsOut n = serviceCall (handedIn q (advancedIn (q .scheduler) Read n)) (q .scheduler) (dropping (readOutcome n beside))
 
   pub hands-out : HandsOut q asked beside (handOutCall asked beside q)
   hands-out = by (ltb asked d) refl
@@ -151,13 +156,13 @@ module _ (q : ReceiverState) (sound : IsSound (q .scheduler)) (asked : ℕ) (bes
       by true z =
           let l : asked < d = ltb-true asked d z in
           let m : asked ≡ min asked d = omega (arith, l) in
-          subst (λ (n : ℕ). HandsOut q asked beside (serviceCall (handedOut q n) (q .scheduler) (dropping (readOutcome n beside)))) m
+          subst (λ (n : ℕ). HandsOut q asked beside (handsOut n)) m
           (subst (λ (r : ReceiverState). HandsOut q asked beside (serviceCall r (q .scheduler) (dropping (readOutcome asked beside)))) (sym (handed-part asked (omega (arith, l)) l))
           (a-part l (reads asked (omega (arith, l))) (serves _ _ _)))
       by false z =
           let l : d ≤ asked = ltb-false asked d z in
           let m : d ≡ min asked d = omega (arith, l) in
-          subst (λ (n : ℕ). HandsOut q asked beside (serviceCall (handedOut q n) (q .scheduler) (dropping (readOutcome n beside)))) m
+          subst (λ (n : ℕ). HandsOut q asked beside (handsOut n)) m
           (subst (λ (r : ReceiverState). HandsOut q asked beside (serviceCall r (q .scheduler) (dropping (readOutcome d beside)))) (sym (handed-all d (omega arith) refl))
           (all-of-it l (reads d (omega arith)) (serves _ _ _)))
 

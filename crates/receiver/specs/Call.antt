@@ -1,17 +1,19 @@
 -- The machine: what a call in progress becomes with each answer. A call of the machine comes to a step: the call as it goes on, or
 -- why it is refused, and then the call stays what it was.
-use Prim.Native.Nat.{ℕ, _-_, _^_, _<_, _≤_, min}
+use Prim.Native.Nat.{ℕ, _-_, _^_, _<_, _≤_}
 use mathlib.Core.Path.{_≡_}
 use mathlib.Core.Bool.{Bool, cond, true, false}
 use mathlib.Core.List.{List}
 use lib.Dec.{eqb}
 use lib.ListN.{length}
+use Rattle.operations.specs.declared.operation.OperationType.the-variants.{Read}
+use Rattle.sched.specs.declared.register.Move.{Move}
 use Rattle.sched.specs.declared.scheduler.RingBufferScheduler.{RingBufferScheduler}
-use Rattle.sched.specs.Scheduler.{IsSound, dataIn}
+use Rattle.sched.specs.Scheduler.{IsSound, dataIn, moveIn}
 use Rattle.receiver.specs.Admission.{admissionOf}
 use Rattle.states.specs.Answer.{interruptedOf, receivedOf, sentOf, shutOf}
 use Rattle.states.specs.State.{failureIn, isErrno, advanceIn}
-use Rattle.receiver.specs.Receiver.{readOutcome, failedOutcome, doneOutcome, withScheduler, withState, withPending, withShutdown, batchIn, bySent, noneBeside, besideByte, byteIn, handedOut}
+use Rattle.receiver.specs.Receiver.{readOutcome, failedOutcome, doneOutcome, withScheduler, withState, withPending, withShutdown, batchIn, bySent, noneBeside, besideByte, byteIn, handedIn}
 use Rattle.receiver.specs.declared.admission.Admission.{Admission}
 use Rattle.receiver.specs.declared.admission.Admission.the-variants as admission
 use Rattle.receiver.specs.declared.admission.Memory.{Memory}
@@ -129,9 +131,12 @@ pub record Handing (q : ReceiverState) : Type 0 where
   pub sound : IsSound (q .scheduler)
   pub counted : Counts q
 
+-- as many as the scheduler moves, and its record after them
+abbrev pub handOutBy : Move → Beside → ReceiverState → Call
+handOutBy m b q = serviceCall (handedIn q (m .scheduler)) (q .scheduler) (dropping (readOutcome (m .portion .len) b))
+
 abbrev pub handOutCall : ℕ → Beside → ReceiverState → Call
-handOutCall asked b q =
-    serviceCall (handedOut q (min asked (dataIn (q .scheduler)))) (q .scheduler) (dropping (readOutcome (min asked (dataIn (q .scheduler))) b))
+handOutCall asked b q = handOutBy (moveIn (q .scheduler) Read asked) b q
 
 abbrev pub failedCall : Failure → ReceiverState → RingBufferScheduler → Call
 failedCall f q s = advanceCall (Terminated f) q s (dropping (failedOutcome f))

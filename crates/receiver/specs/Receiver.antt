@@ -108,6 +108,3 @@ byteIn ring s byte b = cond (eqb byte 0) (announcedIn ring s b) (announced.Faile
 -- bytes are handed out; if no data is left, pending rises by 1
 abbrev pub handedIn : ReceiverState → RingBufferScheduler → ReceiverState
 handedIn q u = cond (eqb (dataIn u) 0) (withPending (withScheduler q u) (q .«pending_ack_count» + 1)) (withScheduler q u)
-
-abbrev pub handedOut : ReceiverState → ℕ → ReceiverState
-handedOut q n = handedIn q (advancedIn (q .scheduler) Read n)

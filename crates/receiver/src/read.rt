@@ -48,7 +48,7 @@ fn read_chunk_bytes(receiver: ReceiverState, asked: u64, beside: Beside) -> Call
     dropping(
         handed_out(receiver, scheduler),
         source,
-        Outcome::read(m.len, beside),
+        Outcome::read(m.portion.len, beside),
     ).service()
 }
 

@@ -7,6 +7,7 @@ use sched::Move;
 use sched::MoveAnswer;
 use sched::Offset;
 use sched::OperationType;
+use sched::Portion;
 use sched::RingBufferScheduler;
 
 pub(crate) fn max_operation_len(s: RingBufferScheduler, op: OperationType) -> u64
@@ -28,7 +29,10 @@ pub(crate) fn moved(s: RingBufferScheduler, op: OperationType, max_len: u64) -> 
         MoveAnswer::Of(m) => m,
         MoveAnswer::Refused(_) => Move {
             off: Offset(0),
-            len: 0,
+            portion: Portion {
+                len: 0,
+                remainder: 0,
+            },
             scheduler: s,
         },
     }

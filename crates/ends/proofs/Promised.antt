@@ -94,19 +94,19 @@ read-same (checked.Sound s) = refl
 read-same (checked.Refused e) = refl
 
 wrote-same : (c : Copied) → ofCopied c ≡ ofWrote (wroteFrom c)
-wrote-same (copied.Moved s n) = refl
+wrote-same (copied.Moved s p) = refl
 wrote-same (copied.Refused e) = refl
 
 got-same : (c : Copied) → ofCopied c ≡ ofGot (gotFrom c)
-got-same (copied.Moved s n) = refl
+got-same (copied.Moved s p) = refl
 got-same (copied.Refused e) = refl
 
 wrote-promised : (e : WritingEnd) (ring src : List ℕ) (c : Copied) (memory : List ℕ) → Writes (e .scheduler) ring src (toldOf c) (recordAfter (e .scheduler) c) memory → EndWrites e ring src (wroteFrom c) memory
-wrote-promised e ring src (copied.Moved s n) memory w = w
+wrote-promised e ring src (copied.Moved s p) memory w = w
 wrote-promised e ring src (copied.Refused r) memory w = write-left (e .scheduler) ring src r (e .scheduler) memory w
 
 got-end-promised : (e : ReadingEnd) (ring dst : List ℕ) (c : Copied) (memory : List ℕ) → Reads (e .scheduler) ring dst (toldOf c) (recordAfter (e .scheduler) c) memory → EndReads e ring dst (gotFrom c) memory
-got-end-promised e ring dst (copied.Moved s n) memory w = w
+got-end-promised e ring dst (copied.Moved s p) memory w = w
 got-end-promised e ring dst (copied.Refused r) memory w = read-left (e .scheduler) ring dst r (e .scheduler) memory w
 
 -- of the scheduler's tests: refused by their table, or made of the record that passes

@@ -8,6 +8,7 @@ use native.Mathlib.Omega.{arith}
 use borrow.Author.Tests.{eq-eqb, le-ltb}
 use lib.ListN.{length, take, drop}
 use Rattle.modular.proofs.Laws.{sub-unique, add-is}
+use Rattle.operations.specs.Portion.{portionOf}
 use Rattle.operations.specs.declared.counter.AmountAnswer.the-variants as amount
 use Rattle.operations.specs.declared.operation.OperationType.the-variants.{Read, Write}
 use Rattle.sched.specs.declared.scheduler.RingBufferScheduler.{RingBufferScheduler}
@@ -66,7 +67,7 @@ module _ (l c w r : ℕ) (h : Near l w r) where
 
   pub write-view : (ring src : List ℕ) → length ring ≡ l →
       writeOf (view l c w r) ring src ≡
-      left (copied.Moved (view l c (w + min (length src) (l - (w - r))) r) (min (length src) (l - (w - r))))
+      left (copied.Moved (view l c (w + min (length src) (l - (w - r))) r) (portionOf (length src) (l - (w - r))))
       (put l ring (c + w) (take (min (length src) (l - (w - r))) src))
   unfolding readyFrom
   write-view ring src e =
@@ -82,7 +83,7 @@ module _ (l c w r : ℕ) (h : Near l w r) where
 
   pub read-view : (ring dst : List ℕ) → length ring ≡ l →
       readOf (view l c w r) ring dst ≡
-      left (copied.Moved (view l c w (r + min (length dst) (w - r))) (min (length dst) (w - r)))
+      left (copied.Moved (view l c w (r + min (length dst) (w - r))) (portionOf (length dst) (w - r)))
       (get l ring (c + r) (min (length dst) (w - r)) ++ drop (min (length dst) (w - r)) dst)
   unfolding readyFrom
   read-view ring dst e =

@@ -66,7 +66,7 @@ abbrev pub wroteLeft : Wrote → List ℕ → WroteLeft
 wroteLeft a m = record { answer = a; memory = m }
 
 abbrev pub wroteFrom : Copied → Wrote
-wroteFrom (copied.Moved s n) = wrote.Moved (writingEnd s) n
+wroteFrom (copied.Moved s p) = wrote.Moved (writingEnd s) p
 wroteFrom (copied.Refused e) = wrote.Refused (Copy e)
 
 abbrev pub wroteOf : WritingEnd → List ℕ → List ℕ → WroteLeft
@@ -80,7 +80,7 @@ abbrev pub gotLeft : Got → List ℕ → GotLeft
 gotLeft a m = record { answer = a; memory = m }
 
 abbrev pub gotFrom : Copied → Got
-gotFrom (copied.Moved s n) = got.Moved (readingEnd s) n
+gotFrom (copied.Moved s p) = got.Moved (readingEnd s) p
 gotFrom (copied.Refused e) = got.Refused (Copy e)
 
 abbrev pub gotOf : ReadingEnd → List ℕ → List ℕ → GotLeft

@@ -28,11 +28,11 @@ use Rattle.ends.specs.World.{Kind, Copied, Taken, Sent, sent, unsent, do
 
 -- an answer of a call as one of the world's; a refused call leaves the caller's record as it was
 abbrev pub copiedW : WritingEnd → Wrote → List ℕ → Copied WritingEnd
-copiedW e (wrote.Moved f n) memory = record { answer = done n; end = f; memory = memory }
+copiedW e (wrote.Moved f p) memory = record { answer = done (p .len); end = f; memory = memory }
 copiedW e (wrote.Refused r) memory = record { answer = refused (numberOf r); end = e; memory = memory }
 
 abbrev pub copiedR : ReadingEnd → Got → List ℕ → Copied ReadingEnd
-copiedR e (got.Moved f n) memory = record { answer = done n; end = f; memory = memory }
+copiedR e (got.Moved f p) memory = record { answer = done (p .len); end = f; memory = memory }
 copiedR e (got.Refused r) memory = record { answer = refused (numberOf r); end = e; memory = memory }
 
 abbrev pub sentW : WrittenCounterAnswer → Sent WrittenCounter

@@ -52,11 +52,11 @@ ofReadingEnd (reading.Of e) = verdict 0 []
 ofReadingEnd (reading.Refused e) = refusedBy e
 
 abbrev pub ofWrote : Wrote → Verdict
-ofWrote (wrote.Moved e n) = verdict 0 []
+ofWrote (wrote.Moved e p) = verdict 0 []
 ofWrote (wrote.Refused e) = refusedBy e
 
 abbrev pub ofGot : Got → Verdict
-ofGot (got.Moved e n) = verdict 0 []
+ofGot (got.Moved e p) = verdict 0 []
 ofGot (got.Refused e) = refusedBy e
 
 abbrev pub ofWritten : WrittenCounterAnswer → Verdict
@@ -69,11 +69,11 @@ ofRead (readCounter.Refused e) = refusedBy e
 
 -- ---- a copy keeps what one of `copies` does; a refused one changes nothing
 abbrev pub EndWrites : WritingEnd → List ℕ → List ℕ → Wrote → List ℕ → Type 0
-EndWrites e ring src (wrote.Moved f n) memory = Writes (e .scheduler) ring src (told.Moved n) (f .scheduler) memory
+EndWrites e ring src (wrote.Moved f p) memory = Writes (e .scheduler) ring src (told.Moved p) (f .scheduler) memory
 EndWrites e ring src (wrote.Refused r) memory = memory ≡ ring
 
 abbrev pub EndReads : ReadingEnd → List ℕ → List ℕ → Got → List ℕ → Type 0
-EndReads e ring dst (got.Moved f n) memory = Reads (e .scheduler) ring dst (told.Moved n) (f .scheduler) memory
+EndReads e ring dst (got.Moved f p) memory = Reads (e .scheduler) ring dst (told.Moved p) (f .scheduler) memory
 EndReads e ring dst (got.Refused r) memory = memory ≡ dst
 
 -- ---- an end is made of a record that passes, and holds it

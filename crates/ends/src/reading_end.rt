@@ -10,6 +10,7 @@ use copies::Copied;
 use sched::Checked;
 use sched::Counter;
 use sched::CounterAnswer;
+use sched::Portion;
 use sched::RingBufferScheduler;
 
 // How many bytes this end has read, modulo twice the ring's length.
@@ -29,9 +30,9 @@ pub enum ReadingEndAnswer {
     Refused(Refusal),
 }
 
-// The end after a copy and how many bytes it moved, or why none.
+// The end after a copy, how many bytes it moved and how many were left over, or why none.
 pub enum Got {
-    Moved { end: ReadingEnd, n: u64 },
+    Moved { end: ReadingEnd, portion: Portion },
     Refused(Refusal),
 }
 
@@ -72,9 +73,9 @@ impl ReadingEnd {
     {
         let s = self.scheduler;
         match copies::read(s, ring, dst) {
-            Copied::Moved { scheduler, n } => Got::Moved {
+            Copied::Moved { scheduler, portion } => Got::Moved {
                 end: ReadingEnd { scheduler },
-                n,
+                portion,
             },
             Copied::Refused(e) => Got::Refused(Refusal::Copy(e)),
         }

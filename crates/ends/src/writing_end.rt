@@ -10,6 +10,7 @@ use copies::Copied;
 use sched::Checked;
 use sched::Counter;
 use sched::CounterAnswer;
+use sched::Portion;
 use sched::RingBufferScheduler;
 
 // How many bytes this end has written, modulo twice the ring's length.
@@ -29,9 +30,9 @@ pub enum WritingEndAnswer {
     Refused(Refusal),
 }
 
-// The end after a copy and how many bytes it moved, or why none.
+// The end after a copy, how many bytes it moved and how many were left over, or why none.
 pub enum Wrote {
-    Moved { end: WritingEnd, n: u64 },
+    Moved { end: WritingEnd, portion: Portion },
     Refused(Refusal),
 }
 
@@ -72,9 +73,9 @@ impl WritingEnd {
     {
         let s = self.scheduler;
         match copies::write(s, ring, src) {
-            Copied::Moved { scheduler, n } => Wrote::Moved {
+            Copied::Moved { scheduler, portion } => Wrote::Moved {
                 end: WritingEnd { scheduler },
-                n,
+                portion,
             },
             Copied::Refused(e) => Wrote::Refused(Refusal::Copy(e)),
         }

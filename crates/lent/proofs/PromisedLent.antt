@@ -33,11 +33,11 @@ use Rattle.ends.proofs.reading_end.ReadingEnd.take.Reads as takeR
 
 -- by the two cases of the answer
 as-wrote : (e : WritingEnd) (z : Wrote) (r : Told) (after : WritingEnd) → r ≡ toldWrote z → after ≡ writerAfter e z → AsWrote e z r after
-as-wrote e (wrote.Moved f n) r after p q = (p, q)
+as-wrote e (wrote.Moved f m) r after p q = (p, q)
 as-wrote e (wrote.Refused x) r after p q = (p, q)
 
 as-got : (e : ReadingEnd) (z : Got) (r : Told) (after : ReadingEnd) → r ≡ toldGot z → after ≡ readerAfter e z → AsGot e z r after
-as-got e (got.Moved f n) r after p q = (p, q)
+as-got e (got.Moved f m) r after p q = (p, q)
 as-got e (got.Refused x) r after p q = (p, q)
 
 as-took-read : (e : WritingEnd) (z : WritingEndAnswer) (r : Taken) (after : WritingEnd) → r ≡ takenOfWriting z → after ≡ writerTook e z → AsTookRead e z r after

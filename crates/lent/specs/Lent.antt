@@ -22,12 +22,12 @@ use Rattle.ends.specs.Ends.{wroteOf, gotOf, takeReadOf, takeWrittenOf}
 
 -- ---- writing and reading
 abbrev pub toldWrote : Wrote → Told
-toldWrote (wrote.Moved e n) = told.Moved n
+toldWrote (wrote.Moved e p) = told.Moved p
 toldWrote (wrote.Refused r) = told.Refused r
 
 -- the end after: the answer's, or the old one where the call is refused
 abbrev pub writerAfter : WritingEnd → Wrote → WritingEnd
-writerAfter e (wrote.Moved f n) = f
+writerAfter e (wrote.Moved f p) = f
 writerAfter e (wrote.Refused r) = e
 
 abbrev pub WriteLeaves : WritingEnd → List ℕ → List ℕ → Told → WritingEnd → List ℕ → Type 0
@@ -35,11 +35,11 @@ WriteLeaves e ring src r after memory =
     (r ≡ toldWrote (wroteOf e ring src .answer)) × (after ≡ writerAfter e (wroteOf e ring src .answer)) × (memory ≡ wroteOf e ring src .memory)
 
 abbrev pub toldGot : Got → Told
-toldGot (got.Moved e n) = told.Moved n
+toldGot (got.Moved e p) = told.Moved p
 toldGot (got.Refused r) = told.Refused r
 
 abbrev pub readerAfter : ReadingEnd → Got → ReadingEnd
-readerAfter e (got.Moved f n) = f
+readerAfter e (got.Moved f p) = f
 readerAfter e (got.Refused r) = e
 
 abbrev pub ReadLeaves : ReadingEnd → List ℕ → List ℕ → Told → ReadingEnd → List ℕ → Type 0

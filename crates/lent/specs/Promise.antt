@@ -17,11 +17,11 @@ use Rattle.ends.specs.declared.reading_end.Got.the-variants as got
 
 -- ---- a call over a lent end tells what the call by value answers, and the end is then the answer's; a refused one leaves it as it was
 abbrev pub AsWrote : WritingEnd → Wrote → Told → WritingEnd → Type 0
-AsWrote e (wrote.Moved f n) r after = (r ≡ lent.Moved n) × (after ≡ f)
+AsWrote e (wrote.Moved f p) r after = (r ≡ lent.Moved p) × (after ≡ f)
 AsWrote e (wrote.Refused x) r after = (r ≡ lent.Refused x) × (after ≡ e)
 
 abbrev pub AsGot : ReadingEnd → Got → Told → ReadingEnd → Type 0
-AsGot e (got.Moved f n) r after = (r ≡ lent.Moved n) × (after ≡ f)
+AsGot e (got.Moved f p) r after = (r ≡ lent.Moved p) × (after ≡ f)
 AsGot e (got.Refused x) r after = (r ≡ lent.Refused x) × (after ≡ e)
 
 abbrev pub AsTookRead : WritingEnd → WritingEndAnswer → Taken → WritingEnd → Type 0

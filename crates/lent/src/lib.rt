@@ -12,10 +12,11 @@ use ends::WritingEnd;
 use ends::WritingEndAnswer;
 use ends::WrittenCounter;
 use ends::Wrote;
+use sched::Portion;
 
-// How many bytes were moved, or why none were.
+// How many bytes were moved and how many left over, or why none were.
 pub enum Told {
-    Moved(u64),
+    Moved(Portion),
     Refused(Refusal),
 }
 
@@ -76,9 +77,9 @@ fn keep_writer(end: WritingEnd, answer: Wrote) -> KeptWriter
     ensures { λ r. ⌜ (r .told ≡ toldWrote answer) × (r .end ≡ writerAfter end answer) ⌝ }
 {
     match answer {
-        Wrote::Moved { end: next, n } => KeptWriter {
+        Wrote::Moved { end: next, portion } => KeptWriter {
             end: next,
-            told: Told::Moved(n),
+            told: Told::Moved(portion),
         },
         Wrote::Refused(e) => KeptWriter {
             end,
@@ -91,9 +92,9 @@ fn keep_reader(end: ReadingEnd, answer: Got) -> KeptReader
     ensures { λ r. ⌜ (r .told ≡ toldGot answer) × (r .end ≡ readerAfter end answer) ⌝ }
 {
     match answer {
-        Got::Moved { end: next, n } => KeptReader {
+        Got::Moved { end: next, portion } => KeptReader {
             end: next,
-            told: Told::Moved(n),
+            told: Told::Moved(portion),
         },
         Got::Refused(e) => KeptReader {
             end,

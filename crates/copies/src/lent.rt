@@ -51,19 +51,16 @@ fn read_kept(scheduler: RingBufferScheduler, ring: &[u8], dst: &mut [u8]) -> Kep
     keep(scheduler, read(scheduler, ring, dst))
 }
 
-fn keep(scheduler: RingBufferScheduler, answer: Copied) -> Kept
-    ensures { λ r. ⌜ (r .told ≡ toldOf answer) × (r .scheduler ≡ recordAfter scheduler answer) ⌝ }
+fn keep(old: RingBufferScheduler, answer: Copied) -> Kept
+    ensures { λ r. ⌜ (r .told ≡ toldOf answer) × (r .scheduler ≡ recordAfter old answer) ⌝ }
 {
     match answer {
-        Copied::Moved {
-            scheduler: next,
-            portion,
-        } => Kept {
-            scheduler: next,
+        Copied::Moved { scheduler, portion } => Kept {
+            scheduler,
             told: Told::Moved(portion),
         },
         Copied::Refused(e) => Kept {
-            scheduler,
+            scheduler: old,
             told: Told::Refused(e),
         },
     }

@@ -7,7 +7,7 @@ use Rattle.flat.specs.Counter.{flatAmount, flatBool, flatCounter, flatOf
 use Rattle.flat.specs.Diff.{diffAt, flatDiff}
 use Rattle.flat.specs.Failure.{failureAt, flatFailureAnswer, flatPotentialFailure, potentialFailureAt}
 use Rattle.flat.specs.Flat.{flatEndRefusal, noRefusal}
-use Rattle.flat.specs.List.{flatOperationsAnswer, flatRangesAnswer, flatStartsAnswer, operationsAt}
+use Rattle.flat.specs.List.{flatOperationsAnswer, flatSchedule, flatRangesAnswer, flatStartsAnswer, operationsAt}
 use Rattle.flat.specs.Modulus.{flatModulus, flatNumber}
 use Rattle.flat.specs.Operation.{flatNext, flatOperation, operationAt, typeAt}
 use Rattle.flat.specs.ReadingEnd.{flatGot, flatReadCounter, flatReadingEnd, flatReadingEndAnswer, readCounterAt, readingEndAt}
@@ -57,6 +57,8 @@ use Rattle.flat.proofs.failure.flat_potential_failure.Kinds as flat-pot
 use Rattle.flat.proofs.failure.flat_potential_failure.Reads as flat-potential-failure
 use Rattle.flat.proofs.list.operations.Kinds as operations-kinds
 use Rattle.flat.proofs.list.operations.Reads as operations
+use Rattle.flat.proofs.list.flat_schedule.Kinds as flat-schedule-kinds
+use Rattle.flat.proofs.list.flat_schedule.Reads as flat-schedule
 use Rattle.flat.proofs.list.flat_operations_answer.Kinds as flat-operations-answer-kinds
 use Rattle.flat.proofs.list.flat_operations_answer.Reads as flat-operations-answer
 use Rattle.flat.proofs.list.flat_starts_answer.Kinds as flat-starts-answer-kinds
@@ -189,6 +191,9 @@ flat-potential-failure-says κs a z ws p = p
 -- ---- list.rt
 pub operations-says : Says 0 operations-kinds.ps operations-kinds.r operations.Learnt (λ κs a. operationsAt (a .0))
 operations-says κs a z ws p = p
+
+pub flat-schedule-says : Says 0 flat-schedule-kinds.ps flat-schedule-kinds.r flat-schedule.Learnt (λ κs a. flatSchedule (a .0))
+flat-schedule-says κs a z ws p = p
 
 pub flat-operations-answer-says : Says 0 flat-operations-answer-kinds.ps flat-operations-answer-kinds.r flat-operations-answer.Learnt (λ κs a. flatOperationsAnswer (a .0))
 flat-operations-answer-says κs a z ws p = p

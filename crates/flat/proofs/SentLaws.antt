@@ -31,9 +31,12 @@ use Rattle.operations.specs.declared.list.OutsideRanges.the-variants as outside
 use Rattle.operations.specs.declared.list.OutsideRangesAnswer.{OutsideRangesAnswer}
 use Rattle.operations.specs.declared.list.OutsideRangesAnswer.the-variants as ranges
 use Rattle.operations.specs.declared.list.ScheduledOperations.the-variants as list
+use Rattle.sched.specs.declared.schedule.NextOperation.{NextOperation}
 use Rattle.sched.specs.declared.schedule.NextOperation.the-variants as operation
 use Rattle.sched.specs.declared.schedule.NextOperationAnswer.{NextOperationAnswer}
 use Rattle.sched.specs.declared.schedule.NextOperationAnswer.the-variants as next
+use Rattle.sched.specs.declared.schedule.ScheduledAnswer.{ScheduledAnswer}
+use Rattle.sched.specs.declared.schedule.ScheduledAnswer.the-variants as schedules
 use Rattle.operations.specs.declared.refusal.Refusal as sched
 use Rattle.operations.specs.declared.refusal.Refusal.the-variants.{ZeroBufferLength, BufferTooLarge, ItemsWrittenOutOfBounds, ItemsReadOutofBounds, DataAvailOutOfBounds, OperationTooLarge, OperationTooLong, InconsistentOperationType}
 use Rattle.sched.specs.declared.scheduler.Checked.{Checked}
@@ -79,18 +82,18 @@ use Rattle.states.specs.declared.state.PotentialFailureAnswer.{PotentialFailure
 use Rattle.states.specs.declared.state.PotentialFailureAnswer.the-variants as potential
 use Rattle.states.specs.declared.state.StateAnswer.{StateAnswer}
 use Rattle.states.specs.declared.state.StateAnswer.the-variants as state
-use Rattle.flat.specs.Back.{RefusalStands, Sent, resultAt, inFull, nextAt, SchedulerSent, NumberSent, BoolSent, LayoutSent, FillSent, BlockSent, BlocksSent, NextSent, OperationsSent, StartsSent, RangesSent, CopySent, WritingEndSent, WroteSent, WrittenSent, ReadingEndSent, GotSent, ReadSent, FailureSent, PotentialSent, StateSent, ReceiverSent, StepSent, EndedSent, StartsStand}
+use Rattle.flat.specs.Back.{RefusalStands, Sent, resultAt, inFull, nextAt, SchedulerSent, NumberSent, BoolSent, LayoutSent, FillSent, BlockSent, BlocksSent, NextSent, OperationsSent, ScheduleSent, StartsSent, RangesSent, CopySent, WritingEndSent, WroteSent, WrittenSent, ReadingEndSent, GotSent, ReadSent, FailureSent, PotentialSent, StateSent, ReceiverSent, StepSent, EndedSent, StartsStand}
 use Rattle.flat.specs.Block.{flatLayout, flatFillState, flatBlockAnswer, flatBlocks}
 use Rattle.flat.specs.Call.{flatStep}
 use Rattle.flat.specs.Copy.{flatCopied}
 use Rattle.flat.specs.Counter.{flatCounter, flatOffset, flatAmount, flatBool}
 use Rattle.flat.specs.Failure.{potentialFailureAt, flatFailureAnswer, flatPotentialFailure}
 use Rattle.flat.specs.Flat.{noRefusal, flatRefusal, flatCopyRefusal, flatEndRefusal, flatReceiverRefusal}
-use Rattle.flat.specs.List.{flatOperationsAnswer, flatStartsAnswer, flatRangesAnswer, startsOf}
+use Rattle.flat.specs.List.{flatOperationsAnswer, flatSchedule, flatStartsAnswer, flatRangesAnswer, startsOf}
 use Rattle.flat.specs.Operation.{flatNext, noOperation}
 use Rattle.flat.specs.ReadingEnd.{flatReadingEndAnswer, flatGot, flatReadCounter}
 use Rattle.flat.specs.Receiver.{flatReceiverAnswer, flatEnded}
-use Rattle.flat.specs.Results.{Result, value, refused, checkedResult, registeredResult, counterResult, offsetResult, amountResult, boolResult, layoutResult, fillResult, blockResult, blocksResult, nextResult, operationsResult, startsResult, rangesResult, copiedResult, writingResult, wroteResult, writtenResult, readingResult, gotResult, readResult, failureResult, potentialResult, stateResult, madeResult, stepResult, endedResult}
+use Rattle.flat.specs.Results.{Result, value, refused, checkedResult, registeredResult, counterResult, offsetResult, amountResult, boolResult, layoutResult, fillResult, blockResult, blocksResult, nextResult, operationsResult, scheduledResult, startsResult, rangesResult, copiedResult, writingResult, wroteResult, writtenResult, readingResult, gotResult, readResult, failureResult, potentialResult, stateResult, madeResult, stepResult, endedResult}
 use Rattle.flat.specs.Scheduler.{flatChecked, flatRegistered}
 use Rattle.flat.specs.State.{flatStateAnswer}
 use Rattle.flat.specs.WritingEnd.{flatWritingEndAnswer, flatWrote, flatWrittenCounter}
@@ -172,13 +175,20 @@ blocks-sent (blocks.Refused e) = (scheduler-refusal-some e, scheduler-refusal e,
 
 pub next-sent : (x : NextOperationAnswer) → NextSent (flatNext x) (nextResult x)
 unfolding nextAt
-next-sent (next.Of (operation.Some o)) = (accepted, (refl, operation-stands o), ap operation.Some (operation-back o))
-next-sent (next.Of operation.None) = (accepted, (refl, (refl, refl, refl)), refl)
-next-sent (next.Refused e) = (scheduler-refusal-some e, scheduler-refusal e, (refl, (refl, refl, refl)))
+next-sent (next.Of n) = by (n .operation)
+  where
+    by : (o : NextOperation) → NextSent (flatNext (next.Of (record { operation = o; remainder = n .remainder }))) (value (record { operation = o; remainder = n .remainder }))
+    by (operation.Some o) = (accepted, ((refl, operation-stands o), refl), rw (operation-back o))
+    by operation.None = (accepted, ((refl, (refl, refl, refl)), refl), refl)
+next-sent (next.Refused e) = (scheduler-refusal-some e, scheduler-refusal e, ((refl, (refl, refl, refl)), refl))
 
 pub operations-sent : (x : OperationsAnswer) → OperationsSent (flatOperationsAnswer x) (operationsResult x)
 operations-sent (operations.Of ops) = (accepted, operations-stand ops, operations-back ops)
 operations-sent (operations.Refused e) = (scheduler-refusal-some e, scheduler-refusal e, operations-stand list.None)
+
+pub schedule-sent : (x : ScheduledAnswer) → ScheduleSent (flatSchedule x) (scheduledResult x)
+schedule-sent (schedules.Of r) = (accepted, (operations-stand (r .operations), refl), rw (operations-back (r .operations)))
+schedule-sent (schedules.Refused e) = (scheduler-refusal-some e, scheduler-refusal e, (operations-stand list.None, refl))
 
 pub starts-sent : (x : CumulativeOffsetsAnswer) → StartsSent (flatStartsAnswer x) (startsResult x)
 starts-sent (starts.Of offsets.None) = (accepted, no-starts, starts-back offsets.None)
@@ -190,18 +200,18 @@ pub ranges-sent : (x : OutsideRangesAnswer) → RangesSent (flatRangesAnswer x) 
 ranges-sent (ranges.Of ops) = (accepted, ranges-stand ops, ranges-back ops)
 ranges-sent (ranges.Refused e) = (scheduler-refusal-some e, scheduler-refusal e, ranges-stand outside.None)
 
--- ---- of the copies and the ends; with a record, how many bytes were moved
+-- ---- of the copies and the ends; with a record, how many bytes were moved and how many left over
 pub copied-sent : (x : Copied) → CopySent (flatCopied x) (copiedResult x)
-copied-sent (copied.Moved s n) = (accepted, (scheduler-stands s, refl), refl)
-copied-sent (copied.Refused e) = (copy-refusal-some e, copy-refusal e, ((refl, refl, refl), refl))
+copied-sent (copied.Moved s p) = (accepted, (scheduler-stands s, (refl, refl)), refl)
+copied-sent (copied.Refused e) = (copy-refusal-some e, copy-refusal e, ((refl, refl, refl), (refl, refl)))
 
 pub writing-sent : (x : WritingEndAnswer) → WritingEndSent (flatWritingEndAnswer x) (writingResult x)
 writing-sent (writing.Of e) = (accepted, scheduler-stands (e .scheduler), writing-end-back e)
 writing-sent (writing.Refused e) = (end-refusal-some e, end-refusal e, (refl, refl, refl))
 
 pub wrote-sent : (x : Wrote) → WroteSent (flatWrote x) (wroteResult x)
-wrote-sent (wrote.Moved e n) = (accepted, (scheduler-stands (e .scheduler), refl), refl)
-wrote-sent (wrote.Refused e) = (end-refusal-some e, end-refusal e, ((refl, refl, refl), refl))
+wrote-sent (wrote.Moved e p) = (accepted, (scheduler-stands (e .scheduler), (refl, refl)), refl)
+wrote-sent (wrote.Refused e) = (end-refusal-some e, end-refusal e, ((refl, refl, refl), (refl, refl)))
 
 pub written-sent : (x : WrittenCounterAnswer) → WrittenSent (flatWrittenCounter x) (writtenResult x)
 written-sent (written.Of c) = (accepted, refl, refl)
@@ -212,8 +222,8 @@ reading-sent (reading.Of e) = (accepted, scheduler-stands (e .scheduler), readin
 reading-sent (reading.Refused e) = (end-refusal-some e, end-refusal e, (refl, refl, refl))
 
 pub got-sent : (x : Got) → GotSent (flatGot x) (gotResult x)
-got-sent (got.Moved e n) = (accepted, (scheduler-stands (e .scheduler), refl), refl)
-got-sent (got.Refused e) = (end-refusal-some e, end-refusal e, ((refl, refl, refl), refl))
+got-sent (got.Moved e p) = (accepted, (scheduler-stands (e .scheduler), (refl, refl)), refl)
+got-sent (got.Refused e) = (end-refusal-some e, end-refusal e, ((refl, refl, refl), (refl, refl)))
 
 pub read-sent : (x : ReadCounterAnswer) → ReadSent (flatReadCounter x) (readResult x)
 read-sent (read.Of c) = (accepted, refl, refl)

@@ -25,8 +25,11 @@ use Rattle.operations.specs.declared.list.OutsideRanges.{OutsideRanges}
 use Rattle.operations.specs.declared.list.OutsideRanges.the-variants as ranges
 use Rattle.operations.specs.declared.list.ScheduledOperations.{ScheduledOperations}
 use Rattle.operations.specs.declared.list.ScheduledOperations.the-variants as list
+use Rattle.operations.specs.declared.portion.Portion.{Portion}
+use Rattle.sched.specs.declared.schedule.Next.{Next}
 use Rattle.sched.specs.declared.schedule.NextOperation.{NextOperation}
 use Rattle.sched.specs.declared.schedule.NextOperation.the-variants as next
+use Rattle.sched.specs.declared.schedule.Scheduled.{Scheduled}
 use Rattle.sched.specs.declared.scheduler.RingBufferScheduler.{RingBufferScheduler}
 use Rattle.ends.specs.declared.reading_end.ReadCounter as ends-read
 use Rattle.ends.specs.declared.reading_end.ReadingEnd as ends-reading
@@ -67,6 +70,7 @@ use Rattle.flat.specs.declared.structs.RangesAnswer.{RangesAnswer}
 use Rattle.flat.specs.declared.structs.ReadCounterAnswer.{ReadCounterAnswer}
 use Rattle.flat.specs.declared.structs.ReadingEndAnswer.{ReadingEndAnswer}
 use Rattle.flat.specs.declared.structs.ReceiverAnswer.{ReceiverAnswer}
+use Rattle.flat.specs.declared.structs.ScheduleAnswer.{ScheduleAnswer}
 use Rattle.flat.specs.declared.structs.SchedulerAnswer.{SchedulerAnswer}
 use Rattle.flat.specs.declared.structs.StartsAnswer.{StartsAnswer}
 use Rattle.flat.specs.declared.structs.StateAnswer.{StateAnswer}
@@ -168,11 +172,22 @@ abbrev pub NextStands : NextAnswer → NextOperation → Type 0
 NextStands z next.None = (z .some ≡ 0) × NoOperation (z .operation)
 NextStands z (next.Some o) = (z .some ≡ 1) × OperationStands (z .operation) o
 
-abbrev pub NextSent : NextAnswer → Result NextOperation → Type 0
-NextSent z = Sent (z .refusal) (NextStands z) (NextStands z next.None) (nextAt z)
+abbrev pub NextSent : NextAnswer → Result Next → Type 0
+NextSent z =
+    Sent (z .refusal)
+    (λ x. NextStands z (x .operation) × (z .remainder ≡ x .remainder))
+    (NextStands z next.None × (z .remainder ≡ 0))
+    (record { operation = nextAt z; remainder = z .remainder })
 
 abbrev pub OperationsSent : OperationsAnswer → Result ScheduledOperations → Type 0
 OperationsSent z = Sent (z .refusal) (OperationsStands (z .operations)) (OperationsStands (z .operations) list.None) (operationsAt (z .operations))
+
+abbrev pub ScheduleSent : ScheduleAnswer → Result Scheduled → Type 0
+ScheduleSent z =
+    Sent (z .refusal)
+    (λ x. OperationsStands (z .operations) (x .operations) × (z .remainder ≡ x .remainder))
+    (OperationsStands (z .operations) list.None × (z .remainder ≡ 0))
+    (record { operations = operationsAt (z .operations); remainder = z .remainder })
 
 abbrev pub RangesSent : RangesAnswer → Result OutsideRanges → Type 0
 RangesSent z = Sent (z .refusal) (RangesStands (z .ranges)) (RangesStands (z .ranges) ranges.None) (rangesAt (z .ranges))
@@ -193,9 +208,21 @@ abbrev pub StartsSent : StartsAnswer → Result CumulativeOffsets → Type 0
 StartsSent z = Sent (z .refusal) (StartsStand z) (StartsStand z starts.None) (startsAt z)
 
 -- ---- of the copies and the ends
-abbrev pub CopySent : CopyAnswer → Result (RingBufferScheduler × ℕ) → Type 0
+abbrev pub portionAt : ℕ → ℕ → Portion
+portionAt n k = record { len = n; remainder = k }
+
+abbrev pub PortionStands : ℕ → ℕ → Portion → Type 0
+PortionStands n k p = (n ≡ p .len) × (k ≡ p .remainder)
+
+abbrev pub NoPortion : ℕ → ℕ → Type 0
+NoPortion n k = (n ≡ 0) × (k ≡ 0)
+
+abbrev pub CopySent : CopyAnswer → Result (RingBufferScheduler × Portion) → Type 0
 CopySent z =
-    Sent (z .refusal) (λ x. SchedulerStands (z .scheduler) (x .0) × (z .n ≡ x .1)) (NoScheduler (z .scheduler) × (z .n ≡ 0)) (schedulerAt (z .scheduler), z .n)
+    Sent (z .refusal)
+    (λ x. SchedulerStands (z .scheduler) (x .0) × PortionStands (z .n) (z .remainder) (x .1))
+    (NoScheduler (z .scheduler) × NoPortion (z .n) (z .remainder))
+    (schedulerAt (z .scheduler), portionAt (z .n) (z .remainder))
 
 abbrev pub WritingEndSent : WritingEndAnswer → Result ends-writing.WritingEnd → Type 0
 WritingEndSent z = Sent (z .refusal) (WritingEndStands (z .end)) (NoScheduler (z .end .scheduler)) (writingEndAt (z .end))
@@ -203,13 +230,19 @@ WritingEndSent z = Sent (z .refusal) (WritingEndStands (z .end)) (NoScheduler (z
 abbrev pub ReadingEndSent : ReadingEndAnswer → Result ends-reading.ReadingEnd → Type 0
 ReadingEndSent z = Sent (z .refusal) (ReadingEndStands (z .end)) (NoScheduler (z .end .scheduler)) (readingEndAt (z .end))
 
-abbrev pub WroteSent : WroteAnswer → Result (ends-writing.WritingEnd × ℕ) → Type 0
+abbrev pub WroteSent : WroteAnswer → Result (ends-writing.WritingEnd × Portion) → Type 0
 WroteSent z =
-    Sent (z .refusal) (λ x. WritingEndStands (z .end) (x .0) × (z .n ≡ x .1)) (NoScheduler (z .end .scheduler) × (z .n ≡ 0)) (writingEndAt (z .end), z .n)
+    Sent (z .refusal)
+    (λ x. WritingEndStands (z .end) (x .0) × PortionStands (z .n) (z .remainder) (x .1))
+    (NoScheduler (z .end .scheduler) × NoPortion (z .n) (z .remainder))
+    (writingEndAt (z .end), portionAt (z .n) (z .remainder))
 
-abbrev pub GotSent : GotAnswer → Result (ends-reading.ReadingEnd × ℕ) → Type 0
+abbrev pub GotSent : GotAnswer → Result (ends-reading.ReadingEnd × Portion) → Type 0
 GotSent z =
-    Sent (z .refusal) (λ x. ReadingEndStands (z .end) (x .0) × (z .n ≡ x .1)) (NoScheduler (z .end .scheduler) × (z .n ≡ 0)) (readingEndAt (z .end), z .n)
+    Sent (z .refusal)
+    (λ x. ReadingEndStands (z .end) (x .0) × PortionStands (z .n) (z .remainder) (x .1))
+    (NoScheduler (z .end .scheduler) × NoPortion (z .n) (z .remainder))
+    (readingEndAt (z .end), portionAt (z .n) (z .remainder))
 
 abbrev pub WrittenSent : WrittenCounterAnswer → Result ends-written.WrittenCounter → Type 0
 WrittenSent z = Sent (z .refusal) (WrittenCounterStands (z .counter)) (z .counter .counter ≡ 0) (writtenCounterAt (z .counter))

@@ -9,8 +9,8 @@ use Rattle.flat.specs.Flat.{noRefusal, flatCopyRefusal}
 use Rattle.flat.specs.Scheduler.{noScheduler, flatScheduler}
 
 abbrev pub flatCopied : Copied → CopyAnswer
-flatCopied (copied.Moved s m) = record { refusal = noRefusal; scheduler = flatScheduler s; n = m }
-flatCopied (copied.Refused e) = record { refusal = flatCopyRefusal e; scheduler = noScheduler; n = 0 }
+flatCopied (copied.Moved s p) = record { refusal = noRefusal; scheduler = flatScheduler s; n = p .len; remainder = p .remainder }
+flatCopied (copied.Refused e) = record { refusal = flatCopyRefusal e; scheduler = noScheduler; n = 0; remainder = 0 }
 
 pub record CopyAnswerLeft : Type 0 where
   pub answer : CopyAnswer

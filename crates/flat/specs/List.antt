@@ -15,6 +15,8 @@ use Rattle.operations.specs.declared.list.OutsideRangesAnswer.{OutsideRangesAns
 use Rattle.operations.specs.declared.list.OutsideRangesAnswer.the-variants as outsides
 use Rattle.operations.specs.declared.list.ScheduledOperations.{ScheduledOperations}
 use Rattle.operations.specs.declared.list.ScheduledOperations.the-variants.{None, One, Two}
+use Rattle.sched.specs.declared.schedule.ScheduledAnswer.{ScheduledAnswer}
+use Rattle.sched.specs.declared.schedule.ScheduledAnswer.the-variants as schedules
 use Rattle.flat.specs.declared.structs.Operation.{Operation}
 use Rattle.flat.specs.declared.structs.Operations.{Operations}
 use Rattle.flat.specs.declared.structs.OperationsAnswer.{OperationsAnswer}
@@ -22,6 +24,7 @@ use Rattle.flat.specs.declared.structs.Range.{Range}
 use Rattle.flat.specs.declared.structs.Ranges.{Ranges}
 use Rattle.flat.specs.declared.structs.RangesAnswer.{RangesAnswer}
 use Rattle.flat.specs.declared.structs.Refusal.{Refusal}
+use Rattle.flat.specs.declared.structs.ScheduleAnswer.{ScheduleAnswer}
 use Rattle.flat.specs.declared.structs.StartsAnswer.{StartsAnswer}
 use Rattle.flat.specs.Flat.{noRefusal, flatRefusal}
 use Rattle.flat.specs.Operation.{operationAt, noOperation, flatOperation}
@@ -44,6 +47,10 @@ flatOperations (Two x y) = operationsOf 2 (flatOperation x) (flatOperation y)
 abbrev pub flatOperationsAnswer : sched.OperationsAnswer → OperationsAnswer
 flatOperationsAnswer (operations.Of ops) = record { refusal = noRefusal; operations = flatOperations ops }
 flatOperationsAnswer (operations.Refused e) = record { refusal = flatRefusal e; operations = flatOperations None }
+
+abbrev pub flatSchedule : ScheduledAnswer → ScheduleAnswer
+flatSchedule (schedules.Of r) = record { refusal = noRefusal; operations = flatOperations (r .operations); remainder = r .remainder }
+flatSchedule (schedules.Refused e) = record { refusal = flatRefusal e; operations = flatOperations None; remainder = 0 }
 
 abbrev pub startsOf : Refusal → ℕ → ℕ → Operation → ℕ → Operation → StartsAnswer
 startsOf e n a x b y =

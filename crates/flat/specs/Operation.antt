@@ -2,6 +2,7 @@
 use Prim.Native.Nat.{ℕ}
 use mathlib.Core.Bool.{cond}
 use lib.Dec.{eqb}
+use Rattle.sched.specs.declared.schedule.NextOperation.{NextOperation}
 use Rattle.sched.specs.declared.schedule.NextOperation.the-variants as next
 use Rattle.sched.specs.declared.schedule.NextOperationAnswer.{NextOperationAnswer}
 use Rattle.sched.specs.declared.schedule.NextOperationAnswer.the-variants as nexts
@@ -27,7 +28,15 @@ noOperation = record { typ = 0; off = 0; len = 0 }
 abbrev pub flatOperation : ScheduledOperation → Operation
 flatOperation o = record { typ = typeNumber (o .typ); off = o .off .0; len = o .len }
 
+-- whether there is one, and it
+abbrev pub someIn : NextOperation → ℕ
+someIn (next.Some o) = 1
+someIn next.None = 0
+
+abbrev pub operationIn : NextOperation → Operation
+operationIn (next.Some o) = flatOperation o
+operationIn next.None = noOperation
+
 abbrev pub flatNext : NextOperationAnswer → NextAnswer
-flatNext (nexts.Of (next.Some o)) = record { refusal = noRefusal; some = 1; operation = flatOperation o }
-flatNext (nexts.Of next.None) = record { refusal = noRefusal; some = 0; operation = noOperation }
-flatNext (nexts.Refused e) = record { refusal = flatRefusal e; some = 0; operation = noOperation }
+flatNext (nexts.Of n) = record { refusal = noRefusal; some = someIn (n .operation); operation = operationIn (n .operation); remainder = n .remainder }
+flatNext (nexts.Refused e) = record { refusal = flatRefusal e; some = 0; operation = noOperation; remainder = 0 }

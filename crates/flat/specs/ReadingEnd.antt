@@ -40,8 +40,8 @@ flatReadCounter (counter.Of c) = record { refusal = noRefusal; counter = record 
 flatReadCounter (counter.Refused r) = record { refusal = flatEndRefusal r; counter = record { counter = 0 } }
 
 abbrev pub flatGot : Got → GotAnswer
-flatGot (got.Moved e m) = record { refusal = noRefusal; end = flatReadingEnd e; n = m }
-flatGot (got.Refused r) = record { refusal = flatEndRefusal r; end = noReadingEnd; n = 0 }
+flatGot (got.Moved e p) = record { refusal = noRefusal; end = flatReadingEnd e; n = p .len; remainder = p .remainder }
+flatGot (got.Refused r) = record { refusal = flatEndRefusal r; end = noReadingEnd; n = 0; remainder = 0 }
 
 pub record GotAnswerLeft : Type 0 where
   pub answer : GotAnswer

@@ -33,9 +33,13 @@ use Rattle.operations.specs.declared.list.OutsideRanges.{OutsideRanges}
 use Rattle.operations.specs.declared.list.OutsideRangesAnswer.the-variants as ranges
 use Rattle.operations.specs.declared.list.OutsideRangesAnswer.{OutsideRangesAnswer}
 use Rattle.operations.specs.declared.list.ScheduledOperations.{ScheduledOperations}
-use Rattle.sched.specs.declared.schedule.NextOperation.{NextOperation}
+use Rattle.sched.specs.declared.schedule.Next.{Next}
 use Rattle.sched.specs.declared.schedule.NextOperationAnswer.the-variants as next
 use Rattle.sched.specs.declared.schedule.NextOperationAnswer.{NextOperationAnswer}
+use Rattle.operations.specs.declared.portion.Portion.{Portion}
+use Rattle.sched.specs.declared.schedule.Scheduled.{Scheduled}
+use Rattle.sched.specs.declared.schedule.ScheduledAnswer.the-variants as schedules
+use Rattle.sched.specs.declared.schedule.ScheduledAnswer.{ScheduledAnswer}
 use Rattle.operations.specs.declared.refusal.Refusal as sched
 use Rattle.sched.specs.declared.scheduler.Checked.the-variants as checked
 use Rattle.sched.specs.declared.scheduler.Checked.{Checked}
@@ -142,13 +146,17 @@ abbrev pub blocksResult : BlocksAnswer → Result Blocks
 blocksResult (blocks.Of b) = value b
 blocksResult (blocks.Refused e) = byScheduler e
 
-abbrev pub nextResult : NextOperationAnswer → Result NextOperation
+abbrev pub nextResult : NextOperationAnswer → Result Next
 nextResult (next.Of o) = value o
 nextResult (next.Refused e) = byScheduler e
 
 abbrev pub operationsResult : OperationsAnswer → Result ScheduledOperations
 operationsResult (operations.Of ops) = value ops
 operationsResult (operations.Refused e) = byScheduler e
+
+abbrev pub scheduledResult : ScheduledAnswer → Result Scheduled
+scheduledResult (schedules.Of r) = value r
+scheduledResult (schedules.Refused e) = byScheduler e
 
 abbrev pub startsResult : CumulativeOffsetsAnswer → Result CumulativeOffsets
 startsResult (starts.Of ops) = value ops
@@ -158,17 +166,17 @@ abbrev pub rangesResult : OutsideRangesAnswer → Result OutsideRanges
 rangesResult (ranges.Of ops) = value ops
 rangesResult (ranges.Refused e) = byScheduler e
 
--- ---- of the copies and the ends; with a record, how many bytes were moved
-abbrev pub copiedResult : Copied → Result (RingBufferScheduler × ℕ)
-copiedResult (copied.Moved s n) = value (s, n)
+-- ---- of the copies and the ends; with a record, how many bytes were moved and how many left over
+abbrev pub copiedResult : Copied → Result (RingBufferScheduler × Portion)
+copiedResult (copied.Moved s p) = value (s, p)
 copiedResult (copied.Refused e) = byCopy e
 
 abbrev pub writingResult : WritingEndAnswer → Result WritingEnd
 writingResult (writing.Of e) = value e
 writingResult (writing.Refused e) = byEnd e
 
-abbrev pub wroteResult : Wrote → Result (WritingEnd × ℕ)
-wroteResult (wrote.Moved e n) = value (e, n)
+abbrev pub wroteResult : Wrote → Result (WritingEnd × Portion)
+wroteResult (wrote.Moved e p) = value (e, p)
 wroteResult (wrote.Refused e) = byEnd e
 
 abbrev pub writtenResult : WrittenCounterAnswer → Result WrittenCounter
@@ -179,8 +187,8 @@ abbrev pub readingResult : ReadingEndAnswer → Result ReadingEnd
 readingResult (reading.Of e) = value e
 readingResult (reading.Refused e) = byEnd e
 
-abbrev pub gotResult : Got → Result (ReadingEnd × ℕ)
-gotResult (got.Moved e n) = value (e, n)
+abbrev pub gotResult : Got → Result (ReadingEnd × Portion)
+gotResult (got.Moved e p) = value (e, p)
 gotResult (got.Refused e) = byEnd e
 
 abbrev pub readResult : ReadCounterAnswer → Result ReadCounter

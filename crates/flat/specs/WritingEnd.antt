@@ -40,8 +40,8 @@ flatWrittenCounter (counter.Of c) = record { refusal = noRefusal; counter = reco
 flatWrittenCounter (counter.Refused r) = record { refusal = flatEndRefusal r; counter = record { counter = 0 } }
 
 abbrev pub flatWrote : Wrote → WroteAnswer
-flatWrote (wrote.Moved e m) = record { refusal = noRefusal; end = flatWritingEnd e; n = m }
-flatWrote (wrote.Refused r) = record { refusal = flatEndRefusal r; end = noWritingEnd; n = 0 }
+flatWrote (wrote.Moved e p) = record { refusal = noRefusal; end = flatWritingEnd e; n = p .len; remainder = p .remainder }
+flatWrote (wrote.Refused r) = record { refusal = flatEndRefusal r; end = noWritingEnd; n = 0; remainder = 0 }
 
 pub record WroteAnswerLeft : Type 0 where
   pub answer : WroteAnswer

@@ -1,4 +1,4 @@
-// What a copy by value answers: the scheduler after it, and how many bytes were moved.
+// What a copy by value answers: the scheduler after it, how many bytes were moved and how many left over.
 ghost use mathlib.Core.Path.{_≡_};
 ghost use Rattle.flat.specs.Copy.{flatCopied};
 use crate::refusal::flat_copy_refusal;
@@ -13,15 +13,17 @@ pub fn flat_copied(a: Copied) -> CopyAnswer
     ensures { λ r. ⌜ r ≡ flatCopied a ⌝ }
 {
     match a {
-        Copied::Moved { scheduler, n } => CopyAnswer {
+        Copied::Moved { scheduler, portion } => CopyAnswer {
             refusal: no_refusal(),
             scheduler: flat_scheduler(scheduler),
-            n,
+            n: portion.len,
+            remainder: portion.remainder,
         },
         Copied::Refused(e) => CopyAnswer {
             refusal: flat_copy_refusal(e),
             scheduler: no_scheduler(),
             n: 0,
+            remainder: 0,
         },
     }
 }

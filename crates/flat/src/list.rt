@@ -1,6 +1,6 @@
 // The two-place list as a count and two operations, and back, and what the calls of a list answer.
 ghost use mathlib.Core.Path.{_≡_};
-ghost use Rattle.flat.specs.List.{operationsAt, flatOperations, flatOperationsAnswer, flatStarts, flatStartsAnswer, noRange, flatRange, flatRanges, flatRangesAnswer};
+ghost use Rattle.flat.specs.List.{operationsAt, flatOperations, flatOperationsAnswer, flatSchedule, flatStarts, flatStartsAnswer, noRange, flatRange, flatRanges, flatRangesAnswer};
 use crate::operation::flat_operation;
 use crate::operation::no_operation;
 use crate::operation::operation;
@@ -11,12 +11,14 @@ use crate::structs::OperationsAnswer;
 use crate::structs::Range;
 use crate::structs::Ranges;
 use crate::structs::RangesAnswer;
+use crate::structs::ScheduleAnswer;
 use crate::structs::StartsAnswer;
 use sched::CumulativeOffsets;
 use sched::CumulativeOffsetsAnswer;
 use sched::OutsideRange;
 use sched::OutsideRanges;
 use sched::OutsideRangesAnswer;
+use sched::ScheduledAnswer;
 use sched::ScheduledOperations;
 
 pub fn operations(list: Operations) -> ScheduledOperations
@@ -66,6 +68,26 @@ pub fn flat_operations_answer(a: sched::OperationsAnswer) -> OperationsAnswer
         sched::OperationsAnswer::Refused(e) => OperationsAnswer {
             refusal: flat_refusal(e),
             operations: flat_operations(ScheduledOperations::None),
+        },
+    }
+}
+
+pub fn flat_schedule(a: ScheduledAnswer) -> ScheduleAnswer
+    ensures { λ r. ⌜ r ≡ flatSchedule a ⌝ }
+{
+    match a {
+        ScheduledAnswer::Of(scheduled) => {
+            let list = scheduled.operations;
+            ScheduleAnswer {
+                refusal: no_refusal(),
+                operations: flat_operations(list),
+                remainder: scheduled.remainder,
+            }
+        }
+        ScheduledAnswer::Refused(e) => ScheduleAnswer {
+            refusal: flat_refusal(e),
+            operations: flat_operations(ScheduledOperations::None),
+            remainder: 0,
         },
     }
 }

@@ -51,22 +51,28 @@ pub fn flat_next(a: NextOperationAnswer) -> NextAnswer
     ensures { λ r. ⌜ r ≡ flatNext a ⌝ }
 {
     match a {
-        NextOperationAnswer::Of(next) => match next {
-            NextOperation::Some(o) => NextAnswer {
-                refusal: no_refusal(),
-                some: 1,
-                operation: flat_operation(o),
-            },
-            NextOperation::None => NextAnswer {
-                refusal: no_refusal(),
-                some: 0,
-                operation: no_operation(),
-            },
-        },
+        NextOperationAnswer::Of(next) => {
+            let operation = next.operation;
+            match operation {
+                NextOperation::Some(o) => NextAnswer {
+                    refusal: no_refusal(),
+                    some: 1,
+                    operation: flat_operation(o),
+                    remainder: next.remainder,
+                },
+                NextOperation::None => NextAnswer {
+                    refusal: no_refusal(),
+                    some: 0,
+                    operation: no_operation(),
+                    remainder: next.remainder,
+                },
+            }
+        }
         NextOperationAnswer::Refused(e) => NextAnswer {
             refusal: flat_refusal(e),
             some: 0,
             operation: no_operation(),
+            remainder: 0,
         },
     }
 }

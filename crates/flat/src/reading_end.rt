@@ -65,15 +65,17 @@ pub fn flat_got(a: Got) -> GotAnswer
     ensures { λ r. ⌜ r ≡ flatGot a ⌝ }
 {
     match a {
-        Got::Moved { end, n } => GotAnswer {
+        Got::Moved { end, portion } => GotAnswer {
             refusal: no_refusal(),
             end: flat_reading_end(end),
-            n,
+            n: portion.len,
+            remainder: portion.remainder,
         },
         Got::Refused(e) => GotAnswer {
             refusal: flat_end_refusal(e),
             end: no_reading_end(),
             n: 0,
+            remainder: 0,
         },
     }
 }

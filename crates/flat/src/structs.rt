@@ -176,12 +176,21 @@ pub struct BlocksAnswer {
     pub block_2: Block,
 }
 
-// An operation where `some` is 1; none where it is 0.
+// An operation where `some` is 1; none where it is 0. What was asked is its length, 0 for none, and the remainder.
 #[repr(C)]
 pub struct NextAnswer {
     pub refusal: Refusal,
     pub some: u64,
     pub operation: Operation,
+    pub remainder: u64,
+}
+
+// What was asked is the sum of the lengths and the remainder.
+#[repr(C)]
+pub struct ScheduleAnswer {
+    pub refusal: Refusal,
+    pub operations: Operations,
+    pub remainder: u64,
 }
 
 #[repr(C)]
@@ -207,12 +216,13 @@ pub struct StartsAnswer {
     pub second: Operation,
 }
 
-// The scheduler after a copy, and how many bytes were moved.
+// The scheduler after a copy, how many bytes were moved, and how many of those asked were left over.
 #[repr(C)]
 pub struct CopyAnswer {
     pub refusal: Refusal,
     pub scheduler: Scheduler,
     pub n: u64,
+    pub remainder: u64,
 }
 
 #[repr(C)]
@@ -232,6 +242,7 @@ pub struct WroteAnswer {
     pub refusal: Refusal,
     pub end: WritingEnd,
     pub n: u64,
+    pub remainder: u64,
 }
 
 #[repr(C)]
@@ -239,6 +250,7 @@ pub struct GotAnswer {
     pub refusal: Refusal,
     pub end: ReadingEnd,
     pub n: u64,
+    pub remainder: u64,
 }
 
 // What a copy in place answers: the end after it is in the host's struct.
@@ -246,6 +258,7 @@ pub struct GotAnswer {
 pub struct MovedAnswer {
     pub refusal: Refusal,
     pub n: u64,
+    pub remainder: u64,
 }
 
 #[repr(C)]

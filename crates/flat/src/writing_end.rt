@@ -65,15 +65,17 @@ pub fn flat_wrote(a: Wrote) -> WroteAnswer
     ensures { λ r. ⌜ r ≡ flatWrote a ⌝ }
 {
     match a {
-        Wrote::Moved { end, n } => WroteAnswer {
+        Wrote::Moved { end, portion } => WroteAnswer {
             refusal: no_refusal(),
             end: flat_writing_end(end),
-            n,
+            n: portion.len,
+            remainder: portion.remainder,
         },
         Wrote::Refused(e) => WroteAnswer {
             refusal: flat_end_refusal(e),
             end: no_writing_end(),
             n: 0,
+            remainder: 0,
         },
     }
 }

@@ -30,7 +30,8 @@ use Rattle.sched.specs.declared.block.BlocksAnswer.{BlocksAnswer}
 use Rattle.sched.specs.declared.block.BlocksAnswer.the-variants as blocks
 use Rattle.sched.specs.declared.schedule.NextOperationAnswer.{NextOperationAnswer}
 use Rattle.sched.specs.declared.schedule.NextOperationAnswer.the-variants as next
-use Rattle.sched.specs.declared.schedule.NextOperation.the-variants as operation
+use Rattle.sched.specs.declared.schedule.ScheduledAnswer.{ScheduledAnswer}
+use Rattle.sched.specs.declared.schedule.ScheduledAnswer.the-variants as schedules
 use Rattle.operations.specs.declared.list.OperationsAnswer.{OperationsAnswer}
 use Rattle.operations.specs.declared.list.OperationsAnswer.the-variants as operations
 use Rattle.operations.specs.declared.list.CumulativeOffsetsAnswer.{CumulativeOffsetsAnswer}
@@ -82,7 +83,7 @@ use Rattle.flat.specs.Failure.{flatFailureAnswer, flatPotentialFailure}
 use Rattle.flat.specs.Flat.{noRefusal, flatReceiverRefusal}
 use Rattle.stripring.specs.Given.{GivenAt, GivenStored, fits, given-12-stored}
 use Rattle.stripring.specs.GivenRun.{ofEnded}
-use Rattle.flat.specs.List.{flatOperationsAnswer, flatStartsAnswer, flatRangesAnswer}
+use Rattle.flat.specs.List.{flatOperationsAnswer, flatSchedule, flatStartsAnswer, flatRangesAnswer}
 use Rattle.flat.specs.Operation.{flatNext}
 use Rattle.flat.specs.ReadingEnd.{flatReadingEndAnswer, flatGot, flatReadCounter}
 use Rattle.flat.specs.Receiver.{flatReceiverAnswer, flatEnded}
@@ -150,9 +151,12 @@ module _ {G : ℕ → List ℕ → Type 0} where
   blocks-given (blocks.Refused e) g = given-so _ (verdict.refused e) (scheduler-refusal e) g
 
   pub next-given : (x : NextOperationAnswer) → verdict.Exactly G (sched.ofNext x) → GivenAt G (flatNext x .refusal)
-  next-given (next.Of (operation.Some o)) g = given-so _ (sched.ofNext (next.Of (operation.Some o))) accepted g
-  next-given (next.Of operation.None) g = given-so _ (sched.ofNext (next.Of operation.None)) accepted g
+  next-given (next.Of n) g = given-so _ (sched.ofNext (next.Of n)) accepted g
   next-given (next.Refused e) g = given-so _ (verdict.refused e) (scheduler-refusal e) g
+
+  pub schedule-given : (x : ScheduledAnswer) → verdict.Exactly G (sched.ofScheduled x) → GivenAt G (flatSchedule x .refusal)
+  schedule-given (schedules.Of r) g = given-so _ (sched.ofScheduled (schedules.Of r)) accepted g
+  schedule-given (schedules.Refused e) g = given-so _ (verdict.refused e) (scheduler-refusal e) g
 
   pub operations-given : (x : OperationsAnswer) → verdict.Exactly G (verdict.ofOperations x) → GivenAt G (flatOperationsAnswer x .refusal)
   operations-given (operations.Of ops) g = given-so _ (verdict.ofOperations (operations.Of ops)) accepted g
@@ -170,7 +174,7 @@ module _ {G : ℕ → List ℕ → Type 0} where
 
   -- ---- of the copies and the ends
   pub copied-given : (x : Copied) → Exactly G (ofCopied x) → GivenAt G (flatCopied x .refusal)
-  copied-given (copied.Moved s n) g = given-to _ (ofCopied (copied.Moved s n)) accepted g
+  copied-given (copied.Moved s p) g = given-to _ (ofCopied (copied.Moved s p)) accepted g
   copied-given (copied.Refused e) g = given-to _ (ofCopied (copied.Refused e)) (copy-refusal e) g
 
   pub writing-given : (x : WritingEndAnswer) → Exactly G (ofWritingEnd x) → GivenAt G (flatWritingEndAnswer x .refusal)
@@ -178,7 +182,7 @@ module _ {G : ℕ → List ℕ → Type 0} where
   writing-given (writing.Refused e) g = given-to _ (ofWritingEnd (writing.Refused e)) (end-refusal e) g
 
   pub wrote-given : (x : Wrote) → Exactly G (ofWrote x) → GivenAt G (flatWrote x .refusal)
-  wrote-given (wrote.Moved e n) g = given-to _ (ofWrote (wrote.Moved e n)) accepted g
+  wrote-given (wrote.Moved e p) g = given-to _ (ofWrote (wrote.Moved e p)) accepted g
   wrote-given (wrote.Refused e) g = given-to _ (ofWrote (wrote.Refused e)) (end-refusal e) g
 
   pub written-given : (x : WrittenCounterAnswer) → Exactly G (ofWritten x) → GivenAt G (flatWrittenCounter x .refusal)
@@ -190,7 +194,7 @@ module _ {G : ℕ → List ℕ → Type 0} where
   reading-given (reading.Refused e) g = given-to _ (ofReadingEnd (reading.Refused e)) (end-refusal e) g
 
   pub got-given : (x : Got) → Exactly G (ofGot x) → GivenAt G (flatGot x .refusal)
-  got-given (got.Moved e n) g = given-to _ (ofGot (got.Moved e n)) accepted g
+  got-given (got.Moved e p) g = given-to _ (ofGot (got.Moved e p)) accepted g
   got-given (got.Refused e) g = given-to _ (ofGot (got.Refused e)) (end-refusal e) g
 
   pub read-given : (x : ReadCounterAnswer) → Exactly G (ofRead x) → GivenAt G (flatReadCounter x .refusal)

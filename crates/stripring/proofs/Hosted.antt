@@ -108,11 +108,11 @@ refused-back : {A : Type 0} (e : ends.Refusal) (x : A) (refused : ends.Refusal �
 refused-back e x refused = rw (ne-eqb (numberOf e) 0 (λ q. omega (arith, end-refusal-some e)), end-refusal-back e)
 
 wrote-back : (x : Wrote) → wroteAt (flatWrote x) ≡ x
-wrote-back (wrote.Moved e n) = refl
+wrote-back (wrote.Moved e p) = refl
 wrote-back (wrote.Refused e) = refused-back e _ wrote.Refused
 
 got-back : (x : Got) → gotAt (flatGot x) ≡ x
-got-back (got.Moved e n) = refl
+got-back (got.Moved e p) = refl
 got-back (got.Refused e) = refused-back e _ got.Refused
 
 written-back : (x : ends-written-answer.WrittenCounterAnswer) → writtenAt (flatWrittenCounter x) ≡ x

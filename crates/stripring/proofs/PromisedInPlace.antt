@@ -45,9 +45,9 @@ refused (Copy copies.RingMemory) z = absurd (omega arith)
 refused RanBack z = absurd (omega arith)
 
 -- ---- the writing end, by the two cases of the answer
-as-wrote : (e : WritingEnd) (z : Wrote) (r : MovedAnswer) (after : WritingEnd) → r ≡ movedWrote z → after ≡ writerAfter e z → AsByValue e (flatWrote z .refusal) (flatWrote z .end) (r .refusal) after × (r .n ≡ flatWrote z .n)
-as-wrote e (wrote.Moved f n) r after p q = (record { same = ap (λ (x : MovedAnswer). x .refusal) p; stored = λ z. q; kept = λ l. absurd (omega (arith, l)) }, ap (λ (x : MovedAnswer). x .n) p)
-as-wrote e (wrote.Refused x) r after p q = (record { same = ap (λ (y : MovedAnswer). y .refusal) p; stored = λ z. refused x z; kept = λ l. q }, ap (λ (y : MovedAnswer). y .n) p)
+as-wrote : (e : WritingEnd) (z : Wrote) (r : MovedAnswer) (after : WritingEnd) → r ≡ movedWrote z → after ≡ writerAfter e z → AsByValue e (flatWrote z .refusal) (flatWrote z .end) (r .refusal) after × (r .n ≡ flatWrote z .n) × (r .remainder ≡ flatWrote z .remainder)
+as-wrote e (wrote.Moved f m) r after p q = (record { same = ap (λ (x : MovedAnswer). x .refusal) p; stored = λ z. q; kept = λ l. absurd (omega (arith, l)) }, ap (λ (x : MovedAnswer). x .n) p, ap (λ (x : MovedAnswer). x .remainder) p)
+as-wrote e (wrote.Refused x) r after p q = (record { same = ap (λ (y : MovedAnswer). y .refusal) p; stored = λ z. refused x z; kept = λ l. q }, ap (λ (y : MovedAnswer). y .n) p, ap (λ (y : MovedAnswer). y .remainder) p)
 
 as-writer-took : (e : WritingEnd) (z : ends-writing.WritingEndAnswer) (r : Refusal) (after : WritingEnd) → r ≡ writerRefusal z → after ≡ writerTook e z → AsByValue e (flatWritingEndAnswer z .refusal) (flatWritingEndAnswer z .end) r after
 as-writer-took e (writing.Of f) r after p q = record { same = p; stored = λ z. q; kept = λ l. absurd (omega (arith, l)) }
@@ -55,7 +55,7 @@ as-writer-took e (writing.Refused x) r after p q = record { same = p; stored = �
 
 pub writing-end-write-in-place-promised : KeepsLeft 2 write-kinds.ps write-kinds.r write.Learnt
     (λ κs a z ws. (r : MovedAnswer) (after : WritingEnd) (memory : List ℕ) → WriteInPlace (a .0) (a .1 .0 .now) (a .1 .1 .0 .now) r after memory →
-    (AsByValue (a .0) (z .refusal) (z .end) (r .refusal) after × (r .n ≡ z .n)) × (memory ≡ ws .1 .0))
+    (AsByValue (a .0) (z .refusal) (z .end) (r .refusal) after × (r .n ≡ z .n) × (r .remainder ≡ z .remainder)) × (memory ≡ ws .1 .0))
 writing-end-write-in-place-promised κs a z ws p r after memory l =
     let q = writing-end-write-says κs a z ws p in
     let m = writing-end-write-in-place-says (a .0) (a .1 .0 .now) (a .1 .1 .0 .now) r after memory l in
@@ -67,9 +67,9 @@ writing-end-take-in-place-promised κs a z (ws, p) r after l =
     rw (writing-end-take-says κs a z ws p) (as-writer-took (a .0) (takeReadOf (writingEndAt (a .0)) (readCounterAt (a .1 .0))) r after (m .0) (m .1))
 
 -- ---- the reading end, by the two cases of the answer
-as-got : (e : ReadingEnd) (z : Got) (r : MovedAnswer) (after : ReadingEnd) → r ≡ movedGot z → after ≡ readerAfter e z → AsByValue e (flatGot z .refusal) (flatGot z .end) (r .refusal) after × (r .n ≡ flatGot z .n)
-as-got e (got.Moved f n) r after p q = (record { same = ap (λ (x : MovedAnswer). x .refusal) p; stored = λ z. q; kept = λ l. absurd (omega (arith, l)) }, ap (λ (x : MovedAnswer). x .n) p)
-as-got e (got.Refused x) r after p q = (record { same = ap (λ (y : MovedAnswer). y .refusal) p; stored = λ z. refused x z; kept = λ l. q }, ap (λ (y : MovedAnswer). y .n) p)
+as-got : (e : ReadingEnd) (z : Got) (r : MovedAnswer) (after : ReadingEnd) → r ≡ movedGot z → after ≡ readerAfter e z → AsByValue e (flatGot z .refusal) (flatGot z .end) (r .refusal) after × (r .n ≡ flatGot z .n) × (r .remainder ≡ flatGot z .remainder)
+as-got e (got.Moved f m) r after p q = (record { same = ap (λ (x : MovedAnswer). x .refusal) p; stored = λ z. q; kept = λ l. absurd (omega (arith, l)) }, ap (λ (x : MovedAnswer). x .n) p, ap (λ (x : MovedAnswer). x .remainder) p)
+as-got e (got.Refused x) r after p q = (record { same = ap (λ (y : MovedAnswer). y .refusal) p; stored = λ z. refused x z; kept = λ l. q }, ap (λ (y : MovedAnswer). y .n) p, ap (λ (y : MovedAnswer). y .remainder) p)
 
 as-reader-took : (e : ReadingEnd) (z : ends-reading.ReadingEndAnswer) (r : Refusal) (after : ReadingEnd) → r ≡ readerRefusal z → after ≡ readerTook e z → AsByValue e (flatReadingEndAnswer z .refusal) (flatReadingEndAnswer z .end) r after
 as-reader-took e (reading.Of f) r after p q = record { same = p; stored = λ z. q; kept = λ l. absurd (omega (arith, l)) }
@@ -77,7 +77,7 @@ as-reader-took e (reading.Refused x) r after p q = record { same = p; stored = �
 
 pub reading-end-read-in-place-promised : KeepsLeft 2 read-kinds.ps read-kinds.r read.Learnt
     (λ κs a z ws. (r : MovedAnswer) (after : ReadingEnd) (memory : List ℕ) → ReadInPlace (a .0) (a .1 .0 .now) (a .1 .1 .0 .now) r after memory →
-    (AsByValue (a .0) (z .refusal) (z .end) (r .refusal) after × (r .n ≡ z .n)) × (memory ≡ ws .1 .1 .0))
+    (AsByValue (a .0) (z .refusal) (z .end) (r .refusal) after × (r .n ≡ z .n) × (r .remainder ≡ z .remainder)) × (memory ≡ ws .1 .1 .0))
 reading-end-read-in-place-promised κs a z ws p r after memory l =
     let q = reading-end-read-says κs a z ws p in
     let m = reading-end-read-in-place-says (a .0) (a .1 .0 .now) (a .1 .1 .0 .now) r after memory l in

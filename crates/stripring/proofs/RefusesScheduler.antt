@@ -13,7 +13,7 @@ use Rattle.flat.specs.List.{operationsAt}
 use Rattle.flat.specs.Operation.{operationAt, typeAt}
 use Rattle.flat.specs.Scheduler.{schedulerAt}
 use Rattle.stripring.specs.Given.{GivenAt}
-use Rattle.stripring.proofs.GivenLaws.{checked-given, registered-given, counter-given, offset-given, amount-given, bool-given, fill-given, layout-given, blocks-given, block-given, next-given, operations-given, starts-given, ranges-given}
+use Rattle.stripring.proofs.GivenLaws.{checked-given, registered-given, counter-given, offset-given, amount-given, bool-given, fill-given, layout-given, blocks-given, block-given, next-given, schedule-given, operations-given, starts-given, ranges-given}
 use Rattle.stripring.proofs.SaysScheduler.{try-new-says, try-from-counters-says, demand-soundness-says, try-register-read-says, try-register-write-says, try-register-operation-manually-says, try-register-operation-says, try-register-operations-says, items-read-says, items-written-says, operation-counter-says, read-off-says, write-off-says, operation-offset-says, buf-len-says, is-zero-sized-says, data-avail-says, space-avail-says, max-operation-len-says, fill-state-says, is-empty-says, is-full-says, is-nonempty-says, is-nonfull-says, layout-says, blocks-says, block-0-says, block-1-says, block-2-says, block-0-off-says, block-1-off-says, block-2-off-says, block-0-len-says, block-1-len-says, block-2-len-says, next-operation-block-says, next-read-block-says, next-write-block-says, schedule-next-contiguous-operation-says, schedule-next-read-says, schedule-next-write-says, schedule-contiguous-operations-says, schedule-reads-says, schedule-writes-says}
 use Rattle.stripring.proofs.SaysValues.{operations-try-new-says, operations-container-says, operations-into-container-says, operations-cumulative-operation-length-says, operations-with-cumulative-offset-says, operations-with-outside-buffer-range-says}
 use Rattle.stripring.proofs.scheduler.stripring_scheduler_try_new.Kinds as try-new-kinds
@@ -247,13 +247,13 @@ pub schedule-next-write-refuses : Keeps 0 schedule-next-write-kinds.ps schedule-
 schedule-next-write-refuses κs a z (ws, p) = rw (schedule-next-write-says κs a z ws p) (next-given (nextOf (schedulerAt (a .0)) Write (a .1 .0)) (refuses.schedule-next-write-refuses tt (schedulerAt (a .0), (a .1 .0, tt)) (nextOf (schedulerAt (a .0)) Write (a .1 .0)) ((tt, (tt, tt)), refl)))
 
 pub schedule-contiguous-operations-refuses : Keeps 0 schedule-contiguous-operations-kinds.ps schedule-contiguous-operations-kinds.r schedule-contiguous-operations.Learnt (λ κs a z. GivenAt (Given (schedulerAt (a .0))) (z .refusal))
-schedule-contiguous-operations-refuses κs a z (ws, p) = rw (schedule-contiguous-operations-says κs a z ws p) (operations-given (scheduleOf (schedulerAt (a .0)) (typeAt (a .1 .0)) (a .1 .1 .0)) (refuses.schedule-contiguous-operations-refuses tt (schedulerAt (a .0), (typeAt (a .1 .0), (a .1 .1 .0, tt))) (scheduleOf (schedulerAt (a .0)) (typeAt (a .1 .0)) (a .1 .1 .0)) ((tt, (tt, (tt, tt))), refl)))
+schedule-contiguous-operations-refuses κs a z (ws, p) = rw (schedule-contiguous-operations-says κs a z ws p) (schedule-given (scheduleOf (schedulerAt (a .0)) (typeAt (a .1 .0)) (a .1 .1 .0)) (refuses.schedule-contiguous-operations-refuses tt (schedulerAt (a .0), (typeAt (a .1 .0), (a .1 .1 .0, tt))) (scheduleOf (schedulerAt (a .0)) (typeAt (a .1 .0)) (a .1 .1 .0)) ((tt, (tt, (tt, tt))), refl)))
 
 pub schedule-reads-refuses : Keeps 0 schedule-reads-kinds.ps schedule-reads-kinds.r schedule-reads.Learnt (λ κs a z. GivenAt (Given (schedulerAt (a .0))) (z .refusal))
-schedule-reads-refuses κs a z (ws, p) = rw (schedule-reads-says κs a z ws p) (operations-given (scheduleOf (schedulerAt (a .0)) Read (a .1 .0)) (refuses.schedule-reads-refuses tt (schedulerAt (a .0), (a .1 .0, tt)) (scheduleOf (schedulerAt (a .0)) Read (a .1 .0)) ((tt, (tt, tt)), refl)))
+schedule-reads-refuses κs a z (ws, p) = rw (schedule-reads-says κs a z ws p) (schedule-given (scheduleOf (schedulerAt (a .0)) Read (a .1 .0)) (refuses.schedule-reads-refuses tt (schedulerAt (a .0), (a .1 .0, tt)) (scheduleOf (schedulerAt (a .0)) Read (a .1 .0)) ((tt, (tt, tt)), refl)))
 
 pub schedule-writes-refuses : Keeps 0 schedule-writes-kinds.ps schedule-writes-kinds.r schedule-writes.Learnt (λ κs a z. GivenAt (Given (schedulerAt (a .0))) (z .refusal))
-schedule-writes-refuses κs a z (ws, p) = rw (schedule-writes-says κs a z ws p) (operations-given (scheduleOf (schedulerAt (a .0)) Write (a .1 .0)) (refuses.schedule-writes-refuses tt (schedulerAt (a .0), (a .1 .0, tt)) (scheduleOf (schedulerAt (a .0)) Write (a .1 .0)) ((tt, (tt, tt)), refl)))
+schedule-writes-refuses κs a z (ws, p) = rw (schedule-writes-says κs a z ws p) (schedule-given (scheduleOf (schedulerAt (a .0)) Write (a .1 .0)) (refuses.schedule-writes-refuses tt (schedulerAt (a .0), (a .1 .0, tt)) (scheduleOf (schedulerAt (a .0)) Write (a .1 .0)) ((tt, (tt, tt)), refl)))
 
 -- ---- lists
 pub operations-try-new-refuses : Keeps 0 operations-try-new-kinds.ps operations-try-new-kinds.r operations-try-new.Learnt (λ κs a z. GivenAt (GivenList (operationsAt (a .0))) (z .refusal))

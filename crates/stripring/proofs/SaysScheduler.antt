@@ -4,7 +4,7 @@ use Rattle.operations.specs.declared.operation.OperationType.the-variants.{Read
 use Rattle.sched.specs.Scheduler.{block0From, block1From, block2From, blocksOf, bufLenOf, counterAnswerOf, fillStateOf, greatestOf, isPositiveFrom, isZeroFrom, layoutOf, lenFrom, nextBlockOf, nextOf, offFrom, offsetAnswerOf, registerListOf, registerOf, scheduleOf, schedulerOf, soundOf}
 use Rattle.flat.specs.Block.{flatBlockAnswer, flatBlocks, flatFillState, flatLayout}
 use Rattle.flat.specs.Counter.{flatAmount, flatBool, flatCounter, flatOffset}
-use Rattle.flat.specs.List.{flatOperationsAnswer, operationsAt}
+use Rattle.flat.specs.List.{flatSchedule, operationsAt}
 use Rattle.flat.specs.Operation.{flatNext, operationAt, typeAt}
 use Rattle.flat.specs.Scheduler.{flatChecked, flatRegistered, maxBufLen, schedulerAt}
 use Rattle.stripring.proofs.scheduler.stripring_scheduler_max_buf_len.Kinds as max-buf-len-kinds
@@ -230,11 +230,11 @@ schedule-next-read-says κs a z ws p = p
 pub schedule-next-write-says : Says 0 schedule-next-write-kinds.ps schedule-next-write-kinds.r schedule-next-write.Learnt (λ κs a. flatNext (nextOf (schedulerAt (a .0)) Write (a .1 .0)))
 schedule-next-write-says κs a z ws p = p
 
-pub schedule-contiguous-operations-says : Says 0 schedule-contiguous-operations-kinds.ps schedule-contiguous-operations-kinds.r schedule-contiguous-operations.Learnt (λ κs a. flatOperationsAnswer (scheduleOf (schedulerAt (a .0)) (typeAt (a .1 .0)) (a .1 .1 .0)))
+pub schedule-contiguous-operations-says : Says 0 schedule-contiguous-operations-kinds.ps schedule-contiguous-operations-kinds.r schedule-contiguous-operations.Learnt (λ κs a. flatSchedule (scheduleOf (schedulerAt (a .0)) (typeAt (a .1 .0)) (a .1 .1 .0)))
 schedule-contiguous-operations-says κs a z ws p = p
 
-pub schedule-reads-says : Says 0 schedule-reads-kinds.ps schedule-reads-kinds.r schedule-reads.Learnt (λ κs a. flatOperationsAnswer (scheduleOf (schedulerAt (a .0)) Read (a .1 .0)))
+pub schedule-reads-says : Says 0 schedule-reads-kinds.ps schedule-reads-kinds.r schedule-reads.Learnt (λ κs a. flatSchedule (scheduleOf (schedulerAt (a .0)) Read (a .1 .0)))
 schedule-reads-says κs a z ws p = p
 
-pub schedule-writes-says : Says 0 schedule-writes-kinds.ps schedule-writes-kinds.r schedule-writes.Learnt (λ κs a. flatOperationsAnswer (scheduleOf (schedulerAt (a .0)) Write (a .1 .0)))
+pub schedule-writes-says : Says 0 schedule-writes-kinds.ps schedule-writes-kinds.r schedule-writes.Learnt (λ κs a. flatSchedule (scheduleOf (schedulerAt (a .0)) Write (a .1 .0)))
 schedule-writes-says κs a z ws p = p

@@ -3,7 +3,7 @@ use mathlib.Core.Path.{sym, ap, _∙_}
 use Rattle.flat.specs.Block.{bitAt, blockTypeAt, flatBlock, flatBlockAnswer, flatBlocks, flatLayout}
 use Rattle.flat.specs.Counter.{flatAmount, flatOffset}
 use Rattle.flat.specs.Diff.{diffAt, flatDiff}
-use Rattle.flat.specs.List.{flatOperationsAnswer, flatRangesAnswer, flatStartsAnswer, operationsAt}
+use Rattle.flat.specs.List.{flatOperationsAnswer, flatSchedule, flatRangesAnswer, flatStartsAnswer, operationsAt}
 use Rattle.flat.specs.Operation.{flatNext, flatOperation, typeAt}
 use Rattle.flat.specs.Scheduler.{schedulerAt}
 use Rattle.stripring.proofs.Thin.{Thin}
@@ -195,14 +195,14 @@ schedule-next-read-thin κs a z (ws, p) x (us, q) = p ∙ ap flatNext (sym q)
 pub schedule-next-write-thin : Thin 0 schedule-next-write-kinds.ps schedule-next-write-kinds.r schedule-next-write.Learnt lib-schedule-next-write-kinds.ps lib-schedule-next-write-kinds.r lib-schedule-next-write.Learnt (λ κs a. (schedulerAt (a .0), (a .1 .0, tt))) (λ κs x. flatNext x)
 schedule-next-write-thin κs a z (ws, p) x (us, q) = p ∙ ap flatNext (sym q)
 
-pub schedule-contiguous-operations-thin : Thin 0 schedule-contiguous-operations-kinds.ps schedule-contiguous-operations-kinds.r schedule-contiguous-operations.Learnt lib-schedule-contiguous-operations-kinds.ps lib-schedule-contiguous-operations-kinds.r lib-schedule-contiguous-operations.Learnt (λ κs a. (schedulerAt (a .0), (typeAt (a .1 .0), (a .1 .1 .0, tt)))) (λ κs x. flatOperationsAnswer x)
-schedule-contiguous-operations-thin κs a z (ws, p) x (us, q) = p ∙ ap flatOperationsAnswer (sym q)
+pub schedule-contiguous-operations-thin : Thin 0 schedule-contiguous-operations-kinds.ps schedule-contiguous-operations-kinds.r schedule-contiguous-operations.Learnt lib-schedule-contiguous-operations-kinds.ps lib-schedule-contiguous-operations-kinds.r lib-schedule-contiguous-operations.Learnt (λ κs a. (schedulerAt (a .0), (typeAt (a .1 .0), (a .1 .1 .0, tt)))) (λ κs x. flatSchedule x)
+schedule-contiguous-operations-thin κs a z (ws, p) x (us, q) = p ∙ ap flatSchedule (sym q)
 
-pub schedule-reads-thin : Thin 0 schedule-reads-kinds.ps schedule-reads-kinds.r schedule-reads.Learnt lib-schedule-reads-kinds.ps lib-schedule-reads-kinds.r lib-schedule-reads.Learnt (λ κs a. (schedulerAt (a .0), (a .1 .0, tt))) (λ κs x. flatOperationsAnswer x)
-schedule-reads-thin κs a z (ws, p) x (us, q) = p ∙ ap flatOperationsAnswer (sym q)
+pub schedule-reads-thin : Thin 0 schedule-reads-kinds.ps schedule-reads-kinds.r schedule-reads.Learnt lib-schedule-reads-kinds.ps lib-schedule-reads-kinds.r lib-schedule-reads.Learnt (λ κs a. (schedulerAt (a .0), (a .1 .0, tt))) (λ κs x. flatSchedule x)
+schedule-reads-thin κs a z (ws, p) x (us, q) = p ∙ ap flatSchedule (sym q)
 
-pub schedule-writes-thin : Thin 0 schedule-writes-kinds.ps schedule-writes-kinds.r schedule-writes.Learnt lib-schedule-writes-kinds.ps lib-schedule-writes-kinds.r lib-schedule-writes.Learnt (λ κs a. (schedulerAt (a .0), (a .1 .0, tt))) (λ κs x. flatOperationsAnswer x)
-schedule-writes-thin κs a z (ws, p) x (us, q) = p ∙ ap flatOperationsAnswer (sym q)
+pub schedule-writes-thin : Thin 0 schedule-writes-kinds.ps schedule-writes-kinds.r schedule-writes.Learnt lib-schedule-writes-kinds.ps lib-schedule-writes-kinds.r lib-schedule-writes.Learnt (λ κs a. (schedulerAt (a .0), (a .1 .0, tt))) (λ κs x. flatSchedule x)
+schedule-writes-thin κs a z (ws, p) x (us, q) = p ∙ ap flatSchedule (sym q)
 
 pub operations-try-new-thin : Thin 0 operations-try-new-kinds.ps operations-try-new-kinds.r operations-try-new.Learnt lib-operations-try-new-kinds.ps lib-operations-try-new-kinds.r lib-operations-try-new.Learnt (λ κs a. (operationsAt (a .0), tt)) (λ κs x. flatOperationsAnswer x)
 operations-try-new-thin κs a z (ws, p) x (us, q) = p ∙ ap flatOperationsAnswer (sym q)

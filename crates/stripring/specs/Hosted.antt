@@ -22,6 +22,7 @@ use Rattle.ends.specs.declared.writing_end.Wrote.the-variants as wrote
 use Rattle.ends.specs.declared.writing_end.WrittenCounter as ends-written
 use Rattle.ends.specs.declared.writing_end.WrittenCounterAnswer as ends-written-answer
 use Rattle.ends.specs.declared.writing_end.WrittenCounterAnswer.the-variants as written
+use Rattle.flat.specs.Back.{portionAt}
 use Rattle.flat.specs.ReadingEnd.{readCounterAt, readingEndAt, flatReadingEnd, GotAnswerLeft}
 use Rattle.flat.specs.Refusal.{schedulerRefusalAt}
 use Rattle.flat.specs.WritingEnd.{writtenCounterAt, writingEndAt, flatWritingEnd, WroteAnswerLeft}
@@ -57,10 +58,10 @@ abbrev pub byNumber : {A : Type 0} → Refusal → A → (ends.Refusal → A) �
 byNumber r x refused = cond (eqb (r .number) 0) x (refused (endRefusalAt r))
 
 abbrev pub wroteAt : WroteAnswer → Wrote
-wroteAt z = byNumber (z .refusal) (wrote.Moved (writingEndAt (z .end)) (z .n)) wrote.Refused
+wroteAt z = byNumber (z .refusal) (wrote.Moved (writingEndAt (z .end)) (portionAt (z .n) (z .remainder))) wrote.Refused
 
 abbrev pub gotAt : GotAnswer → Got
-gotAt z = byNumber (z .refusal) (got.Moved (readingEndAt (z .end)) (z .n)) got.Refused
+gotAt z = byNumber (z .refusal) (got.Moved (readingEndAt (z .end)) (portionAt (z .n) (z .remainder))) got.Refused
 
 -- with a copy, what it left in the lent memory
 abbrev pub wroteLeftAt : WroteAnswerLeft → WroteLeft

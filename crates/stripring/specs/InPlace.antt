@@ -24,11 +24,11 @@ use Rattle.flat.specs.WritingEnd.{writtenCounterAt, writingEndAt, flatWritingEn
 
 -- ---- the writing end
 abbrev pub movedWrote : Wrote → MovedAnswer
-movedWrote (wrote.Moved f m) = record { refusal = noRefusal; n = m }
-movedWrote (wrote.Refused r) = record { refusal = flatEndRefusal r; n = 0 }
+movedWrote (wrote.Moved f p) = record { refusal = noRefusal; n = p .len; remainder = p .remainder }
+movedWrote (wrote.Refused r) = record { refusal = flatEndRefusal r; n = 0; remainder = 0 }
 
 abbrev pub writerAfter : WritingEnd → Wrote → WritingEnd
-writerAfter e (wrote.Moved f m) = flatWritingEnd f
+writerAfter e (wrote.Moved f p) = flatWritingEnd f
 writerAfter e (wrote.Refused r) = e
 
 abbrev pub WriteInPlace : WritingEnd → List ℕ → List ℕ → MovedAnswer → WritingEnd → List ℕ → Type 0
@@ -48,11 +48,11 @@ TakeReadInPlace e c r after = (r ≡ writerRefusal (takeReadOf (writingEndAt e) 
 
 -- ---- the reading end
 abbrev pub movedGot : Got → MovedAnswer
-movedGot (got.Moved f m) = record { refusal = noRefusal; n = m }
-movedGot (got.Refused r) = record { refusal = flatEndRefusal r; n = 0 }
+movedGot (got.Moved f p) = record { refusal = noRefusal; n = p .len; remainder = p .remainder }
+movedGot (got.Refused r) = record { refusal = flatEndRefusal r; n = 0; remainder = 0 }
 
 abbrev pub readerAfter : ReadingEnd → Got → ReadingEnd
-readerAfter e (got.Moved f m) = flatReadingEnd f
+readerAfter e (got.Moved f p) = flatReadingEnd f
 readerAfter e (got.Refused r) = e
 
 abbrev pub ReadInPlace : ReadingEnd → List ℕ → List ℕ → MovedAnswer → ReadingEnd → List ℕ → Type 0

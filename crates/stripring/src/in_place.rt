@@ -77,11 +77,12 @@ fn keep_writer(end: WritingEnd, answer: Wrote) -> KeptWriter
     ensures { λ r. ⌜ (r .told ≡ movedWrote answer) × (r .end ≡ writerAfter end answer) ⌝ }
 {
     match answer {
-        Wrote::Moved { end: next, n } => KeptWriter {
+        Wrote::Moved { end: next, portion } => KeptWriter {
             end: flat_writing_end(next),
             told: MovedAnswer {
                 refusal: no_refusal(),
-                n,
+                n: portion.len,
+                remainder: portion.remainder,
             },
         },
         Wrote::Refused(e) => KeptWriter {
@@ -89,6 +90,7 @@ fn keep_writer(end: WritingEnd, answer: Wrote) -> KeptWriter
             told: MovedAnswer {
                 refusal: flat_end_refusal(e),
                 n: 0,
+                remainder: 0,
             },
         },
     }
@@ -146,11 +148,12 @@ fn keep_reader(end: ReadingEnd, answer: Got) -> KeptReader
     ensures { λ r. ⌜ (r .told ≡ movedGot answer) × (r .end ≡ readerAfter end answer) ⌝ }
 {
     match answer {
-        Got::Moved { end: next, n } => KeptReader {
+        Got::Moved { end: next, portion } => KeptReader {
             end: flat_reading_end(next),
             told: MovedAnswer {
                 refusal: no_refusal(),
-                n,
+                n: portion.len,
+                remainder: portion.remainder,
             },
         },
         Got::Refused(e) => KeptReader {
@@ -158,6 +161,7 @@ fn keep_reader(end: ReadingEnd, answer: Got) -> KeptReader
             told: MovedAnswer {
                 refusal: flat_end_refusal(e),
                 n: 0,
+                remainder: 0,
             },
         },
     }

@@ -3,7 +3,7 @@ ghost use mathlib.Core.Path.{_≡_};
 ghost use Rattle.sched.specs.Scheduler.{layoutOf, blocksOf, block0From, block1From, block2From, offFrom, lenFrom, nextBlockOf, nextOf, scheduleOf};
 ghost use Rattle.flat.specs.Block.{flatBlockAnswer, flatBlocks, flatLayout};
 ghost use Rattle.flat.specs.Counter.{flatOffset, flatAmount};
-ghost use Rattle.flat.specs.List.{flatOperationsAnswer};
+ghost use Rattle.flat.specs.List.{flatSchedule};
 ghost use Rattle.flat.specs.Operation.{typeAt, flatNext};
 ghost use Rattle.flat.specs.Scheduler.{schedulerAt};
 use flat::block::flat_block_answer;
@@ -11,14 +11,14 @@ use flat::block::flat_blocks;
 use flat::block::flat_layout;
 use flat::counter::flat_amount;
 use flat::counter::flat_offset;
-use flat::list::flat_operations_answer;
+use flat::list::flat_schedule;
 use flat::operation::flat_next;
 use flat::operation::operation_type;
 use flat::scheduler::scheduler;
 use flat::structs::BlockAnswer;
 use flat::structs::BlocksAnswer;
 use flat::structs::NextAnswer;
-use flat::structs::OperationsAnswer;
+use flat::structs::ScheduleAnswer;
 use flat::structs::Scheduler;
 use flat::structs::U64Answer;
 use sched::OperationType;
@@ -155,25 +155,22 @@ pub extern "C" fn stripring_scheduler_schedule_contiguous_operations(
     s: Scheduler,
     op: u64,
     max_len: u64,
-) -> OperationsAnswer
-    ensures { λ r. ⌜ r ≡ flatOperationsAnswer (scheduleOf (schedulerAt s) (typeAt op) «max_len») ⌝ }
+) -> ScheduleAnswer
+    ensures { λ r. ⌜ r ≡ flatSchedule (scheduleOf (schedulerAt s) (typeAt op) «max_len») ⌝ }
 {
-    flat_operations_answer(scheduler(s).schedule_contiguous_operations(operation_type(op), max_len))
+    flat_schedule(scheduler(s).schedule_contiguous_operations(operation_type(op), max_len))
 }
 
 #[no_mangle]
-pub extern "C" fn stripring_scheduler_schedule_reads(s: Scheduler, dst_len: u64) -> OperationsAnswer
-    ensures { λ r. ⌜ r ≡ flatOperationsAnswer (scheduleOf (schedulerAt s) OperationType.Read «dst_len») ⌝ }
+pub extern "C" fn stripring_scheduler_schedule_reads(s: Scheduler, dst_len: u64) -> ScheduleAnswer
+    ensures { λ r. ⌜ r ≡ flatSchedule (scheduleOf (schedulerAt s) OperationType.Read «dst_len») ⌝ }
 {
-    flat_operations_answer(scheduler(s).schedule_reads(dst_len))
+    flat_schedule(scheduler(s).schedule_reads(dst_len))
 }
 
 #[no_mangle]
-pub extern "C" fn stripring_scheduler_schedule_writes(
-    s: Scheduler,
-    src_len: u64,
-) -> OperationsAnswer
-    ensures { λ r. ⌜ r ≡ flatOperationsAnswer (scheduleOf (schedulerAt s) OperationType.Write «src_len») ⌝ }
+pub extern "C" fn stripring_scheduler_schedule_writes(s: Scheduler, src_len: u64) -> ScheduleAnswer
+    ensures { λ r. ⌜ r ≡ flatSchedule (scheduleOf (schedulerAt s) OperationType.Write «src_len») ⌝ }
 {
-    flat_operations_answer(scheduler(s).schedule_writes(src_len))
+    flat_schedule(scheduler(s).schedule_writes(src_len))
 }

@@ -4,7 +4,7 @@ use Rattle.stripring.proofs.schedule.stripring_scheduler_schedule_conti
 use Rattle.stripring.proofs.schedule.stripring_scheduler_schedule_contiguous_operations.Tie as tie
 
 returns : tie.Need-returns
-returns c = rw (c .flat-operations-answer .ensures, c .before .schedule-contiguous-operations .ensures, c .before .before .operation-type .ensures, c .before .before .before .scheduler .ensures)
+returns c = rw (c .flat-schedule .ensures, c .before .schedule-contiguous-operations .ensures, c .before .before .operation-type .ensures, c .before .before .before .scheduler .ensures)
 
 pub stripring-scheduler-schedule-contiguous-operations-spec : {M : Type 1} → statement M
 stripring-scheduler-schedule-contiguous-operations-spec =

@@ -4,7 +4,7 @@ use Rattle.stripring.proofs.schedule.stripring_scheduler_schedule_write
 use Rattle.stripring.proofs.schedule.stripring_scheduler_schedule_writes.Tie as tie
 
 returns : tie.Need-returns
-returns c = rw (c .flat-operations-answer .ensures, c .before .schedule-writes .ensures, c .before .before .scheduler .ensures)
+returns c = rw (c .flat-schedule .ensures, c .before .schedule-writes .ensures, c .before .before .scheduler .ensures)
 
 pub stripring-scheduler-schedule-writes-spec : {M : Type 1} → statement M
 stripring-scheduler-schedule-writes-spec = tie.close (tie.spec (search needs) (search needs) (search needs) returns)

@@ -5,9 +5,9 @@ use Rattle.flat.proofs.operation.flat_next.Tie as tie
 
 returns : tie.Need-returns
 returns c =
-    let at-next = c .before .before .before in
-    let at-a = at-next .before .before .before in
-    rw (at-a .a .given .1, at-next .next .given .1, c .flat-operation .ensures, c .before .no-refusal .ensures)
+    let at-operation = c .before .before .before in
+    let at-a = at-operation .before .before .before in
+    rw (at-a .a .given .1, at-operation .operation .given .1, c .flat-operation .ensures, c .before .no-refusal .ensures)
 
 returns-2 : tie.Need-returns-2
 returns-2 c =

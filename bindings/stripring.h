@@ -217,12 +217,21 @@ typedef struct stripring_blocks_answer {
   stripring_block block_2;
 } stripring_blocks_answer;
 
-/* An operation where `some` is 1; none where it is 0. */
+/* An operation where `some` is 1; none where it is 0. `remainder` is how many of the bytes asked are left over after it: all of
+ * them where there is none. */
 typedef struct stripring_next_answer {
   stripring_refusal refusal;
   uint64_t some;
   stripring_operation operation;
+  uint64_t remainder;
 } stripring_next_answer;
+
+/* The operations, and how many of the bytes asked are left over after them. */
+typedef struct stripring_schedule_answer {
+  stripring_refusal refusal;
+  stripring_operations operations;
+  uint64_t remainder;
+} stripring_schedule_answer;
 
 typedef struct stripring_operations_answer {
   stripring_refusal refusal;
@@ -244,11 +253,12 @@ typedef struct stripring_starts_answer {
   stripring_operation second;
 } stripring_starts_answer;
 
-/* The scheduler after a copy, and how many bytes were moved. */
+/* The scheduler after a copy, how many bytes were moved, and how many of those asked were left over. */
 typedef struct stripring_copy_answer {
   stripring_refusal refusal;
   stripring_scheduler scheduler;
   uint64_t n;
+  uint64_t remainder;
 } stripring_copy_answer;
 
 typedef struct stripring_writing_end_answer {
@@ -261,24 +271,28 @@ typedef struct stripring_reading_end_answer {
   stripring_reading_end end;
 } stripring_reading_end_answer;
 
-/* The writing end after a write, and how many bytes it wrote. */
+/* The writing end after a write, how many bytes it wrote, and how many of the source found no space. */
 typedef struct stripring_wrote_answer {
   stripring_refusal refusal;
   stripring_writing_end end;
   uint64_t n;
+  uint64_t remainder;
 } stripring_wrote_answer;
 
-/* The reading end after a read, and how many bytes it got. */
+/* The reading end after a read, how many bytes it got, and how many of the destination it had no data for. */
 typedef struct stripring_got_answer {
   stripring_refusal refusal;
   stripring_reading_end end;
   uint64_t n;
+  uint64_t remainder;
 } stripring_got_answer;
 
-/* What a copy in place answers: how many bytes were moved. The end after it is in the host's struct. */
+/* What a copy in place answers: how many bytes were moved, and how many of those asked were left over. The end after it is in
+ * the host's struct. */
 typedef struct stripring_moved_answer {
   stripring_refusal refusal;
   uint64_t n;
+  uint64_t remainder;
 } stripring_moved_answer;
 
 typedef struct stripring_written_counter_answer {
@@ -612,15 +626,16 @@ stripring_next_answer stripring_scheduler_schedule_next_read(stripring_scheduler
 /* The next write of at most src_len bytes. */
 stripring_next_answer stripring_scheduler_schedule_next_write(stripring_scheduler s, uint64_t src_len);
 
-/* The operations of this type that move min(max_len, greatest) bytes: at most two, none empty. */
-stripring_operations_answer stripring_scheduler_schedule_contiguous_operations(stripring_scheduler s, uint64_t op,
-                                                                               uint64_t max_len);
+/* The operations of this type that move min(max_len, greatest) bytes: at most two, none empty. Bytes are left over exactly
+ * where max_len is above the greatest. */
+stripring_schedule_answer stripring_scheduler_schedule_contiguous_operations(stripring_scheduler s, uint64_t op,
+                                                                             uint64_t max_len);
 
 /* The reads that move min(dst_len, data) bytes. */
-stripring_operations_answer stripring_scheduler_schedule_reads(stripring_scheduler s, uint64_t dst_len);
+stripring_schedule_answer stripring_scheduler_schedule_reads(stripring_scheduler s, uint64_t dst_len);
 
 /* The writes that move min(src_len, space) bytes. */
-stripring_operations_answer stripring_scheduler_schedule_writes(stripring_scheduler s, uint64_t src_len);
+stripring_schedule_answer stripring_scheduler_schedule_writes(stripring_scheduler s, uint64_t src_len);
 
 /* ---- Lists of operations: refused with 7, then 8 ---- */
 

@@ -2,7 +2,7 @@
 //! tested, and a plain answer comes out; and in the Rust's own shape, where a record that was
 //! tested once goes in. No call is inlined. The records tried are sound and nothing is refused.
 
-use crate::stripring::{Answer, Operation, Operations, Refusal, Scheduler};
+use crate::stripring::{Answer, Operation, Operations, Refusal, Scheduled, Scheduler};
 use oracle::rosenpass::sched::{
     OperationType, RingBufferScheduler, ScheduledOperation, ScheduledOperations,
 };
@@ -14,18 +14,22 @@ pub extern "C" fn data_avail(s: Scheduler) -> Answer<u64> {
 }
 
 #[inline(never)]
-pub extern "C" fn schedule(s: Scheduler, typ: u64, max_len: u64) -> Answer<Operations> {
+pub extern "C" fn schedule(s: Scheduler, typ: u64, max_len: u64) -> Answer<Scheduled> {
     let list = tested(s).schedule_contiguous_operations(operation_type(typ), max_len);
-    let mut flat = Operations::default();
-    for (place, op) in flat.both.iter_mut().zip(list.container()) {
-        flat.count += 1;
+    let (mut operations, mut remainder) = (Operations::default(), max_len);
+    for (place, op) in operations.both.iter_mut().zip(list.container()) {
+        operations.count += 1;
+        remainder -= op.len.u64();
         *place = Operation {
             typ: op.typ as u64,
             off: op.off,
             len: op.len.u64(),
         };
     }
-    accepted(flat)
+    accepted(Scheduled {
+        operations,
+        remainder,
+    })
 }
 
 #[inline(never)]

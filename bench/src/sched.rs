@@ -79,14 +79,14 @@ fn schedule_and_register(cases: &[Case]) -> [f64; 3] {
     best_turns([
         &mut || {
             for case in cases {
-                let list = stripring::schedule(case.scheduler, case.typ, case.max_len).of;
-                black_box(stripring::register(case.scheduler, list));
+                let plan = stripring::schedule(case.scheduler, case.typ, case.max_len).of;
+                black_box(stripring::register(case.scheduler, plan.operations));
             }
         },
         &mut || {
             for case in cases {
-                let list = rust::schedule(case.scheduler, case.typ, case.max_len).of;
-                black_box(rust::register(case.scheduler, list));
+                let plan = rust::schedule(case.scheduler, case.typ, case.max_len).of;
+                black_box(rust::register(case.scheduler, plan.operations));
             }
         },
         &mut || {
@@ -109,11 +109,12 @@ fn assert_same_answers(case: &Case) {
         stripring::data_avail(scheduler),
         rust::data_avail(scheduler)
     );
-    let list = stripring::schedule(scheduler, typ, max_len);
-    assert_eq!(list, rust::schedule(scheduler, typ, max_len));
+    let plan = stripring::schedule(scheduler, typ, max_len);
+    assert_eq!(plan, rust::schedule(scheduler, typ, max_len));
+    let list = plan.of.operations;
     assert_eq!(
-        stripring::register(scheduler, list.of),
-        rust::register(scheduler, list.of)
+        stripring::register(scheduler, list),
+        rust::register(scheduler, list)
     );
 }
 

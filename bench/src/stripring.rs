@@ -31,6 +31,14 @@ pub struct Operations {
     pub both: [Operation; 2],
 }
 
+/// The list, and what it leaves over of what was asked.
+#[repr(C)]
+#[derive(Clone, Copy, Debug, PartialEq)]
+pub struct Scheduled {
+    pub operations: Operations,
+    pub remainder: u64,
+}
+
 #[repr(C)]
 #[derive(Debug, PartialEq)]
 pub struct Answer<T> {
@@ -43,6 +51,7 @@ pub struct Answer<T> {
 pub struct Copied {
     pub scheduler: Scheduler,
     pub n: u64,
+    pub remainder: u64,
 }
 
 #[repr(C)]
@@ -61,6 +70,13 @@ pub struct Counter {
 pub struct Moved {
     pub end: End,
     pub n: u64,
+    pub remainder: u64,
+}
+
+#[repr(C)]
+pub struct Portion {
+    pub n: u64,
+    pub remainder: u64,
 }
 
 #[link(name = "stripring", kind = "static")]
@@ -98,19 +114,19 @@ unsafe extern "C" {
         ring_len: usize,
         src: *const u8,
         src_len: usize,
-    ) -> Answer<u64>;
+    ) -> Answer<Portion>;
     fn stripring_reading_end_read_in_place(
         e: &mut End,
         ring: *const u8,
         ring_len: usize,
         dst: *mut u8,
         dst_len: usize,
-    ) -> Answer<u64>;
+    ) -> Answer<Portion>;
 
     #[link_name = "stripring_scheduler_data_avail"]
     pub safe fn data_avail(s: Scheduler) -> Answer<u64>;
     #[link_name = "stripring_scheduler_schedule_contiguous_operations"]
-    pub safe fn schedule(s: Scheduler, typ: u64, max_len: u64) -> Answer<Operations>;
+    pub safe fn schedule(s: Scheduler, typ: u64, max_len: u64) -> Answer<Scheduled>;
     #[link_name = "stripring_scheduler_try_register_operations"]
     pub safe fn register(s: Scheduler, list: Operations) -> Answer<Scheduler>;
 
@@ -149,12 +165,12 @@ pub fn end_read(e: End, ring: &[u8], dst: &mut [u8]) -> Answer<Moved> {
     unsafe { stripring_reading_end_read(e, ring.as_ptr(), ring.len(), dst.as_mut_ptr(), dst.len()) }
 }
 
-pub fn end_write_in_place(e: &mut End, ring: &mut [u8], src: &[u8]) -> Answer<u64> {
+pub fn end_write_in_place(e: &mut End, ring: &mut [u8], src: &[u8]) -> Answer<Portion> {
     let (to, len) = (ring.as_mut_ptr(), ring.len());
     unsafe { stripring_writing_end_write_in_place(e, to, len, src.as_ptr(), src.len()) }
 }
 
-pub fn end_read_in_place(e: &mut End, ring: &[u8], dst: &mut [u8]) -> Answer<u64> {
+pub fn end_read_in_place(e: &mut End, ring: &[u8], dst: &mut [u8]) -> Answer<Portion> {
     let (from, len) = (ring.as_ptr(), ring.len());
     unsafe { stripring_reading_end_read_in_place(e, from, len, dst.as_mut_ptr(), dst.len()) }
 }

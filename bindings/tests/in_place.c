@@ -28,7 +28,9 @@ static void writes(stripring_scheduler s, size_t ring_len, size_t src_len) {
   stripring_writing_end before = {s}, end = before;
   stripring_wrote_answer wrote = stripring_writing_end_write(before, by_value, ring_len, src, src_len);
   stripring_moved_answer moved = stripring_writing_end_write_in_place(&end, in_place, ring_len, src, src_len);
-  CHECK(same(&moved.refusal, &wrote.refusal, sizeof moved.refusal) && moved.n == wrote.n);
+  CHECK(same(&moved.refusal, &wrote.refusal, sizeof moved.refusal));
+  CHECK(moved.n == wrote.n && moved.remainder == wrote.remainder);
+  CHECK(moved.n + moved.remainder == (moved.refusal.number == 0 ? src_len : 0));
   CHECK(same(&end, wrote.refusal.number == 0 ? &wrote.end : &before, sizeof end));
   CHECK(same(in_place, by_value, RING_LEN));
 }
@@ -39,7 +41,9 @@ static void reads(stripring_scheduler s, size_t ring_len, size_t dst_len) {
   stripring_reading_end before = {s}, end = before;
   stripring_got_answer got = stripring_reading_end_read(before, ring, ring_len, by_value, dst_len);
   stripring_moved_answer moved = stripring_reading_end_read_in_place(&end, ring, ring_len, in_place, dst_len);
-  CHECK(same(&moved.refusal, &got.refusal, sizeof moved.refusal) && moved.n == got.n);
+  CHECK(same(&moved.refusal, &got.refusal, sizeof moved.refusal));
+  CHECK(moved.n == got.n && moved.remainder == got.remainder);
+  CHECK(moved.n + moved.remainder == (moved.refusal.number == 0 ? dst_len : 0));
   CHECK(same(&end, got.refusal.number == 0 ? &got.end : &before, sizeof end));
   CHECK(same(in_place, by_value, BYTES_LEN));
 }

@@ -93,7 +93,8 @@ fn compare(tally: &mut Tally, scheduler: [u64; 3], memory: &Memory) {
     }
 }
 
-/// Schedules by the Rust, moves the bytes one by one, and registers by the Rust.
+/// Schedules by the Rust, moves the bytes one by one, and registers by the Rust. What was asked and not
+/// moved is left over.
 fn copied(writes: bool, [l, written, read]: [u64; 3], memory: &mut Memory) -> Answer {
     let scheduler = RingBufferScheduler::try_from_counters(l, written, read)?;
     let (ring, other) = memory.parts();
@@ -117,6 +118,7 @@ fn copied(writes: bool, [l, written, read]: [u64; 3], memory: &mut Memory) -> An
         }
     }
     let s = scheduler.try_register_operation(&operations)?;
-    let numbers = [s.buf_len(), s.items_written(), s.items_read(), n as u64];
+    let (n, left) = (n as u64, asked - n as u64);
+    let numbers = [s.buf_len(), s.items_written(), s.items_read(), n, left];
     Ok(numbers.as_slice().into())
 }

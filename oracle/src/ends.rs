@@ -4,9 +4,8 @@
 use crate::sched::compare_calls;
 use crate::stripring::end_calls;
 use oracle::rosenpass::sched::RingBufferScheduler;
-use oracle::sched_answers::{
-    Answer, Call, Input, LENGTH, Part, Refusal, S, call, flat, refusal, s,
-};
+use oracle::sched_answers::{Answer, Call, Input, LENGTH, Part, Refusal, S, call, refusal, s};
+use oracle::sched_flat::flat;
 
 pub fn run() -> bool {
     let what = "ends: stripring against sched.rs, and taking against docs/PAPER.md";

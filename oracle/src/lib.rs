@@ -5,6 +5,7 @@ pub mod receiver_answers;
 pub mod receiver_standins;
 pub mod ringplan;
 pub mod sched_answers;
+pub mod sched_flat;
 pub mod scripted_socket;
 pub mod standins;
 

@@ -98,8 +98,10 @@ fn print_head() {
     println!(
         "# scheduler: L written read; block: type no offset length; operation: type offset length"
     );
-    println!("# next operation: 0 for none, or 1 and the operation");
     println!("# list: the count and each operation, with its start or its start and end before it");
+    println!("# what is scheduled: the count and each operation, 0 0 0 for each that is lacking of one");
+    println!("# (a next operation) or of two (operations, reads, writes); then what is left over of n,");
+    println!("# which the Rust does not answer: n less the lengths of its operations");
     println!("# where a list is taken, a count above 1 stands for two; only so many are looked at");
     println!("# diff: 0 for Same, 1 for Different, then old and new");
 }

@@ -5,10 +5,11 @@
 //! 1 FreeDataFree; a fill state 0 Empty, 1 Partial, 2 Full. In an input all but 0 stands for 1.
 
 use crate::rosenpass::sched::{
-    Bit, Block, BlockType, BufferFillState, BufferLayout, Diff, OperationType,
-    RingBufferFromCountersError, RingBufferNewError, RingBufferRegisterOpError,
-    RingBufferScheduler, ScheduledOperation, ScheduledOperationCreationError, ScheduledOperations,
+    Bit, Block, BlockType, Diff, OperationType, RingBufferFromCountersError, RingBufferNewError,
+    RingBufferRegisterOpError, RingBufferScheduler, ScheduledOperation,
+    ScheduledOperationCreationError, ScheduledOperations,
 };
+use crate::sched_flat::{Next, Ranges, Scheduled, Starts, flat};
 use crate::standins::u64uint::U64USize;
 
 /// A call that takes numbers alone.
@@ -179,15 +180,15 @@ pub const CALLS: [Call; 59] = [
     call("scheduler_max_operation_len", S_TYPE, |i| flat(s(i)?.max_operation_len(typ(i)))),
     call("scheduler_next_operation_block", S_TYPE, |i| flat(s(i)?.next_operation_block(typ(i)))),
 
-    call("scheduler_schedule_next_read", S_AMOUNT, |i| flat(s(i)?.schedule_next_read(i[3]))),
-    call("scheduler_schedule_next_write", S_AMOUNT, |i| flat(s(i)?.schedule_next_write(i[3]))),
-    call("scheduler_schedule_reads", S_AMOUNT, |i| flat(s(i)?.schedule_reads(i[3]))),
-    call("scheduler_schedule_writes", S_AMOUNT, |i| flat(s(i)?.schedule_writes(i[3]))),
+    call("scheduler_schedule_next_read", S_AMOUNT, |i| flat(Next(s(i)?.schedule_next_read(i[3]), i[3]))),
+    call("scheduler_schedule_next_write", S_AMOUNT, |i| flat(Next(s(i)?.schedule_next_write(i[3]), i[3]))),
+    call("scheduler_schedule_reads", S_AMOUNT, |i| flat(Scheduled(s(i)?.schedule_reads(i[3]), i[3]))),
+    call("scheduler_schedule_writes", S_AMOUNT, |i| flat(Scheduled(s(i)?.schedule_writes(i[3]), i[3]))),
     call("scheduler_try_register_read", S_AMOUNT, |i| flat(s(i)?.try_register_read(i[3])?)),
     call("scheduler_try_register_write", S_AMOUNT, |i| flat(s(i)?.try_register_write(i[3])?)),
 
-    call("scheduler_schedule_next_contiguous_operation", S_TYPE_AMOUNT, |i| flat(s(i)?.schedule_next_contiguous_operation(typ(i), i[4]))),
-    call("scheduler_schedule_contiguous_operations", S_TYPE_AMOUNT, |i| flat(s(i)?.schedule_contiguous_operations(typ(i), i[4]))),
+    call("scheduler_schedule_next_contiguous_operation", S_TYPE_AMOUNT, |i| flat(Next(s(i)?.schedule_next_contiguous_operation(typ(i), i[4]), i[4]))),
+    call("scheduler_schedule_contiguous_operations", S_TYPE_AMOUNT, |i| flat(Scheduled(s(i)?.schedule_contiguous_operations(typ(i), i[4]), i[4]))),
     call("scheduler_try_register_operation_manually", S_TYPE_AMOUNT, |i| flat(s(i)?.try_register_operation_manually(typ(i), i[4])?)),
 
     call("scheduler_try_register_operation", S_OPERATION, |i| flat(s(i)?.try_register_operation(&operation(&i[3..]))?)),
@@ -255,126 +256,6 @@ fn diff(i: &Input) -> Diff<u64> {
     match i[0] {
         0 => Diff::Same(i[1]),
         _ => Diff::Different(i[1], i[2]),
-    }
-}
-
-/// What can be laid out as numbers.
-pub trait Flat {
-    fn push_to(self, numbers: &mut Numbers);
-}
-
-pub fn flat(answer: impl Flat) -> Answer {
-    let mut numbers = Numbers::default();
-    answer.push_to(&mut numbers);
-    Ok(numbers)
-}
-
-impl Flat for u64 {
-    fn push_to(self, numbers: &mut Numbers) {
-        numbers.push(&[self]);
-    }
-}
-
-impl Flat for bool {
-    fn push_to(self, numbers: &mut Numbers) {
-        numbers.push(&[self.into()]);
-    }
-}
-
-impl Flat for BufferFillState {
-    fn push_to(self, numbers: &mut Numbers) {
-        numbers.push(&[self as u64]);
-    }
-}
-
-impl Flat for BufferLayout {
-    fn push_to(self, numbers: &mut Numbers) {
-        numbers.push(&[self as u64]);
-    }
-}
-
-impl Flat for RingBufferScheduler {
-    fn push_to(self, numbers: &mut Numbers) {
-        numbers.push(&[self.buf_len(), self.items_written(), self.items_read()]);
-    }
-}
-
-impl Flat for Block {
-    fn push_to(self, numbers: &mut Numbers) {
-        numbers.push(&[self.typ as u64, self.no as u64, self.off, self.len]);
-    }
-}
-
-impl Flat for [Block; 3] {
-    fn push_to(self, numbers: &mut Numbers) {
-        for block in self {
-            block.push_to(numbers);
-        }
-    }
-}
-
-impl Flat for &ScheduledOperation {
-    fn push_to(self, numbers: &mut Numbers) {
-        numbers.push(&[self.typ as u64, self.off, self.len.u64()]);
-    }
-}
-
-/// 1 and the operation, or 0.
-impl Flat for Option<ScheduledOperation> {
-    fn push_to(self, numbers: &mut Numbers) {
-        self.as_slice().push_to(numbers);
-    }
-}
-
-/// The count and each operation.
-impl Flat for &[ScheduledOperation] {
-    fn push_to(self, numbers: &mut Numbers) {
-        numbers.push(&[self.len() as u64]);
-        for op in self {
-            op.push_to(numbers);
-        }
-    }
-}
-
-impl Flat for ScheduledOperations {
-    fn push_to(self, numbers: &mut Numbers) {
-        self.container()[..].push_to(numbers);
-    }
-}
-
-/// The list with the start of each operation.
-struct Starts(ScheduledOperations);
-
-impl Flat for Starts {
-    fn push_to(self, numbers: &mut Numbers) {
-        numbers.push(&[self.0.container().len() as u64]);
-        for (start, op) in self.0.with_cumulative_offset() {
-            numbers.push(&[start.u64()]);
-            op.push_to(numbers);
-        }
-    }
-}
-
-/// The list with the start and the end of each operation.
-struct Ranges(ScheduledOperations);
-
-impl Flat for Ranges {
-    fn push_to(self, numbers: &mut Numbers) {
-        numbers.push(&[self.0.container().len() as u64]);
-        for (range, op) in self.0.with_outside_buffer_range() {
-            numbers.push(&[range.start.u64(), range.end.u64()]);
-            op.push_to(numbers);
-        }
-    }
-}
-
-/// Whether it is different, and its two values.
-impl Flat for Diff<u64> {
-    fn push_to(self, numbers: &mut Numbers) {
-        match self {
-            Diff::Same(value) => numbers.push(&[0, value, value]),
-            Diff::Different(old, new) => numbers.push(&[1, old, new]),
-        }
     }
 }
 

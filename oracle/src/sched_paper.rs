@@ -27,13 +27,14 @@ pub fn run() -> bool {
 const ROWS: &[(&str, &[u64], &[u64])] = &[
     // The rows of the paper.
     ("scheduler_data_avail", &[H, 5, M - 2], &[0, 8]),
-    ("scheduler_schedule_reads", &[H, 5, M - 2, 8], &[0, 2, READ, H - 3, 3, READ, 0, 5]),
+    ("scheduler_schedule_reads", &[H, 5, M - 2, 8], &[0, 2, READ, H - 3, 3, READ, 0, 5, 0]),
     ("scheduler_fill_state", &[10, 10, 0], &[0, 2]),
     ("scheduler_layout", &[10, 10, 0], &[0, 0]),
     ("scheduler_data_avail", &[10, 0, 11], &[0, 9]),
     ("scheduler_try_register_write", &[10, 19, 12, 4], &[6, WRITE, 4, 3]),
     ("scheduler_try_register_write", &[10, 19, 12, 3], &[0, 10, 2, 12]),
-    ("scheduler_schedule_writes", &[10, 7, 3, 9], &[0, 2, WRITE, 7, 3, WRITE, 0, 3]),
+    ("scheduler_schedule_next_write", &[10, 7, 3, 9], &[0, 1, WRITE, 7, 3, 6]),
+    ("scheduler_schedule_writes", &[10, 7, 3, 9], &[0, 2, WRITE, 7, 3, WRITE, 0, 3, 3]),
 
     // Numbers 1 to 5, each beside its nearest neighbour that is accepted.
     ("scheduler_try_from_counters", &[0, 0, 0], &[1]),
@@ -59,16 +60,19 @@ const ROWS: &[(&str, &[u64], &[u64])] = &[
     ("scheduler_blocks", &[10, 10, 0], &[0, 1, 1, 0, 0, 0, 0, 0, 0, 1, 0, 0, 10]),
     ("scheduler_blocks", &[10, 4, 4], &[0, 0, 1, 0, 4, 1, 0, 4, 0, 0, 0, 4, 6]),
 
-    // Nothing asked or nothing there gives no operation; 2^64 - 1 asks for all.
-    ("scheduler_schedule_next_write", &[10, 7, 3, 0], &[0, 0]),
-    ("scheduler_schedule_writes", &[10, 7, 3, 0], &[0, 0]),
+    // Nothing asked or nothing there gives no operation, and leaves all that was asked; 2^64 - 1 asks for all.
+    ("scheduler_schedule_next_write", &[10, 7, 3, 0], &[0, 0, 0, 0, 0, 0]),
+    ("scheduler_schedule_writes", &[10, 7, 3, 0], &[0, 0, 0, 0, 0, 0, 0, 0, 0]),
     ("scheduler_try_register_write", &[10, 7, 3, 0], &[0, 10, 7, 3]),
-    ("scheduler_schedule_next_write", &[10, 10, 0, 0], &[0, 0]),
-    ("scheduler_schedule_writes", &[10, 10, 0, 0], &[0, 0]),
+    ("scheduler_schedule_next_write", &[10, 10, 0, 0], &[0, 0, 0, 0, 0, 0]),
+    ("scheduler_schedule_writes", &[10, 10, 0, 0], &[0, 0, 0, 0, 0, 0, 0, 0, 0]),
     ("scheduler_try_register_write", &[10, 10, 0, 0], &[0, 10, 10, 0]),
-    ("scheduler_schedule_next_read", &[10, 3, 3, 4], &[0, 0]),
-    ("scheduler_schedule_reads", &[10, 3, 3, 4], &[0, 0]),
-    ("scheduler_schedule_writes", &[10, 7, 3, M], &[0, 2, WRITE, 7, 3, WRITE, 0, 3]),
+    ("scheduler_schedule_next_read", &[10, 3, 3, 4], &[0, 0, 0, 0, 0, 4]),
+    ("scheduler_schedule_reads", &[10, 3, 3, 4], &[0, 0, 0, 0, 0, 0, 0, 0, 4]),
+    ("scheduler_schedule_writes", &[10, 7, 3, M], &[0, 2, WRITE, 7, 3, WRITE, 0, 3, M - 6]),
+    ("scheduler_schedule_next_write", &[1, 0, 0, M], &[0, 1, WRITE, 0, 1, M - 1]),
+    ("scheduler_schedule_writes", &[1, 0, 0, M], &[0, 1, WRITE, 0, 1, 0, 0, 0, M - 1]),
+    ("scheduler_schedule_next_read", &[1, 0, 0, M], &[0, 0, 0, 0, 0, M]),
 
     // Lists: 7 before 8, the counters before both, 6 last; offsets are not looked at.
     ("operations_try_new", &[2, READ, 999, M, WRITE, 999, 1], &[7, 1]),

@@ -179,14 +179,14 @@ number_calls! { sched_calls:
     scheduler_operation_offset(Scheduler, u64) -> Answer<5>;
     scheduler_max_operation_len(Scheduler, u64) -> Answer<5>;
     scheduler_next_operation_block(Scheduler, u64) -> Answer<8>;
-    scheduler_schedule_next_read(Scheduler, u64) -> Answer<8>;
-    scheduler_schedule_next_write(Scheduler, u64) -> Answer<8>;
-    scheduler_schedule_reads(Scheduler, u64) -> Answer<11>;
-    scheduler_schedule_writes(Scheduler, u64) -> Answer<11>;
+    scheduler_schedule_next_read(Scheduler, u64) -> Answer<9>;
+    scheduler_schedule_next_write(Scheduler, u64) -> Answer<9>;
+    scheduler_schedule_reads(Scheduler, u64) -> Answer<12>;
+    scheduler_schedule_writes(Scheduler, u64) -> Answer<12>;
     scheduler_try_register_read(Scheduler, u64) -> Answer<7>;
     scheduler_try_register_write(Scheduler, u64) -> Answer<7>;
-    scheduler_schedule_next_contiguous_operation(Scheduler, u64, u64) -> Answer<8>;
-    scheduler_schedule_contiguous_operations(Scheduler, u64, u64) -> Answer<11>;
+    scheduler_schedule_next_contiguous_operation(Scheduler, u64, u64) -> Answer<9>;
+    scheduler_schedule_contiguous_operations(Scheduler, u64, u64) -> Answer<12>;
     scheduler_try_register_operation_manually(Scheduler, u64, u64) -> Answer<7>;
     scheduler_try_register_operation(Scheduler, Operation) -> Answer<7>;
     scheduler_try_register_operations(Scheduler, Operations) -> Answer<7>;
@@ -233,7 +233,7 @@ macro_rules! copy_calls {
             unsafe extern "C" {
                 $(
                     #[link_name = concat!("stripring_", stringify!($name))]
-                    fn $name(_: Scheduler, _: *mut u8, _: usize, _: *mut u8, _: usize) -> Answer<8>;
+                    fn $name(_: Scheduler, _: *mut u8, _: usize, _: *mut u8, _: usize) -> Answer<9>;
                 )*
             }
             vec![$((stringify!($name), $writes, |scheduler, ring, other| {

@@ -57,7 +57,7 @@ static size_t space(const struct outstanding *o) {
 static void put(struct camera *c, struct outstanding *o, const uint8_t *src, size_t len) {
   stripring_copy_answer wrote = stripring_copies_write(o->scheduler, c->ring, c->ring_len, src, len);
   demand(wrote.refusal);
-  if (wrote.n != len)
+  if (wrote.remainder != 0)
     die("no room for what there was room for");
   o->scheduler = wrote.scheduler;
 }

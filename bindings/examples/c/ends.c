@@ -30,10 +30,10 @@ static enum came receive_counter(int socket, int flags, uint64_t *counter) {
   return COUNTER;
 }
 
-static size_t write_some(struct camera *c, stripring_writing_end *end, const uint8_t *src, size_t len) {
+static stripring_moved_answer write_some(struct camera *c, stripring_writing_end *end, const uint8_t *src, size_t len) {
   stripring_moved_answer wrote = stripring_writing_end_write_in_place(end, c->ring, c->ring_len, src, len);
   demand(wrote.refusal);
-  return wrote.n;
+  return wrote;
 }
 
 static void tell_classifier(struct camera *c, stripring_writing_end end) {
@@ -73,13 +73,13 @@ static bool wait_for_room(struct camera *c, stripring_writing_end *end) {
 }
 
 static bool film_strip(struct camera *c, stripring_writing_end *end, struct strip strip) {
-  for (size_t done = 0; done < strip.len;) {
+  for (size_t left = strip.len; left > 0;) {
     if (!wait_for_room(c, end))
       return false;
-    size_t n = write_some(c, end, strip.bytes + done, strip.len - done);
+    stripring_moved_answer wrote = write_some(c, end, strip.bytes + strip.len - left, left);
     tell_classifier(c, *end);
-    filmed(c, n);
-    done += n;
+    filmed(c, wrote.n);
+    left = wrote.remainder;
   }
   return true;
 }

@@ -204,6 +204,15 @@ pub struct NextAnswer {
     pub refusal: Refusal,
     pub some: u64,
     pub operation: Operation,
+    pub remainder: u64,
+}
+
+#[repr(C)]
+#[derive(Clone, Copy, Debug, Default, PartialEq, Eq)]
+pub struct ScheduleAnswer {
+    pub refusal: Refusal,
+    pub operations: Operations,
+    pub remainder: u64,
 }
 
 #[repr(C)]
@@ -237,6 +246,7 @@ pub struct CopyAnswer {
     pub refusal: Refusal,
     pub scheduler: Scheduler,
     pub n: u64,
+    pub remainder: u64,
 }
 
 #[repr(C)]
@@ -259,6 +269,7 @@ pub struct WroteAnswer {
     pub refusal: Refusal,
     pub end: WritingEnd,
     pub n: u64,
+    pub remainder: u64,
 }
 
 #[repr(C)]
@@ -267,6 +278,7 @@ pub struct GotAnswer {
     pub refusal: Refusal,
     pub end: ReadingEnd,
     pub n: u64,
+    pub remainder: u64,
 }
 
 #[repr(C)]
@@ -274,6 +286,7 @@ pub struct GotAnswer {
 pub struct MovedAnswer {
     pub refusal: Refusal,
     pub n: u64,
+    pub remainder: u64,
 }
 
 #[repr(C)]
@@ -532,10 +545,9 @@ unsafe extern "C" {
         s: Scheduler,
         op: u64,
         max_len: u64,
-    ) -> OperationsAnswer;
-    pub safe fn stripring_scheduler_schedule_reads(s: Scheduler, dst_len: u64) -> OperationsAnswer;
-    pub safe fn stripring_scheduler_schedule_writes(s: Scheduler, src_len: u64)
-    -> OperationsAnswer;
+    ) -> ScheduleAnswer;
+    pub safe fn stripring_scheduler_schedule_reads(s: Scheduler, dst_len: u64) -> ScheduleAnswer;
+    pub safe fn stripring_scheduler_schedule_writes(s: Scheduler, src_len: u64) -> ScheduleAnswer;
     pub safe fn stripring_operations_try_new(list: Operations) -> OperationsAnswer;
     pub safe fn stripring_operations_container(list: Operations) -> OperationsAnswer;
     pub safe fn stripring_operations_into_container(list: Operations) -> OperationsAnswer;

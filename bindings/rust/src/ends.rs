@@ -2,7 +2,7 @@
 
 use crate::abi;
 use crate::refusal::{Refusal, accepted, sound};
-use crate::scheduler::Scheduler;
+use crate::scheduler::{Portion, Scheduler};
 
 /// What a writing end sends to the reading end. Any number may be offered to one; it tests it.
 #[derive(Clone, Copy, Debug, PartialEq, Eq)]
@@ -15,7 +15,7 @@ pub struct ReadCounter(pub u64);
 /// The end that writes. Counters of the other end may be lost, late or repeated, but none is older than the last one taken.
 ///
 /// ```
-/// use stripring::{ReadCounter, Refusal, WritingEnd};
+/// use stripring::{Portion, ReadCounter, Refusal, WritingEnd};
 ///
 /// # fn main() -> Result<(), Refusal> {
 /// let mut ring = [0; 4];
@@ -26,6 +26,7 @@ pub struct ReadCounter(pub u64);
 /// assert_eq!(end.space(), 3);
 /// assert_eq!(end.take(ReadCounter(2)), Err(Refusal::RanBack));
 /// assert_eq!(end.write(&mut ring[1..], b"ef"), Err(Refusal::RingMemory));
+/// assert_eq!(end.write_portion(&mut ring, b"efghi")?, Portion { len: 3, remainder: 2 });
 /// # Ok(())
 /// # }
 /// ```
@@ -52,12 +53,17 @@ impl WritingEnd {
         accepted(a.refusal, Self::of(a.end))
     }
 
-    /// Writes as much of `src` as this end knows to be free.
+    /// Writes as much of `src` as this end knows to be free. Answers how many bytes that was.
     pub fn write(&mut self, ring: &mut [u8], src: &[u8]) -> Result<usize, Refusal> {
+        Ok(self.write_portion(ring, src)?.len)
+    }
+
+    /// The same, and answers how many bytes found no space too.
+    pub fn write_portion(&mut self, ring: &mut [u8], src: &[u8]) -> Result<Portion, Refusal> {
         let mut end = self.flat();
         let a = abi::writing_end_write_in_place(&mut end, ring, src);
         *self = Self::of(end);
-        accepted(a.refusal, a.n as usize)
+        accepted(a.refusal, Portion::of(a.n, a.remainder))
     }
 
     /// The counter to send to the reading end.
@@ -141,12 +147,18 @@ impl ReadingEnd {
         accepted(a.refusal, Self::of(a.end))
     }
 
-    /// Fills the first bytes of `dst` with as much as this end knows to be there; the rest of `dst` stays.
+    /// Fills the first bytes of `dst` with as much as this end knows to be there; the rest of `dst` stays. Answers how many
+    /// bytes that was.
     pub fn read(&mut self, ring: &[u8], dst: &mut [u8]) -> Result<usize, Refusal> {
+        Ok(self.read_portion(ring, dst)?.len)
+    }
+
+    /// The same, and answers how many bytes of `dst` there was no data for too.
+    pub fn read_portion(&mut self, ring: &[u8], dst: &mut [u8]) -> Result<Portion, Refusal> {
         let mut end = self.flat();
         let a = abi::reading_end_read_in_place(&mut end, ring, dst);
         *self = Self::of(end);
-        accepted(a.refusal, a.n as usize)
+        accepted(a.refusal, Portion::of(a.n, a.remainder))
     }
 
     /// The counter to send to the writing end.

@@ -45,4 +45,4 @@ mod scheduler;
 pub use ends::{ReadCounter, ReadingEnd, WritingEnd, WrittenCounter};
 pub use receiver::{Answer, Call, Ended, Failure, Outcome, Receiver, State, Violation, Wait};
 pub use refusal::Refusal;
-pub use scheduler::{OperationType, Scheduler};
+pub use scheduler::{OperationType, Places, Portion, Scheduler};

@@ -2,6 +2,8 @@
 
 use crate::abi;
 use crate::refusal::{Refusal, accepted, sound};
+use std::array::IntoIter;
+use std::iter::Take;
 use std::ops::Range;
 
 /// A read or a write.
@@ -24,6 +26,48 @@ impl OperationType {
             Self::Read => 0,
             Self::Write => 1,
         }
+    }
+}
+
+/// How many of the bytes asked were moved, and how many were left over: together they are what was asked.
+#[derive(Clone, Copy, Debug, PartialEq, Eq)]
+pub struct Portion {
+    pub len: usize,
+    pub remainder: usize,
+}
+
+impl Portion {
+    /// Both are at most the length of a slice.
+    pub(crate) fn of(len: u64, remainder: u64) -> Self {
+        let (len, remainder) = (len as usize, remainder as usize);
+        Self { len, remainder }
+    }
+}
+
+/// The places of the ring that an operation moves: at most two, in order, none empty.
+#[derive(Clone, Debug)]
+pub struct Places {
+    operations: Take<IntoIter<abi::Operation, 2>>,
+    remainder: u64,
+}
+
+impl Places {
+    /// How many of the bytes asked are left over after all the places.
+    pub fn remainder(&self) -> u64 {
+        self.remainder
+    }
+}
+
+impl Iterator for Places {
+    type Item = Range<u64>;
+
+    fn next(&mut self) -> Option<Range<u64>> {
+        let o = self.operations.next()?;
+        Some(o.off..o.off + o.len)
+    }
+
+    fn size_hint(&self) -> (usize, Option<usize>) {
+        self.operations.size_hint()
     }
 }
 
@@ -55,11 +99,12 @@ impl OperationType {
 /// assert_eq!((s.data_avail(), s.space_avail()), (1, 4));
 ///
 /// // A host that copies by itself asks where, and registers what it moved.
-/// let places: Vec<_> = s.schedule(OperationType::Write, 3).collect();
-/// assert_eq!(places, [4..5, 0..2]);
-/// s.register(OperationType::Write, 3)?;
-/// assert_eq!(s.data_avail(), 4);
-/// assert_eq!(s.register(OperationType::Write, 2).unwrap_err().number(), 6);
+/// let places = s.schedule(OperationType::Write, 6);
+/// assert_eq!(places.remainder(), 2);
+/// assert_eq!(places.collect::<Vec<_>>(), [4..5, 0..3]);
+/// s.register(OperationType::Write, 4)?;
+/// assert_eq!(s.data_avail(), 5);
+/// assert_eq!(s.register(OperationType::Write, 1).unwrap_err().number(), 6);
 /// # Ok(())
 /// # }
 /// ```
@@ -109,12 +154,8 @@ impl Scheduler {
         sound(a.refusal, a.value)
     }
 
-    /// The places of the ring that an operation of at most so many bytes moves: at most two, in order, none empty.
-    pub fn schedule(
-        &self,
-        op: OperationType,
-        max_len: u64,
-    ) -> impl Iterator<Item = Range<u64>> + use<> {
+    /// The places of the ring that an operation of at most so many bytes moves.
+    pub fn schedule(&self, op: OperationType, max_len: u64) -> Places {
         let a =
             abi::stripring_scheduler_schedule_contiguous_operations(self.0, op.number(), max_len);
         let abi::Operations {
@@ -122,10 +163,10 @@ impl Scheduler {
             first,
             second,
         } = sound(a.refusal, a.operations);
-        [first, second]
-            .into_iter()
-            .take(count as usize)
-            .map(|o| o.off..o.off + o.len)
+        Places {
+            operations: [first, second].into_iter().take(count as usize),
+            remainder: a.remainder,
+        }
     }
 
     /// Registers that so many bytes were moved.
@@ -135,17 +176,27 @@ impl Scheduler {
         Ok(())
     }
 
-    /// Writes as much of `src` as there is space for, and registers it.
+    /// Writes as much of `src` as there is space for, and registers it. Answers how many bytes that was.
     pub fn write(&mut self, ring: &mut [u8], src: &[u8]) -> Result<usize, Refusal> {
-        let a = abi::copies_write(self.0, ring, src);
-        self.0 = accepted(a.refusal, a.scheduler)?;
-        Ok(a.n as usize)
+        Ok(self.write_portion(ring, src)?.len)
     }
 
-    /// Reads as much data as there is into the first bytes of `dst`, and registers it.
+    /// The same, and answers how many bytes found no space too.
+    pub fn write_portion(&mut self, ring: &mut [u8], src: &[u8]) -> Result<Portion, Refusal> {
+        let a = abi::copies_write(self.0, ring, src);
+        self.0 = accepted(a.refusal, a.scheduler)?;
+        Ok(Portion::of(a.n, a.remainder))
+    }
+
+    /// Reads as much data as there is into the first bytes of `dst`, and registers it. Answers how many bytes that was.
     pub fn read(&mut self, ring: &[u8], dst: &mut [u8]) -> Result<usize, Refusal> {
+        Ok(self.read_portion(ring, dst)?.len)
+    }
+
+    /// The same, and answers how many bytes of `dst` there was no data for too.
+    pub fn read_portion(&mut self, ring: &[u8], dst: &mut [u8]) -> Result<Portion, Refusal> {
         let a = abi::copies_read(self.0, ring, dst);
         self.0 = accepted(a.refusal, a.scheduler)?;
-        Ok(a.n as usize)
+        Ok(Portion::of(a.n, a.remainder))
     }
 }

@@ -9,6 +9,7 @@ use flat::structs::NextAnswer;
 use flat::structs::Operation;
 use flat::structs::OperationsAnswer;
 use flat::structs::RangesAnswer;
+use flat::structs::ScheduleAnswer;
 use flat::structs::SchedulerAnswer;
 use flat::structs::StartsAnswer;
 use flat::structs::U64Answer;
@@ -59,7 +60,34 @@ pub fn blocks(line: &[u64], from: usize, a: BlocksAnswer) -> bool {
 pub fn next(line: &[u64], from: usize, a: NextAnswer) -> bool {
     let e = a.refusal;
     let o = a.operation;
-    answers(line, from, e, &[a.some, o.typ, o.off, o.len])
+    answers(
+        line,
+        from,
+        e,
+        &[a.some, o.typ, o.off, o.len, a.remainder],
+    )
+}
+
+pub fn scheduled(line: &[u64], from: usize, a: ScheduleAnswer) -> bool {
+    let e = a.refusal;
+    let list = a.operations;
+    let x = list.first;
+    let y = list.second;
+    answers(
+        line,
+        from,
+        e,
+        &[
+            list.count,
+            x.typ,
+            x.off,
+            x.len,
+            y.typ,
+            y.off,
+            y.len,
+            a.remainder,
+        ],
+    )
 }
 
 pub fn list(line: &[u64], from: usize, a: OperationsAnswer) -> bool {

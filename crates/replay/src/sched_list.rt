@@ -10,6 +10,7 @@ use crate::sched_answers::next;
 use crate::sched_answers::number;
 use crate::sched_answers::operation;
 use crate::sched_answers::ranges;
+use crate::sched_answers::scheduled;
 use crate::sched_answers::scheduler;
 use crate::sched_answers::starts;
 use crate::sched_inputs::diff_at;
@@ -158,8 +159,8 @@ fn from_35(op: u64, line: &[u64]) -> bool {
             5,
             schedule::stripring_scheduler_schedule_next_write(s, a),
         ),
-        36 => list(line, 5, schedule::stripring_scheduler_schedule_reads(s, a)),
-        37 => list(line, 5, schedule::stripring_scheduler_schedule_writes(s, a)),
+        36 => scheduled(line, 5, schedule::stripring_scheduler_schedule_reads(s, a)),
+        37 => scheduled(line, 5, schedule::stripring_scheduler_schedule_writes(s, a)),
         38 => scheduler(
             line,
             5,
@@ -183,7 +184,7 @@ fn from_40(op: u64, line: &[u64]) -> bool {
             6,
             schedule::stripring_scheduler_schedule_next_contiguous_operation(s, a, b),
         ),
-        41 => list(
+        41 => scheduled(
             line,
             6,
             schedule::stripring_scheduler_schedule_contiguous_operations(s, a, b),

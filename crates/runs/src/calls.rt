@@ -11,16 +11,19 @@ use sched::AmountAnswer;
 use sched::Counter;
 use sched::RingBufferScheduler;
 
-// The scheduler of an end after a call, how many bytes were moved, and the refusal's number: 0 where the call is accepted.
+// The scheduler of an end after a call, how many bytes were moved and how many of those asked were left over, and the refusal's number:
+// 0 where the call is accepted.
 pub struct Told {
     pub scheduler: RingBufferScheduler,
     pub n: u64,
+    pub remainder: u64,
     pub number: u64,
 }
 
 impl Told {
     pub fn same(self, other: Told) -> bool {
         self.n == other.n
+            && self.remainder == other.remainder
             && self.number == other.number
             && same_scheduler(self.scheduler, other.scheduler)
     }
@@ -32,10 +35,11 @@ pub fn same_scheduler(a: RingBufferScheduler, b: RingBufferScheduler) -> bool {
         && a.items_read.0 == b.items_read.0
 }
 
-pub fn accepted(scheduler: RingBufferScheduler, n: u64) -> Told {
+pub fn accepted(scheduler: RingBufferScheduler, n: u64, remainder: u64) -> Told {
     Told {
         scheduler,
         n,
+        remainder,
         number: 0,
     }
 }
@@ -44,6 +48,7 @@ pub fn refused(scheduler: RingBufferScheduler, number: u64) -> Told {
     Told {
         scheduler,
         n: 0,
+        remainder: 0,
         number,
     }
 }
@@ -69,14 +74,14 @@ pub fn sent_by_reader(scheduler: RingBufferScheduler) -> u64 {
 
 pub fn take_read(scheduler: RingBufferScheduler, counter: u64) -> Told {
     match (WritingEnd { scheduler }).take(ReadCounter(Counter(counter))) {
-        WritingEndAnswer::Of(end) => accepted(end.scheduler, 0),
+        WritingEndAnswer::Of(end) => accepted(end.scheduler, 0, 0),
         WritingEndAnswer::Refused(e) => refused(scheduler, e.number()),
     }
 }
 
 pub fn take_written(scheduler: RingBufferScheduler, counter: u64) -> Told {
     match (ReadingEnd { scheduler }).take(WrittenCounter(Counter(counter))) {
-        ReadingEndAnswer::Of(end) => accepted(end.scheduler, 0),
+        ReadingEndAnswer::Of(end) => accepted(end.scheduler, 0, 0),
         ReadingEndAnswer::Refused(e) => refused(scheduler, e.number()),
     }
 }

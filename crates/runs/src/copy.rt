@@ -59,14 +59,14 @@ pub fn read_out(
 
 fn wrote(before: RingBufferScheduler, answer: Wrote) -> Told {
     match answer {
-        Wrote::Moved { end, n } => accepted(end.scheduler, n),
+        Wrote::Moved { end, portion } => accepted(end.scheduler, portion.len, portion.remainder),
         Wrote::Refused(e) => refused(before, e.number()),
     }
 }
 
 fn got(before: RingBufferScheduler, answer: Got) -> Told {
     match answer {
-        Got::Moved { end, n } => accepted(end.scheduler, n),
+        Got::Moved { end, portion } => accepted(end.scheduler, portion.len, portion.remainder),
         Got::Refused(e) => refused(before, e.number()),
     }
 }
@@ -107,7 +107,7 @@ fn flat(lent: Lent) -> Told {
     let scheduler = lent.scheduler;
     let told = lent.told;
     match told {
-        copies::Told::Moved(n) => accepted(scheduler, n),
+        copies::Told::Moved(portion) => accepted(scheduler, portion.len, portion.remainder),
         copies::Told::Refused(e) => refused(scheduler, e.number()),
     }
 }

@@ -88,12 +88,14 @@ fn got(mut world: World, asked: u64, copied: Copied) -> World {
     world
 }
 
-// As many bytes as asked and as the record has; and the record has as many as the positions allow.
+// As many bytes as asked and as the record has, and the rest of those asked is left over; and the record has as many as the positions
+// allow.
 fn moved(report: Report, by: usize, told: Told, asked: u64, has: u64, allowed: u64) -> Report {
     report
         .check(report::ACCEPTED, told.number == 0)
         .check(report::VIEWS, has == allowed)
         .check(report::EXACT, told.n == min(asked, has))
+        .check(report::LEFT_OVER, add(told.n, told.remainder) == asked)
         .plus(by, 1)
         .plus(behind(by, 1), told.n)
 }

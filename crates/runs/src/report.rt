@@ -45,23 +45,25 @@ pub const VIEWS: usize = 21;
 
 pub const EXACT: usize = 23;
 
-pub const IN_ORDER: usize = 25;
+pub const LEFT_OVER: usize = 25;
 
-pub const UNTOUCHED: usize = 27;
+pub const IN_ORDER: usize = 27;
 
-pub const IN_CELLS: usize = 29;
+pub const UNTOUCHED: usize = 29;
 
-pub const ONLY_OWN: usize = 31;
+pub const IN_CELLS: usize = 31;
 
-pub const AGREED: usize = 33;
+pub const ONLY_OWN: usize = 33;
 
-pub const NUMBERS: usize = 35;
+pub const AGREED: usize = 35;
 
-pub const LEFT: usize = 37;
+pub const NUMBERS: usize = 37;
 
-pub const LENT: usize = 39;
+pub const LEFT: usize = 39;
 
-const COUNTS: usize = 41;
+pub const LENT: usize = 41;
+
+const COUNTS: usize = 43;
 
 pub struct Report {
     counts: [u64; COUNTS],
@@ -120,6 +122,7 @@ read counters: % sent, % taken, % lost, % late, % repeated\n\
 no call is refused: % checks, % failures\n\
 each record allows what its positions say: % checks, % failures\n\
 as many bytes as asked and allowed: % checks, % failures\n\
+moved and left over are what was asked: % checks, % failures\n\
 bytes read are the next ones written: % checks, % failures\n\
 the rest of a destination is untouched: % checks, % failures\n\
 each unread byte stands in its cell: % checks, % failures\n\
@@ -146,7 +149,7 @@ a lent scheduler makes the same copy: % checks, % failures\n",
     }
 }
 
-// No index is above 41, so the sum does not wrap.
+// No index is above 43, so the sum does not wrap.
 pub fn behind(i: usize, by: usize) -> usize {
     std::num::wrapping_add_usize(i, by)
 }

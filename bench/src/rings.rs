@@ -181,18 +181,18 @@ struct InPlace(Ends);
 impl Ring for InPlace {
     fn write(&mut self, src: &[u8]) -> usize {
         let ends = &mut self.0;
-        let n = stripring::end_write_in_place(&mut ends.writing, &mut ends.memory, src).of.n;
+        let moved = stripring::end_write_in_place(&mut ends.writing, &mut ends.memory, src).of;
         let sent = stripring::send_written(ends.writing).of;
         stripring::take_written_in_place(&mut ends.reading, sent);
-        n as usize
+        moved.n as usize
     }
 
     fn read(&mut self, dst: &mut [u8]) -> usize {
         let ends = &mut self.0;
-        let n = stripring::end_read_in_place(&mut ends.reading, &ends.memory, dst).of.n;
+        let moved = stripring::end_read_in_place(&mut ends.reading, &ends.memory, dst).of;
         let sent = stripring::send_read(ends.reading).of;
         stripring::take_read_in_place(&mut ends.writing, sent);
-        n as usize
+        moved.n as usize
     }
 }
 

@@ -99,9 +99,9 @@ fn print_head() {
         "# scheduler: L written read; block: type no offset length; operation: type offset length"
     );
     println!("# list: the count and each operation, with its start or its start and end before it");
-    println!("# what is scheduled: the count and each operation, 0 0 0 for each that is lacking of one");
-    println!("# (a next operation) or of two (operations, reads, writes); then what is left over of n,");
-    println!("# which the Rust does not answer: n less the lengths of its operations");
+    println!("# what is scheduled: the count, one place (next operation) or two (list), each an");
+    println!("# operation or 0 0 0, and what is left over of n. The Rust does not answer that:");
+    println!("# it is n less the lengths of its operations");
     println!("# where a list is taken, a count above 1 stands for two; only so many are looked at");
     println!("# diff: 0 for Same, 1 for Different, then old and new");
 }

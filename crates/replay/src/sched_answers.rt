@@ -60,12 +60,7 @@ pub fn blocks(line: &[u64], from: usize, a: BlocksAnswer) -> bool {
 pub fn next(line: &[u64], from: usize, a: NextAnswer) -> bool {
     let e = a.refusal;
     let o = a.operation;
-    answers(
-        line,
-        from,
-        e,
-        &[a.some, o.typ, o.off, o.len, a.remainder],
-    )
+    answers(line, from, e, &[a.some, o.typ, o.off, o.len, a.remainder])
 }
 
 pub fn scheduled(line: &[u64], from: usize, a: ScheduleAnswer) -> bool {

@@ -69,9 +69,9 @@ fn the_most_that_can_be_asked_of_a_ring_of_one() {
     assert_eq!((next.some, next.operation), (1, write(0, 1)));
     assert_eq!(next.remainder, u64::MAX - 1);
 
-    let places = scheduler([1, 0, 0]).schedule(OperationType::Write, u64::MAX);
+    let mut places = scheduler([1, 0, 0]).schedule(OperationType::Write, u64::MAX);
     assert_eq!(places.remainder(), u64::MAX - 1);
-    assert_eq!(places.collect::<Vec<_>>(), [0..1]);
+    assert_eq!((places.next(), places.next()), (Some(0..1), None));
 }
 
 #[test]

@@ -1,12 +1,12 @@
 -- The table: what a contract allows is what it says, and every row computes.
 use mathlib.Core.Path.{refl, ap}
 use Rattle.modular.specs.Modulus.{wholeAt, rawAt, doubleAt, subMod, addMod}
-use Rattle.sched.specs.Scheduler.{soundOf, fillStateIn, layoutIn, cutOf, registerIn}
+use Rattle.sched.specs.Scheduler.{soundOf, fillStateIn, layoutIn, someOf, scheduleIn, registerIn}
 use Rattle.states.specs.State.{fitsErrno, normalizeIn, towardsErrorIn}
 use Rattle.paper.specs.Table.{Table, refusedWith}
 
 pub table : Table
-unfolding wholeAt rawAt doubleAt subMod addMod soundOf fillStateIn layoutIn cutOf registerIn fitsErrno normalizeIn towardsErrorIn
+unfolding wholeAt rawAt doubleAt subMod addMod soundOf fillStateIn layoutIn someOf scheduleIn registerIn fitsErrno normalizeIn towardsErrorIn
 table =
     record {
       rolled-over-data = λ z ws says. says;
@@ -18,6 +18,12 @@ table =
       full-layout = λ z ws says. says;
       overfull = λ z ws says. ap refusedWith says;
       wrapped-data = λ z ws says. says;
+      next-of-9 = λ z ws says. says;
+      list-of-9 = λ z ws says. says;
+      next-of-none = λ z ws says. says;
+      list-of-none = λ z ws says. says;
+      next-of-most = λ z ws says. says;
+      list-of-most = λ z ws says. says;
       write-of-4 = λ z ws says. says;
       write-of-4-number = refl;
       write-of-3 = λ z ws says. says;

@@ -10,26 +10,35 @@ use Rattle.modular.specs.declared.Modulus.{Modulus}
 use Rattle.modular.specs.declared.OptionModulus.the-variants as modulus
 use Rattle.operations.specs.Operation.{operationOf}
 use Rattle.operations.specs.Refusal.{numberOf}
-use Rattle.sched.specs.Scheduler.{schedulerOf}
+use Rattle.sched.specs.Scheduler.{schedulerOf, scheduledOf}
 use Rattle.sched.specs.declared.block.BufferFillState.the-variants.{Full}
 use Rattle.sched.specs.declared.block.BufferLayout.the-variants.{DataFreeData}
 use Rattle.sched.specs.declared.block.FillStateAnswer.the-variants as fill
 use Rattle.sched.specs.declared.block.LayoutAnswer.the-variants as layout
 use Rattle.operations.specs.declared.counter.AmountAnswer.the-variants as amount
 use Rattle.operations.specs.declared.counter.Counter.{Counter}
-use Rattle.operations.specs.declared.list.OperationsAnswer.the-variants as operations
-use Rattle.operations.specs.declared.list.ScheduledOperations.the-variants.{Two}
+use Rattle.operations.specs.declared.list.ScheduledOperations.{ScheduledOperations}
+use Rattle.operations.specs.declared.list.ScheduledOperations.the-variants as list
+use Rattle.operations.specs.declared.operation.OperationType.{OperationType}
 use Rattle.operations.specs.declared.operation.OperationType.the-variants.{Read, Write}
 use Rattle.operations.specs.declared.operation.ScheduledOperation.{ScheduledOperation}
 use Rattle.operations.specs.declared.refusal.Refusal.the-variants.{OperationTooLarge}
 use Rattle.sched.specs.declared.scheduler.Checked.{Checked}
 use Rattle.sched.specs.declared.scheduler.Checked.the-variants as checked
 use Rattle.sched.specs.declared.register.Registered.the-variants as registered
+use Rattle.sched.specs.declared.schedule.NextOperation.{NextOperation}
+use Rattle.sched.specs.declared.schedule.NextOperation.the-variants as next
+use Rattle.sched.specs.declared.schedule.NextOperationAnswer.the-variants as nexts
+use Rattle.sched.specs.declared.schedule.ScheduledAnswer.the-variants as schedules
 use Rattle.sched.specs.declared.scheduler.RingBufferScheduler.{RingBufferScheduler}
 use Rattle.sched.proofs.scheduler.RingBufferScheduler.try_from_counters.Kinds as made-kinds
 use Rattle.sched.proofs.scheduler.RingBufferScheduler.try_from_counters.Reads as made
 use Rattle.sched.proofs.scheduler.RingBufferScheduler.data_avail.Kinds as data-kinds
 use Rattle.sched.proofs.scheduler.RingBufferScheduler.data_avail.Reads as data-avail
+use Rattle.sched.proofs.scheduler.RingBufferScheduler.schedule_next_contiguous_operation.Kinds as next-kinds
+use Rattle.sched.proofs.scheduler.RingBufferScheduler.schedule_next_contiguous_operation.Reads as schedule-next
+use Rattle.sched.proofs.scheduler.RingBufferScheduler.schedule_contiguous_operations.Kinds as schedule-kinds
+use Rattle.sched.proofs.scheduler.RingBufferScheduler.schedule_contiguous_operations.Reads as schedule
 use Rattle.sched.proofs.scheduler.RingBufferScheduler.schedule_reads.Kinds as reads-kinds
 use Rattle.sched.proofs.scheduler.RingBufferScheduler.schedule_reads.Reads as reads
 use Rattle.sched.proofs.scheduler.RingBufferScheduler.fill_state.Kinds as fill-kinds
@@ -57,9 +66,12 @@ ring l w r = schedulerOf l (record { 0 = w }) (record { 0 = r })
 abbrev pub counter : ℕ → Counter
 counter c = record { 0 = c }
 
--- a read of n from offset a on
+-- a read, a write of n from offset a on
 abbrev pub readAt : ℕ → ℕ → ScheduledOperation
 readAt a n = operationOf Read (record { 0 = a }) n
+
+abbrev pub writeAt : ℕ → ℕ → ScheduledOperation
+writeAt a n = operationOf Write (record { 0 = a }) n
 
 abbrev pub of8 : ℕ → Modulus
 of8 m = record { 0 = m }
@@ -73,6 +85,13 @@ refusedWith (checked.Refused e) = numberOf e
 abbrev Refuses : ℕ → ℕ → ℕ → ℕ → Type 0
 Refuses l w r k = Answers made-kinds.ps made-kinds.r made.Learnt (l, (counter w, (counter r, tt))) (λ z. refusedWith z ≡ k)
 
+-- of m items asked, this operation is the next, or this is the list, and so many are left over
+abbrev Next : RingBufferScheduler → OperationType → ℕ → NextOperation → ℕ → Type 0
+Next s t m o left = Answers next-kinds.ps next-kinds.r schedule-next.Learnt (s, (t, (m, tt))) (λ z. z ≡ nexts.Of (record { operation = o; remainder = left }))
+
+abbrev Schedules : RingBufferScheduler → OperationType → ℕ → ScheduledOperations → ℕ → Type 0
+Schedules s t m ops left = Answers schedule-kinds.ps schedule-kinds.r schedule.Learnt (s, (t, (m, tt))) (λ z. z ≡ schedules.Of (scheduledOf ops left))
+
 -- a state is advanced by another to this one
 abbrev Advances : OperationalState → OperationalState → OperationalState → Type 0
 Advances s by to = Answers advance-kinds.ps advance-kinds.r advance.Learnt (s, (by, tt)) (λ z. z ≡ state.Of to)
@@ -81,7 +100,7 @@ pub record Table : Type 0 where
   pub rolled-over-data : Answers data-kinds.ps data-kinds.r data-avail.Learnt (ring (2 ^ 63) 5 (2 ^ 64 - 3), tt) (λ z. z ≡ amount.Of 8)
   pub rolled-over-read :
       Answers reads-kinds.ps reads-kinds.r reads.Learnt (ring (2 ^ 63) 5 (2 ^ 64 - 3), (8, tt))
-      (λ z. z ≡ operations.Of (Two (readAt (2 ^ 63 - 3) 3) (readAt 0 5)))
+      (λ z. z ≡ schedules.Of (scheduledOf (list.Two (readAt (2 ^ 63 - 3) 3) (readAt 0 5)) 0))
   pub too-long : Refuses (2 ^ 63 + 1) 0 0 2
   pub written-too-far : Refuses 10 20 20 3
   pub read-too-far : Refuses 10 0 20 4
@@ -89,6 +108,12 @@ pub record Table : Type 0 where
   pub full-layout : Answers layout-kinds.ps layout-kinds.r layout-call.Learnt (ring 10 10 0, tt) (λ z. z ≡ layout.Of DataFreeData)
   pub overfull : Refuses 10 11 0 5
   pub wrapped-data : Answers data-kinds.ps data-kinds.r data-avail.Learnt (ring 10 0 11, tt) (λ z. z ≡ amount.Of 9)
+  pub next-of-9 : Next (ring 10 7 3) Write 9 (next.Some (writeAt 7 3)) 6
+  pub list-of-9 : Schedules (ring 10 7 3) Write 9 (list.Two (writeAt 7 3) (writeAt 0 3)) 3
+  pub next-of-none : Next (ring 10 3 3) Read 4 next.None 4
+  pub list-of-none : Schedules (ring 10 3 3) Read 4 list.None 4
+  pub next-of-most : Next (ring 1 0 0) Write (2 ^ 64 - 1) (next.Some (writeAt 0 1)) (2 ^ 64 - 2)
+  pub list-of-most : Schedules (ring 1 0 0) Write (2 ^ 64 - 1) (list.One (writeAt 0 1)) (2 ^ 64 - 2)
   pub write-of-4 :
       Answers register-kinds.ps register-kinds.r register.Learnt (ring 10 19 12, (4, tt)) (λ z. z ≡ registered.Refused (OperationTooLarge Write 4 3))
   pub write-of-4-number : numberOf (OperationTooLarge Write 4 3) ≡ 6

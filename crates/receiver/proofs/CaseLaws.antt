@@ -16,7 +16,8 @@ use Rattle.sched.specs.Scheduler.{IsSound, dataIn, spaceIn, offsetIn, advancedI
 use Rattle.copies.specs.Ring.{get}
 use Rattle.receiver.proofs.ChunkLaws as chunk
 use Rattle.states.proofs.Rules.{advance-rule, holds-rule}
-use Rattle.receiver.proofs.Rules.{batch-rule, saidBy, announcement-says}
+use Rattle.receiver.proofs.Rules.{saidBy, announcement-says}
+use Rattle.states.proofs.Rules.{batch-rule}
 use Rattle.receiver.specs.Call.{dropping, call, finishedCall, toldIn, shutOrFinishBy, shutdownBy, advanceCall, flushCall, serviceCallBy, serviceCall, drainCall, sentCall, unsentCall, handOutCall, failedCall, blockedBy, announcedCall, afterReceive, liveCall, readBy, readCall}
 use Rattle.receiver.specs.Cases as cases
 use Rattle.states.specs.Promise.{violation-1}

@@ -17,7 +17,8 @@ use Rattle.states.specs.Answer.{interruptedOf, receivedOf, sentOf, shutOf}
 use Rattle.receiver.specs.Call.{telling, serviceCall, advanceCall, sentCall, unsentCall, afterSend, afterShut, afterReceive, readCall, admittedStep, wanted, beginReadOf, beginServiceOf, beginShutdownOf, looksBy, looksAt, resumedBy, resumedOf, steppedBy, answeredFrom, answeredOf}
 use Rattle.receiver.specs.Cases.{none-met, Closes, is-normal, shut-before, asks, Flushes, none-pending, sends, Serves, failed-before, flushes, TakesSent, TakesReceived, TakesShut, is-shut, is-not, HandsOut, a-part, all-of-it, a-want, BeginsRead, is-terminated, none-asked, awaits, holds-data, BeginsService, BeginsShutdown, Looks, at-a-byte, at-no-byte, at-a-send, at-a-shutdown, at-the-end, ResumesIn, Resumes, Interrupts, TakesIn, Takes, Answered, Goes}
 use Rattle.states.specs.Promise.{AByte, SaysReceived, a-byte, closed, receive-failed, no-receive, SaysSent, so-many}
-use Rattle.receiver.specs.Promise.{Batch, all, most, nothing-more}
+use Rattle.states.specs.Promise.{Batch, all, most}
+use Rattle.receiver.specs.Promise.{nothing-more}
 use Rattle.receiver.specs.Receiver.{doneOutcome, batchIn, bySent}
 use Rattle.receiver.specs.declared.admission.Admission.{Admission}
 use Rattle.receiver.specs.declared.admission.Admission.the-variants as admission

@@ -20,7 +20,8 @@ use Rattle.states.specs.Answer.{receivedOf}
 use Rattle.receiver.specs.Call.{telling, call, admittedStep, beginReadOf, beginServiceOf, beginShutdownOf, retriesIn, retriesOf, looksBy, looksAt, resumedBy, answeredOf}
 use Rattle.receiver.specs.Cases.{Closes, is-normal, shut-before, asks, Flushes, none-pending, sends, Serves, failed-before, flushes, Advances, TakesSent, none-went, some-went, send-blocks, send-fails, TakesShut, is-shut, is-not, HandsOut, a-part, all-of-it, goes-on, is-drained, TakesReceived, announces, header-violates, byte-violates, receive-blocks, receive-fails, Reading, a-want, BeginsRead, is-terminated, none-asked, awaits, holds-data, BeginsService, BeginsShutdown, ResumesIn, Resumes, TakesIn, Takes, Goes}
 use Rattle.states.specs.Promise.{Errno, FailureFits, Stored, Reason, end-and-end, end-gives-way, error-and-end, error-stays, Holds, holds-none, draining-holds, terminated-holds, Advanced, calm-by-calm, calm-by-draining, calm-by-terminated, terminated-stays, draining-stays, draining-by-draining, draining-by-terminated, SaysReceived, a-byte, closed, receive-failed, no-receive, SaysSent, send-failed}
-use Rattle.receiver.specs.Promise.{Batch, all, most, nothing-more}
+use Rattle.states.specs.Promise.{Batch, all, most}
+use Rattle.receiver.specs.Promise.{nothing-more}
 use Rattle.receiver.specs.Receiver.{doneOutcome}
 use Rattle.receiver.specs.declared.admission.Admission.{Admission}
 use Rattle.receiver.specs.declared.admission.Admission.the-variants as admission

@@ -1,4 +1,4 @@
--- The rules keep what specs/Promise.antt says of them: batches, and what a header says.
+-- The rule keeps what specs/Promise.antt says of it: what a header says.
 use Prim.Native.Nat.{ℕ, _+_, _-_, _/_, _%_, _^_, _<_, _≤_, min}
 use mathlib.Core.Path.{_≡_, refl, subst}
 use mathlib.Core.Bool.{Bool, true, false}
@@ -18,21 +18,13 @@ use Rattle.copies.specs.Promises.{numberAt}
 use Rattle.copies.specs.Ring.{get}
 use Rattle.copies.proofs.NumberLaws.{number-at}
 use Rattle.receiver.proofs.ChunkLaws.{holds}
-use Rattle.receiver.specs.Promise.{Batch, all, most, Said, body, violates, Announces, no-room-for-a-header, format-unknown, length-0, too-long, accepted}
+use Rattle.receiver.specs.Promise.{Said, body, violates, Announces, no-room-for-a-header, format-unknown, length-0, too-long, accepted}
 use Rattle.receiver.specs.Receiver.{headerIn, announcedIn}
 use Rattle.states.specs.State.{violationNumber}
 use Rattle.receiver.specs.declared.announcement.Announced.{Announced}
 use Rattle.receiver.specs.declared.announcement.Announced.the-variants as announcement
 use Rattle.receiver.specs.declared.receiver.Beside.{Beside}
 use Rattle.states.specs.declared.state.Failure.the-variants.{Io, Protocol}
-
--- ---- batches
-pub batch-rule : (p : ℕ) → p ≢ 0 → Batch p (min 128 p)
-batch-rule p z = by (leb 128 p) refl
-  where
-    by : (b : Bool) → leb 128 p ≡ b → Batch p (min 128 p)
-    by true e = let m : min 128 p ≡ 128 = omega (arith, leb-true 128 p e) in rw m (most (leb-true 128 p e))
-    by false e = let m : min 128 p ≡ p = omega (arith, leb-false 128 p e) in rw m (all (omega (arith, z)) (omega (arith, leb-false 128 p e)))
 
 -- ---- announcements
 abbrev pub saidBy : Announced → Said

@@ -12,7 +12,8 @@ use Rattle.sched.specs.Promise.{ReadBy, WrittenBy}
 use Rattle.sched.specs.Scheduler.{dataIn, offsetIn}
 use Rattle.copies.specs.Promises.{numberAt}
 use Rattle.states.specs.Promise.{AByte, SaysReceived, SaysSent, SaysShut, Advanced, Holds}
-use Rattle.receiver.specs.Promise.{Batch, nothing-more, with-descriptors, Said, body, violates, Announces}
+use Rattle.states.specs.Promise.{Batch}
+use Rattle.receiver.specs.Promise.{nothing-more, with-descriptors, Said, body, violates, Announces}
 use Rattle.receiver.specs.declared.admission.Memory.{Memory}
 use Rattle.receiver.specs.declared.admission.Memory.the-variants as memory
 use Rattle.states.specs.declared.answer.Answer.{Answer}

@@ -1,13 +1,8 @@
--- What the receiver promises of a batch and of an announcement, told again by cases and in other words than those of its rules, so that a
+-- What the receiver promises of an announcement, told again by cases and in other words than those of its rules, so that a
 -- rule that is changed in its place is seen.
 use Prim.Native.Nat.{ℕ, _+_, _%_, _^_, _<_, _≤_}
 use mathlib.Core.Path.{_≡_}
 use Rattle.receiver.specs.declared.receiver.Beside.{Beside}
-
--- ---- acknowledgements: a batch is all that is pending, or 128 of it, and never empty
-pub data Batch (pending : ℕ) : ℕ → Type 0 where
-  all : 1 ≤ pending → pending ≤ 128 → Batch pending pending
-  most : 128 ≤ pending → Batch pending 128
 
 -- ---- beside an outcome: no descriptors, or as many as came with the byte of a chunk
 abbrev pub nothing-more : Beside

@@ -1,5 +1,5 @@
 -- The receiver's record, and the parts of its rules: what is made new, a batch, an announcement, bytes that are handed out.
-use Prim.Native.Nat.{ℕ, _+_, _-_, _/_, _%_, _^_, min}
+use Prim.Native.Nat.{ℕ, _+_, _-_, _/_, _%_, _^_}
 use mathlib.Core.Bool.{Bool, cond, true, false}
 use mathlib.Core.List.{List}
 use lib.Dec.{eqb, ltb}
@@ -14,6 +14,7 @@ use Rattle.copies.specs.Number.{numberFrom}
 use Rattle.copies.specs.Ring.{get}
 use Rattle.receiver.specs.declared.announcement.Announced.{Announced}
 use Rattle.receiver.specs.declared.announcement.Announced.the-variants as announced
+use Rattle.states.specs.Answer.{batchOf}
 use Rattle.states.specs.declared.answer.Sent.{Sent}
 use Rattle.states.specs.declared.answer.Sent.the-variants as sent
 use Rattle.receiver.specs.declared.receiver.Beside.{Beside}
@@ -74,9 +75,9 @@ abbrev pub receiverOf : RingBufferScheduler → ReceiverAnswer
 receiverOf s = receiverFrom (soundOf s)
 
 -- ---- acknowledgements
--- a batch is min(128, pending)
+-- a batch of what is pending
 abbrev pub batchIn : ReceiverState → ℕ
-batchIn q = min 128 (q .«pending_ack_count»)
+batchIn q = batchOf (q .«pending_ack_count»)
 
 -- what a send says
 abbrev pub bySent : {X : Type 0} → Sent → (ℕ → X) → (ℕ → X) → X → X

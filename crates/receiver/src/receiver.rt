@@ -6,6 +6,7 @@ use sched::RingBufferScheduler;
 use states::Failure;
 use states::OperationalState;
 use states::Refusal;
+use states::batch_of;
 
 pub struct ReceiverState {
     pub scheduler: RingBufferScheduler,
@@ -92,8 +93,6 @@ impl Outcome {
 }
 
 impl ReceiverState {
-    const GREATEST_BATCH: u64 = 128;
-
     pub(crate) const MOST_PENDING: u64 = 18446744073709551615;
 
     pub(crate) fn with_scheduler(self, scheduler: RingBufferScheduler) -> ReceiverState
@@ -146,15 +145,11 @@ impl ReceiverState {
         }
     }
 
-    // A batch of acknowledgements: all that is pending, or 128 of it.
+    // A batch of what is pending.
     pub(crate) fn batch(self) -> u64
         ensures { λ r. ⌜ r ≡ batchIn self ⌝ }
     {
-        let pending = self.pending_ack_count;
-        if ReceiverState::GREATEST_BATCH <= pending {
-            return ReceiverState::GREATEST_BATCH;
-        }
-        pending
+        batch_of(self.pending_ack_count)
     }
 
     // The ring's bytes and the socket stay with the host.

@@ -1,11 +1,13 @@
 -- Answers at their place, and advancing a state: whatever an attached contract allows keeps the promises of specs/Promise.antt.
 use mathlib.Core.Path.{_≡_, refl, sym, subst, _∙_}
 use mathlib.Core.Bool.{Bool, true, false}
+use mathlib.Core.Logic.{_≢_}
+use native.Mathlib.Omega.{arith}
 use Rattle.modular.proofs.Saying.{Keeps}
 use Rattle.states.proofs.AnswerSays.{state-fits, received-says, sent-says, shut-says, interrupted-says}
-use Rattle.states.proofs.Rules.{advance-rule}
-use Rattle.states.proofs.Says.{advance-state-towards-termination-says, is-interruption-says, received-says as received-is, sent-says as sent-is, shut-says as shut-is}
-use Rattle.states.specs.Promise.{Stored, Advanced, SaysReceived, SaysSent, SaysShut}
+use Rattle.states.proofs.Rules.{batch-rule, advance-rule}
+use Rattle.states.proofs.Says.{advance-state-towards-termination-says, is-interruption-says, batch-of-says, received-says as received-is, sent-says as sent-is, shut-says as shut-is}
+use Rattle.states.specs.Promise.{Batch, Stored, Advanced, SaysReceived, SaysSent, SaysShut}
 use Rattle.states.specs.State.{fitsState, advanceIn, testedState}
 use Rattle.states.specs.declared.refusal.Refusal.the-variants.{Misfit}
 use Rattle.states.specs.declared.state.OperationalState.{OperationalState}
@@ -14,6 +16,8 @@ use Rattle.states.proofs.answer.Answer.is_interruption.Kinds as is-inte
 use Rattle.states.proofs.answer.Answer.is_interruption.Reads as is-interruption
 use Rattle.states.proofs.answer.Answer.received.Kinds as received-kinds
 use Rattle.states.proofs.answer.Answer.received.Reads as received-reads
+use Rattle.states.proofs.answer.batch_of.Kinds as batch-of-kinds
+use Rattle.states.proofs.answer.batch_of.Reads as batch-of
 use Rattle.states.proofs.answer.Answer.sent.Kinds as sent-kinds
 use Rattle.states.proofs.answer.Answer.sent.Reads as sent-reads
 use Rattle.states.proofs.answer.Answer.shut.Kinds as shut-kinds
@@ -24,6 +28,9 @@ use Rattle.states.proofs.state.OperationalState.advance_state_towards_t
 -- ---- answers at their place
 pub received-promised : Keeps 0 received-kinds.ps received-kinds.r received-reads.Learnt (λ κs a z. SaysReceived (a .0) (a .1 .0) z)
 received-promised κs a z p = subst (SaysReceived (a .0) (a .1 .0)) (sym (received-is κs a z (p .0) (p .1))) (received-says (a .0) (a .1 .0))
+
+pub batch-promised : Keeps 0 batch-of-kinds.ps batch-of-kinds.r batch-of.Learnt (λ κs a z. (a .0 ≢ 0 → Batch (a .0) z) × (a .0 ≡ 0 → z ≡ 0))
+batch-promised κs a z p = rw (batch-of-says κs a z (p .0) (p .1)) (batch-rule (a .0), λ e. omega arith)
 
 pub sent-promised : Keeps 0 sent-kinds.ps sent-kinds.r sent-reads.Learnt (λ κs a z. SaysSent (a .0) (a .1 .0) z)
 sent-promised κs a z p = subst (SaysSent (a .0) (a .1 .0)) (sym (sent-is κs a z (p .0) (p .1))) (sent-says (a .0) (a .1 .0))

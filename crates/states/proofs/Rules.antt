@@ -1,12 +1,13 @@
--- The rules keep what specs/Promise.antt says of them: the reason rule, advancing a state, the violations' numbers.
-use Prim.Native.Nat.{ℕ, _-_, _/_}
+-- The rules keep what specs/Promise.antt says of them: batches, the reason rule, advancing a state, the violations' numbers.
+use Prim.Native.Nat.{ℕ, _-_, _/_, min}
 use mathlib.Core.Path.{_≡_, refl, ap, _∙_}
 use mathlib.Core.Bool.{Bool, cond, true, false}
 use mathlib.Core.Logic.{_≢_}
 use native.Mathlib.Omega.{arith}
-use lib.Dec.{eqb}
-use borrow.Author.Tests.{eqb-true, eqb-false, eq-eqb}
-use Rattle.states.specs.Promise.{Reason, end-and-end, end-gives-way, error-and-end, error-stays, normal, blocked-draining, blocked-terminated, Normalized, calmed, drains, ends, Holds, holds-none, draining-holds, terminated-holds, Carries, normal-carries-none, draining-carries, terminated-carries, Advanced, calm-by-calm, calm-by-draining, calm-by-terminated, terminated-stays, draining-stays, draining-by-draining, draining-by-terminated}
+use lib.Dec.{eqb, leb}
+use borrow.Author.Tests.{eqb-true, eqb-false, eq-eqb, leb-true, leb-false}
+use Rattle.states.specs.Answer.{batchOf}
+use Rattle.states.specs.Promise.{Batch, all, most, Reason, end-and-end, end-gives-way, error-and-end, error-stays, normal, blocked-draining, blocked-terminated, Normalized, calmed, drains, ends, Holds, holds-none, draining-holds, terminated-holds, Carries, normal-carries-none, draining-carries, terminated-carries, Advanced, calm-by-calm, calm-by-draining, calm-by-terminated, terminated-stays, draining-stays, draining-by-draining, draining-by-terminated}
 use Rattle.states.specs.State.{violationNumber, violationAt, isErrno, failureIn, withFailureIn, normalizeIn, towardsErrorIn, advanceNormal, advanceIn}
 use Rattle.states.specs.declared.state.Failure.{Failure}
 use Rattle.states.specs.declared.state.Failure.the-variants.{Io, Protocol}
@@ -15,6 +16,14 @@ use Rattle.states.specs.declared.state.OperationalState.the-variants.{No
 use Rattle.states.specs.declared.state.Violation.{Violation}
 use Rattle.states.specs.declared.state.Violation.the-variants.{InvalidChunkAnnouncement, ControlOverflow, UnknownHeader, InvalidChunkLength}
 use Rattle.states.specs.Promise.{Numbered, violation-1, violation-2, violation-3, violation-4, ReadBack, has-number, no-number}
+
+-- ---- batches
+pub batch-rule : (p : ℕ) → p ≢ 0 → Batch p (batchOf p)
+batch-rule p z = by (leb 128 p) refl
+  where
+    by : (b : Bool) → leb 128 p ≡ b → Batch p (batchOf p)
+    by true e = let m : min 128 p ≡ 128 = omega (arith, leb-true 128 p e) in rw m (most (leb-true 128 p e))
+    by false e = let m : min 128 p ≡ p = omega (arith, leb-false 128 p e) in rw m (all (omega (arith, z)) (omega (arith, leb-false 128 p e)))
 
 -- ---- reasons
 is-errno : (f : Failure) (k : ℕ) → isErrno f k ≡ true → f ≡ Io k

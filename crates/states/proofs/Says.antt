@@ -1,7 +1,7 @@
 -- What each public call says, in the order of the paper: whatever its attached contract allows is this definition of its arguments.
 use Rattle.modular.proofs.Saying.{Says}
 use Rattle.operations.specs.Refusal.{packed}
-use Rattle.states.specs.Answer.{interruptedOf, receivedOf, sentOf, shutOf}
+use Rattle.states.specs.Answer.{batchOf, interruptedOf, receivedOf, sentOf, shutOf}
 use Rattle.states.specs.Refusal.{numberOf, valuesOf}
 use Rattle.states.specs.State.{fitsState, failureIn, advanceIn, violationNumber, violationAt, isErrno, failureOf, withFailureOf, withPotentialFailureOf, normalizeOf, advanceOf, normalizeFailureOf, towardsErrorOf}
 use Rattle.states.proofs.state.OperationalState.fits.Kinds as fits-kinds
@@ -30,6 +30,8 @@ use Rattle.states.proofs.answer.Answer.is_interruption.Kinds as is-inte
 use Rattle.states.proofs.answer.Answer.is_interruption.Reads as is-interruption
 use Rattle.states.proofs.answer.Answer.received.Kinds as received-kinds
 use Rattle.states.proofs.answer.Answer.received.Reads as received
+use Rattle.states.proofs.answer.batch_of.Kinds as batch-of-kinds
+use Rattle.states.proofs.answer.batch_of.Reads as batch-of
 use Rattle.states.proofs.answer.Answer.sent.Kinds as sent-kinds
 use Rattle.states.proofs.answer.Answer.sent.Reads as sent
 use Rattle.states.proofs.answer.Answer.shut.Kinds as shut-kinds
@@ -83,6 +85,9 @@ is-interruption-says κs a z ws p = p
 
 pub received-says : Says 0 received-kinds.ps received-kinds.r received.Learnt (λ κs a. receivedOf (a .1 .0) (a .0))
 received-says κs a z ws p = p
+
+pub batch-of-says : Says 0 batch-of-kinds.ps batch-of-kinds.r batch-of.Learnt (λ κs a. batchOf (a .0))
+batch-of-says κs a z ws p = p
 
 pub sent-says : Says 0 sent-kinds.ps sent-kinds.r sent.Learnt (λ κs a. sentOf (a .1 .0) (a .0))
 sent-says κs a z ws p = p

@@ -1,5 +1,5 @@
 -- The socket's answers, and what each says at its place. An answer that its place cannot have is a misfit.
-use Prim.Native.Nat.{ℕ}
+use Prim.Native.Nat.{ℕ, min}
 use mathlib.Core.Bool.{Bool, cond, false}
 use lib.Dec.{eqb, leb}
 use Rattle.states.specs.State.{fitsErrno}
@@ -37,6 +37,10 @@ receivedOf top a =
     cond (isByte a) (cond (leb (a .value) 255) (cond (leb (a .descriptors) top) (received.Byte (a .value) (a .descriptors)) received.Misfit) received.Misfit)
     (cond (isClosed a) (received.Failed 32)
     (cond (isFailed a) (cond (fitsErrno (a .value)) (received.Failed (a .value)) received.Misfit) received.Misfit))
+
+-- a batch is min(128, pending)
+abbrev pub batchOf : ℕ → ℕ
+batchOf pending = min 128 pending
 
 -- Send: sent at most the batch, or failed
 unfoldable pub sentOf : ℕ → Answer → Sent

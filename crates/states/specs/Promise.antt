@@ -33,6 +33,11 @@ Stored Normal = Unit {0}
 Stored (Draining f) = FailureFits f
 Stored (Terminated f) = FailureFits f
 
+-- ---- acknowledgements: a batch is all that is pending, or 128 of it, and never empty
+pub data Batch (pending : ℕ) : ℕ → Type 0 where
+  all : 1 ≤ pending → pending ≤ 128 → Batch pending pending
+  most : 128 ≤ pending → Batch pending 128
+
 -- ---- the reason rule: of a cached failure and a new one, the reason that stays
 pub data Reason : Failure → Failure → Failure → Type 0 where
   end-and-end : Reason (Io 32) (Io 32) (Io 32)

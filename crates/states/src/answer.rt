@@ -1,6 +1,6 @@
 // The socket's answers: flat numbers, so that any bits of a host's are legal input, and what each says at its place.
 ghost use mathlib.Core.Path.{_≡_};
-ghost use Rattle.states.specs.Answer.{interruptedOf, receivedOf, sentOf, shutOf};
+ghost use Rattle.states.specs.Answer.{batchOf, interruptedOf, receivedOf, sentOf, shutOf};
 ghost use Rattle.states.specs.State.{fitsErrno};
 use crate::state::Failure;
 
@@ -30,6 +30,18 @@ pub enum Shut {
     Done,
     Failed(u64),
     Misfit,
+}
+
+const GREATEST_BATCH: u64 = 128;
+
+// How many acknowledgements a send is asked for: all that are pending, or 128 of them.
+pub fn batch_of(pending: u64) -> u64
+    ensures { λ r. ⌜ r ≡ batchOf pending ⌝ }
+{
+    if GREATEST_BATCH <= pending {
+        return GREATEST_BATCH;
+    }
+    pending
 }
 
 fn is_errno(e: u64) -> bool

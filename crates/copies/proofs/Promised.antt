@@ -40,7 +40,7 @@ use Rattle.copies.specs.Ring.{get}
 use Rattle.copies.specs.Copies.{readyFrom, readyOf, writeOf, readOf, writeFrom, readFrom}
 use Rattle.copies.specs.Lent.{toldOf, recordAfter, WriteLeaves, ReadLeaves}
 use Rattle.copies.specs.Given.{Verdict, verdict, Exactly, GivenCopy, made, by-scheduler, given-9, ofChecked, ofReady, ofCopied, ofTold}
-use Rattle.copies.specs.Promises.{CellsOf, Writes, Reads}
+use Rattle.copies.specs.Promises.{CellsOf, Writes, Reads, CopyWrites, CopyReads}
 use Rattle.copies.specs.Promises as promise
 use Rattle.copies.proofs.Ring.{length-get, getD-get, put-own, get-own, get-put}
 use Rattle.copies.proofs.Says.{demand-ring-memory-says, write-says, read-says, write-lent-says, read-lent-says}
@@ -224,17 +224,25 @@ write-given κs a z (ws, p) = rw (write-says κs a z ws p .0) (written-given (a 
 pub read-given : Keeps 2 read-kinds.ps read-kinds.r read.Learnt (λ κs a z. Exactly (GivenCopy (a .0) (length (a .1 .0 .now))) (ofCopied z))
 read-given κs a z (ws, p) = rw (read-says κs a z ws p .0) (got-given (a .0) (a .1 .0 .now) (a .1 .1 .0 .now))
 
+by-write : (s : RingBufferScheduler) (ring src : List ℕ) (c : Copied) (memory : List ℕ) → Writes s ring src (toldOf c) (recordAfter s c) memory → CopyWrites s ring src c memory
+by-write s ring src (copied.Moved u p) memory w = w
+by-write s ring src (copied.Refused e) memory w = w
+
+by-read : (s : RingBufferScheduler) (ring dst : List ℕ) (c : Copied) (memory : List ℕ) → Reads s ring dst (toldOf c) (recordAfter s c) memory → CopyReads s ring dst c memory
+by-read s ring dst (copied.Moved u p) memory w = w
+by-read s ring dst (copied.Refused e) memory w = w
+
 pub write-promised : KeepsLeft 2 write-kinds.ps write-kinds.r write.Learnt
-    (λ κs a z ws. Writes (a .0) (a .1 .0 .now) (a .1 .1 .0 .now) (toldOf z) (recordAfter (a .0) z) (ws .1 .0))
+    (λ κs a z ws. CopyWrites (a .0) (a .1 .0 .now) (a .1 .1 .0 .now) z (ws .1 .0))
 write-promised κs a z ws p =
     let q = write-says κs a z ws p in
-    rw (q .0, q .1) (written-promised (a .0) (a .1 .0 .now) (a .1 .1 .0 .now))
+    rw (q .0, q .1) (by-write (a .0) (a .1 .0 .now) (a .1 .1 .0 .now) (writeOf (a .0) (a .1 .0 .now) (a .1 .1 .0 .now) .answer) (writeOf (a .0) (a .1 .0 .now) (a .1 .1 .0 .now) .memory) (written-promised (a .0) (a .1 .0 .now) (a .1 .1 .0 .now)))
 
 pub read-promised : KeepsLeft 2 read-kinds.ps read-kinds.r read.Learnt
-    (λ κs a z ws. Reads (a .0) (a .1 .0 .now) (a .1 .1 .0 .now) (toldOf z) (recordAfter (a .0) z) (ws .1 .1 .0))
+    (λ κs a z ws. CopyReads (a .0) (a .1 .0 .now) (a .1 .1 .0 .now) z (ws .1 .1 .0))
 read-promised κs a z ws p =
     let q = read-says κs a z ws p in
-    rw (q .0, q .1) (got-promised (a .0) (a .1 .0 .now) (a .1 .1 .0 .now))
+    rw (q .0, q .1) (by-read (a .0) (a .1 .0 .now) (a .1 .1 .0 .now) (readOf (a .0) (a .1 .0 .now) (a .1 .1 .0 .now) .answer) (readOf (a .0) (a .1 .0 .now) (a .1 .1 .0 .now) .memory) (got-promised (a .0) (a .1 .0 .now) (a .1 .1 .0 .now)))
 
 -- ---- and of the calls over a lent scheduler
 module _ (s : RingBufferScheduler) (ring bytes : List ℕ) (r : Told) (after : RingBufferScheduler) (memory : List ℕ) where

@@ -11,6 +11,8 @@ use Rattle.sched.specs.declared.register.Registered.the-variants as registered
 use Rattle.sched.specs.declared.scheduler.RingBufferScheduler.{RingBufferScheduler}
 use Rattle.sched.specs.Scheduler.{greatestIn, offsetIn, registerOf}
 use Rattle.copies.specs.declared.refusal.Refusal.{Refusal}
+use Rattle.copies.specs.declared.Copied.{Copied}
+use Rattle.copies.specs.declared.Copied.the-variants as copied
 use Rattle.copies.specs.declared.lent.Told.{Told}
 use Rattle.copies.specs.declared.lent.Told.the-variants as told
 use Rattle.copies.specs.Ring.{get}
@@ -63,3 +65,12 @@ module _ (s : RingBufferScheduler) (ring : List ℕ) where
         take (n .len) memory ≡ get (s .«buf_len») ring (offsetIn s Read .0) (n .len) →
         OnlyFront (n .len) dst memory →
         Reads dst (told.Moved n) after memory
+
+-- so of an answer by value, which holds the record after and the portion; a refused one leaves the record
+abbrev pub CopyWrites : RingBufferScheduler → List ℕ → List ℕ → Copied → List ℕ → Type 0
+CopyWrites s ring src (copied.Moved u p) memory = Writes s ring src (told.Moved p) u memory
+CopyWrites s ring src (copied.Refused e) memory = Writes s ring src (told.Refused e) s memory
+
+abbrev pub CopyReads : RingBufferScheduler → List ℕ → List ℕ → Copied → List ℕ → Type 0
+CopyReads s ring dst (copied.Moved u p) memory = Reads s ring dst (told.Moved p) u memory
+CopyReads s ring dst (copied.Refused e) memory = Reads s ring dst (told.Refused e) s memory

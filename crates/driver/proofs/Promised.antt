@@ -1,8 +1,8 @@
 -- The promises of specs/Promise.antt, of the calls: of whatever the predicate that a contract cites allows.
-use Prim.Native.Nat.{ℕ, _+_, _%_, min}
+use Prim.Native.Nat.{ℕ, zero, suc, _+_, _%_, min}
 use mathlib.Core.Path.{_≡_, refl, sym, ap, subst, _∙_}
 use mathlib.Core.Bool.{Bool, cond, true, false}
-use mathlib.Core.List.{List, [], _++_}
+use mathlib.Core.List.{List, [], _∷_, _++_}
 use native.Mathlib.Nat.{mod-lt, mod-eq-of-lt}
 use native.Mathlib.Omega.{arith}
 use lib.Dec.{eqb}
@@ -42,14 +42,28 @@ use Rattle.receiver.specs.declared.receiver.Outcome.{Outcome}
 use Rattle.receiver.specs.declared.receiver.ReceiverState.{ReceiverState}
 use Rattle.states.specs.declared.state.Failure.{Failure}
 use Rattle.states.specs.declared.state.Failure.the-variants.{Io, Protocol}
-use Rattle.driver.specs.Drive.{drivenOf, endedBy, endedOf, Delivery, delivery, deliveredFor, deliveredBy, deliveryFor, deliveryOf, endOfStreamBy, endOfStreamFor, endOfStreamIn}
+use Rattle.driver.specs.Drive.{fetchedOf, drivenOf, endedBy, endedOf, Delivery, delivery, deliveredFor, deliveredBy, deliveryFor, deliveryOf, endOfStreamBy, endOfStreamFor, endOfStreamIn}
 use Rattle.driver.specs.Pending.{sentIn}
-use Rattle.driver.specs.Promise.{Uses, Begins, at-data, behind-header, FillsBy, Fills, TurnedTo, ended-stream, stays, Turned, accepted, same-refusal}
-use Rattle.driver.specs.Run.{readOf, readImplDelivery, endOfStream, readDelivery, ServiceLeaves, ShutdownLeaves, ReadImplLeaves, ReadLeaves}
+use Rattle.driver.specs.declared.drive.Fetched.{Fetched}
+use Rattle.driver.specs.Promise.{FetchedAt, there, behind, Uses, Begins, at-data, behind-header, FillsBy, Fills, TurnedTo, ended-stream, stays, Turned, accepted, same-refusal}
+use Rattle.driver.specs.Run.{readOf, readImplDelivery, endOfStream, readDelivery, FetchLeaves, ServiceLeaves, ShutdownLeaves, ReadImplLeaves, ReadLeaves}
 use Rattle.driver.specs.declared.drive.Driven.{Driven}
 use Rattle.driver.proofs.Along.{Holds, driven-holds}
-use Rattle.driver.proofs.Says.{service-chunk-acknowledgements-says, shutdown-says, read-with-fds-says, read-with-fds-impl-says}
+use Rattle.driver.proofs.Says.{fetch-says, service-chunk-acknowledgements-says, shutdown-says, read-with-fds-says, read-with-fds-impl-says}
 use Rattle.driver.proofs.Used.{driven-uses}
+
+-- ---- an answer is fetched from its place
+one-further : (a : Answer) (rest : List Answer) (i : ℕ) (r : Fetched) → FetchedAt rest i r → FetchedAt (a ∷ rest) (suc i) r
+one-further a rest i r (there before b after) = there (a ∷ before) b after
+one-further a rest i r (behind l) = behind (omega arith)
+
+fetched-at : (answers : List Answer) (i : ℕ) → FetchedAt answers i (fetchedOf answers i)
+fetched-at [] i = behind (omega arith)
+fetched-at (a ∷ rest) zero = there [] a rest
+fetched-at (a ∷ rest) (suc i) = one-further a rest i (fetchedOf rest i) (fetched-at rest i)
+
+pub fetch-promised : (answers : List Answer) (i : ℕ) (r : Fetched) → FetchLeaves answers i r → FetchedAt answers i r
+fetch-promised answers i r p = rw (fetch-says answers i r p) (fetched-at answers i)
 
 -- ---- how many answers were used
 module _ (f g : List Answer → Ended) (same : (xs : List Answer) → f xs ≡ g xs) where

@@ -13,6 +13,8 @@ use Rattle.copies.specs.Promises.{OnlyFront, CellsOf}
 use Rattle.receiver.specs.Handed.{Handed}
 use Rattle.receiver.specs.Promise.{nothing-more}
 use Rattle.states.specs.declared.answer.Answer.{Answer}
+use Rattle.driver.specs.declared.drive.Fetched.{Fetched}
+use Rattle.driver.specs.declared.drive.Fetched.the-variants.{Got, Missing}
 use Rattle.receiver.specs.declared.call.Call.{Call}
 use Rattle.receiver.specs.declared.call.Phase.{Phase}
 use Rattle.receiver.specs.declared.call.Phase.the-variants as phase
@@ -35,6 +37,11 @@ use Rattle.receiver.proofs.call.Call.begin_shutdown.Kinds as begin-shutdown-kin
 use Rattle.receiver.proofs.call.Call.begin_shutdown.Reads as begin-shutdown
 use Rattle.driver.specs.Pending.{Asked, reads, readsImpl, services, shuts}
 use Rattle.driver.specs.Run.{ServiceLeaves, ShutdownLeaves, ReadImplLeaves, ReadLeaves}
+
+-- An answer is fetched from its place, behind as many others; behind the end of the run there is none.
+pub data FetchedAt : List Answer → ℕ → Fetched → Type 0 where
+  there : (before : List Answer) (a : Answer) (after : List Answer) → FetchedAt (before ++ (a ∷ after)) (length before) (Got a)
+  behind : {answers : List Answer} {i : ℕ} → length answers ≤ i → FetchedAt answers i Missing
 
 -- A call used so many answers: whatever stands behind them it comes to the same, and with fewer of them it is refused with 11.
 -- `runs` is what the call leaves of each run.

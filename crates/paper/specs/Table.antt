@@ -10,7 +10,7 @@ use Rattle.modular.specs.declared.Modulus.{Modulus}
 use Rattle.modular.specs.declared.OptionModulus.the-variants as modulus
 use Rattle.operations.specs.Operation.{operationOf}
 use Rattle.operations.specs.Refusal.{numberOf}
-use Rattle.sched.specs.Scheduler.{schedulerOf, scheduledOf}
+use Rattle.sched.specs.Scheduler.{schedulerOf}
 use Rattle.sched.specs.declared.block.BufferFillState.the-variants.{Full}
 use Rattle.sched.specs.declared.block.BufferLayout.the-variants.{DataFreeData}
 use Rattle.sched.specs.declared.block.FillStateAnswer.the-variants as fill
@@ -90,7 +90,7 @@ abbrev Next : RingBufferScheduler → OperationType → ℕ → NextOperation �
 Next s t m o left = Answers next-kinds.ps next-kinds.r schedule-next.Learnt (s, (t, (m, tt))) (λ z. z ≡ nexts.Of (record { operation = o; remainder = left }))
 
 abbrev Schedules : RingBufferScheduler → OperationType → ℕ → ScheduledOperations → ℕ → Type 0
-Schedules s t m ops left = Answers schedule-kinds.ps schedule-kinds.r schedule.Learnt (s, (t, (m, tt))) (λ z. z ≡ schedules.Of (scheduledOf ops left))
+Schedules s t m ops left = Answers schedule-kinds.ps schedule-kinds.r schedule.Learnt (s, (t, (m, tt))) (λ z. z ≡ schedules.Of (record { operations = ops; remainder = left }))
 
 -- a state is advanced by another to this one
 abbrev Advances : OperationalState → OperationalState → OperationalState → Type 0
@@ -100,7 +100,7 @@ pub record Table : Type 0 where
   pub rolled-over-data : Answers data-kinds.ps data-kinds.r data-avail.Learnt (ring (2 ^ 63) 5 (2 ^ 64 - 3), tt) (λ z. z ≡ amount.Of 8)
   pub rolled-over-read :
       Answers reads-kinds.ps reads-kinds.r reads.Learnt (ring (2 ^ 63) 5 (2 ^ 64 - 3), (8, tt))
-      (λ z. z ≡ schedules.Of (scheduledOf (list.Two (readAt (2 ^ 63 - 3) 3) (readAt 0 5)) 0))
+      (λ z. z ≡ schedules.Of (record { operations = list.Two (readAt (2 ^ 63 - 3) 3) (readAt 0 5); remainder = 0 }))
   pub too-long : Refuses (2 ^ 63 + 1) 0 0 2
   pub written-too-far : Refuses 10 20 20 3
   pub read-too-far : Refuses 10 0 20 4

@@ -22,7 +22,7 @@ use Rattle.sched.specs.declared.register.Registered.{Registered}
 use Rattle.sched.specs.declared.register.Registered.the-variants as registered
 use Rattle.sched.specs.declared.scheduler.RingBufferScheduler.{RingBufferScheduler}
 use Rattle.sched.specs.Promise.{Schedules, Asks, Moves, NextPromise, Between, Taken, WrittenBy, MovedBy, MovedByList}
-use Rattle.sched.specs.Scheduler.{IsSound, soundOf, dataIn, spaceIn, greatestIn, nextIn, scheduledOf, joined, byBlocks, scheduleIn, advancedIn, nextOf, scheduleOf, registerOf, registerListOf}
+use Rattle.sched.specs.Scheduler.{IsSound, soundOf, dataIn, spaceIn, greatestIn, nextIn, bothOf, joined, byBlocks, scheduleIn, advancedIn, nextOf, scheduleOf, registerOf, registerListOf}
 use Rattle.sched.proofs.Counting.{between, taken-sound, sound-taken, moved, registered-moved, list-moved, next-promised}
 use Rattle.sched.proofs.Laws.{sound-is, sound-both}
 use Rattle.sched.proofs.RegisterLaws.{advanced-sound}
@@ -197,13 +197,13 @@ module _ (s : RingBufferScheduler) (h : IsSound s) (t : OperationType) (m : ℕ)
   unfolding scheduleIn
   by-blocks-is o e = scheduled s h t m z q ∙ ap (λ (x : Next). schedules.Of (byBlocks s t (x .operation) (x .remainder))) (sym e)
 
-  pub block-after-none : (k : ℕ) → NextOne s t m (nexts.Of (record { operation = next.None; remainder = k })) → z ≡ schedules.Of (scheduledOf list.None k)
+  pub block-after-none : (k : ℕ) → NextOne s t m (nexts.Of (record { operation = next.None; remainder = k })) → z ≡ schedules.Of (record { operations = list.None; remainder = k })
   block-after-none k p = by-blocks-is (record { operation = next.None; remainder = k }) (next-of s h t m (record { operation = next.None; remainder = k }) p)
 
   pub block-after-block :
       (f : ScheduledOperation) (k : ℕ) → NextOne s t m (nexts.Of (record { operation = next.Some f; remainder = k })) →
       (u : RingBufferScheduler) → TryRegister s f (registered.Advanced u) →
-      (o : Next) → NextOne u t k (nexts.Of o) → z ≡ schedules.Of (joined f o)
+      (o : Next) → NextOne u t k (nexts.Of o) → z ≡ schedules.Of (record { operations = bothOf (next.Some f) (o .operation); remainder = o .remainder })
   block-after-block f k p u r o v =
       let e : record { operation = next.Some f; remainder = k } ≡ nextIn s t m = next-of s h t m (record { operation = next.Some f; remainder = k }) p in
       let n : NextPromise s t m f = next-promised s h t m (next.Some f) (ap (λ (x : Next). x .operation) (sym e)) in

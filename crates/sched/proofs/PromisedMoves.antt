@@ -64,7 +64,7 @@ module _ (s : RingBufferScheduler) (t : OperationType) (m : ℕ) where
     is = move-of s t m v (schedule-and-register-says tt (s, (t, (m, tt))) (moves.Of v) (p .0) (p .1))
 
     -- cut where the buffer ends it is the list that is scheduled, with what is left over
-    pub move-cut : (z : ScheduledAnswer) → Schedule s t m z → z ≡ schedules.Of (scheduledOf (cutOf t (s .«buf_len») (v .off) (v .portion .len)) (v .portion .remainder))
+    pub move-cut : (z : ScheduledAnswer) → Schedule s t m z → z ≡ schedules.Of (record { operations = cutOf t (s .«buf_len») (v .off) (v .portion .len); remainder = v .portion .remainder })
     move-cut z q = scheduled s (is .0) t m z q ∙ ap schedules.Of (schedule-is s (is .0) t m) ∙ ap (λ (x : Move). schedules.Of (scheduledOf (cutOf t (s .«buf_len») (x .off) (x .portion .len)) (x .portion .remainder))) (sym (is .1))
 
     -- and registering that list answers its scheduler

@@ -55,10 +55,10 @@ use Rattle.driver.proofs.Used.{driven-uses}
 -- ---- an answer is fetched from its place
 one-further : (a : Answer) (rest : List Answer) (i : ℕ) (r : Fetched) → FetchedAt rest i r → FetchedAt (a ∷ rest) (suc i) r
 one-further a rest i r (there before b after) = there (a ∷ before) b after
-one-further a rest i r (behind l) = behind (omega arith)
+one-further a rest i r (behind _ _ l) = behind (a ∷ rest) (suc i) (omega arith)
 
 fetched-at : (answers : List Answer) (i : ℕ) → FetchedAt answers i (fetchedOf answers i)
-fetched-at [] i = behind (omega arith)
+fetched-at [] i = behind [] i (omega arith)
 fetched-at (a ∷ rest) zero = there [] a rest
 fetched-at (a ∷ rest) (suc i) = one-further a rest i (fetchedOf rest i) (fetched-at rest i)
 

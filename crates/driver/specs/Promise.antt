@@ -41,7 +41,7 @@ use Rattle.driver.specs.Run.{ServiceLeaves, ShutdownLeaves, ReadImplLeav
 -- An answer is fetched from its place, behind as many others; behind the end of the run there is none.
 pub data FetchedAt : List Answer → ℕ → Fetched → Type 0 where
   there : (before : List Answer) (a : Answer) (after : List Answer) → FetchedAt (before ++ (a ∷ after)) (length before) (Got a)
-  behind : {answers : List Answer} {i : ℕ} → length answers ≤ i → FetchedAt answers i Missing
+  behind : (answers : List Answer) (i : ℕ) → length answers ≤ i → FetchedAt answers i Missing
 
 -- A call used so many answers: whatever stands behind them it comes to the same, and with fewer of them it is refused with 11.
 -- `runs` is what the call leaves of each run.

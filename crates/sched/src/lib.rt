@@ -16,6 +16,7 @@ pub use block::BufferFillState;
 pub use block::BufferLayout;
 pub use block::FillStateAnswer;
 pub use block::LayoutAnswer;
+pub use chunk::HEADER_LEN;
 pub use chunk::body_fits;
 pub use operations::AmountAnswer;
 pub use operations::BoolAnswer;

@@ -3,3 +3,11 @@ pub mod StripLaws
 pub mod PlanLaws
 pub mod CheckLaws
 pub mod LoopLaws
+pub mod Says
+pub mod PromisedValues
+pub mod GivenSizes
+pub mod GivenPlan
+pub mod GivenCheck
+pub mod Refuses
+pub mod Promised
+pub mod PromisedPlans

@@ -1,10 +1,10 @@
 -- The plan that is proposed is a plan, every run but the last is as tall as fits, and no plan has fewer runs.
-use Prim.Native.Nat.{ℕ, zero, suc, _+_, _-_, _*_, _/_, _≤_, _<_, min}
+use Prim.Native.Nat.{ℕ, zero, suc, _+_, _-_, _*_, _/_, _%_, _≤_, _<_, min}
 use mathlib.Core.Path.{_≡_, refl, sym, ap, _∙_}
 use mathlib.Core.Logic.{⊎-elim}
 use mathlib.Core.List.{List, _∷_}
 use lib.ListN.{length, getD}
-use native.Mathlib.Nat.{add-zero, zero-add, suc-mul, zero-mul, mul-le-mul-right}
+use native.Mathlib.Nat.{add-zero, zero-add, suc-mul, zero-mul, div-add-mod', mod-lt}
 use native.Mathlib.Omega.{arith}
 use Rattle.modular.proofs.Laws.{lt-or-le}
 use Rattle.planner.specs.Strips.{heightOf, stripsOf}
@@ -92,6 +92,19 @@ module _ (rows bytes L : ℕ) (f : Fitting rows bytes L) where
       let low : height < rows = omega (arith, begin (suc k) (own-run (suc k) l), suc-mul k height) in
       ⊎-elim (λ h. h) (λ h. absurd (omega (arith, whole, low, fits-tallest rows bytes L f (suc (countAt own k)) h)))
       (lt-or-le L (suc (countAt own k) * bytes + 8))
+
+  -- ---- the outline's numbers
+  pub own-height : countAt own 0 ≡ height
+  own-height = omega (arith, own-count 0 (omega arith), zero-mul height)
+
+  pub own-wholes : (k : ℕ) → suc k < runsIn own → countAt own k ≡ height
+  own-wholes k l = own-whole k (own-run (suc k) l)
+
+  pub own-last : (k : ℕ) → suc k ≡ runsIn own → countAt own k ≡ (rows - 1) % height + 1
+  own-last k e =
+      let is : k ≡ (rows - 1) / height = omega (arith, e, own-runs) in
+      let part : (rows - 1) / height * height ≡ k * height = ap (λ (n : ℕ). n * height) (sym is) in
+      omega (arith, own-count k (omega (arith, e, own-runs)), part, div-add-mod' (rows - 1) height, mod-lt (rows - 1) {m = height} (height-some rows bytes L f), begin k (omega (arith, e, own-runs)))
 
 -- ---- the fewest
 -- n strips as tall as fit reach the last row, so n strips that are no taller than the image do

@@ -2,6 +2,13 @@
 use Prim.Native.Nat.{ℕ, zero, suc, _+_, _*_, _≤_, _<_}
 use mathlib.Core.Path.{_≡_}
 use mathlib.Core.List.{List}
+use lib.ListN.{length, take, drop}
+use Rattle.planner.specs.declared.plan.Proposed.{Proposed}
+use Rattle.planner.specs.declared.plan.Proposed.the-variants as proposed
+use Rattle.planner.specs.declared.refusal.Refusal.{Refusal}
+use Rattle.planner.specs.declared.strips.Outlined.{Outlined}
+use Rattle.planner.specs.declared.strips.Outlined.the-variants as outlined
+use Rattle.planner.specs.declared.strips.Strips.{Strips}
 use Rattle.planner.specs.Plan.{runsIn, firstAt, countAt}
 
 -- the row behind the first k runs: row 0, or the end of the last of them
@@ -23,3 +30,27 @@ Tall bytes L plan = (k : ℕ) → suc k < runsIn plan → L < suc (countAt plan 
 -- no plan has fewer runs
 abbrev pub Fewest : ℕ → ℕ → ℕ → ℕ → Type 0
 Fewest rows bytes L n = (other : List ℕ) → IsPlan rows bytes L other → n ≤ runsIn other
+
+-- no plan exists at all
+abbrev pub NoPlanExists : ℕ → ℕ → ℕ → Type 0
+NoPlanExists rows bytes L = (plan : List ℕ) → IsPlan rows bytes L plan → ⊥
+
+module _ (rows bytes L : ℕ) where
+  -- ---- a proposal is refused, and leaves the lent plan as it was. Or its runs stand at the front, and the rest stays.
+  pub data Proposes (plan : List ℕ) : Proposed → List ℕ → Type 0 where
+    refuses : (e : Refusal) → Proposes plan (proposed.Refused e) plan
+    runs : (n : ℕ) (after : List ℕ) →
+        IsPlan rows bytes L (take (2 * n) after) → runsIn (take (2 * n) after) ≡ n →
+        Tall bytes L (take (2 * n) after) → Fewest rows bytes L n →
+        length after ≡ length plan → drop (2 * n) after ≡ drop (2 * n) plan →
+        Proposes plan (proposed.Runs n) after
+
+  -- ---- an outline tells of a plan: how many runs it has, and the rows of each
+  pub data Outlines : Outlined → Type 0 where
+    refuses : (e : Refusal) → Outlines (outlined.Refused e)
+    tells : (plan : List ℕ) (o : Strips) →
+        IsPlan rows bytes L plan → Tall bytes L plan → Fewest rows bytes L (runsIn plan) →
+        o .count ≡ runsIn plan → o .height ≡ countAt plan 0 →
+        ((k : ℕ) → suc k < runsIn plan → countAt plan k ≡ o .height) →
+        ((k : ℕ) → suc k ≡ runsIn plan → countAt plan k ≡ o .last) →
+        Outlines (outlined.Of o)

@@ -42,6 +42,7 @@ use Rattle.states.specs.declared.state.Failure as receiver-failure
 use Rattle.states.specs.declared.state.OperationalState.{OperationalState}
 use Rattle.states.specs.declared.state.PotentialFailure.{PotentialFailure}
 use Rattle.states.specs.declared.state.PotentialFailure.the-variants as potential
+use Rattle.planner.specs.declared.strips.Strips.{Strips}
 use Rattle.flat.specs.Block.{blockTypeAt, bitAt}
 use Rattle.flat.specs.Call.{callAt}
 use Rattle.flat.specs.Failure.{failureAt, potentialFailureAt}
@@ -66,6 +67,7 @@ use Rattle.flat.specs.declared.structs.NextAnswer.{NextAnswer}
 use Rattle.flat.specs.declared.structs.Operation.{Operation}
 use Rattle.flat.specs.declared.structs.OperationsAnswer.{OperationsAnswer}
 use Rattle.flat.specs.declared.structs.PotentialFailureAnswer.{PotentialFailureAnswer}
+use Rattle.flat.specs.declared.structs.ProposeAnswer.{ProposeAnswer}
 use Rattle.flat.specs.declared.structs.RangesAnswer.{RangesAnswer}
 use Rattle.flat.specs.declared.structs.ReadCounterAnswer.{ReadCounterAnswer}
 use Rattle.flat.specs.declared.structs.ReadingEndAnswer.{ReadingEndAnswer}
@@ -75,6 +77,7 @@ use Rattle.flat.specs.declared.structs.SchedulerAnswer.{SchedulerAnswer}
 use Rattle.flat.specs.declared.structs.StartsAnswer.{StartsAnswer}
 use Rattle.flat.specs.declared.structs.StateAnswer.{StateAnswer}
 use Rattle.flat.specs.declared.structs.StepAnswer.{StepAnswer}
+use Rattle.flat.specs.declared.structs.StripsAnswer.{StripsAnswer}
 use Rattle.flat.specs.declared.structs.U64Answer.{U64Answer}
 use Rattle.flat.specs.declared.structs.WritingEndAnswer.{WritingEndAnswer}
 use Rattle.flat.specs.declared.structs.WrittenCounterAnswer.{WrittenCounterAnswer}
@@ -276,3 +279,17 @@ EndedSent z =
     (λ x. ReceiverStands (z .receiver) (x .0) × OutcomeStands (z .outcome) (x .1) × (z .used ≡ x .2))
     (NoReceiver (z .receiver) × NoOutcome (z .outcome) × (z .used ≡ 0))
     (receiverAt (z .receiver), outcomeAt (z .outcome), z .used)
+
+-- ---- the planner's
+abbrev pub StripsSent : StripsAnswer → Result Strips → Type 0
+StripsSent z =
+    Sent (z .refusal)
+    (λ x. (z .count ≡ x .count) × (z .height ≡ x .height) × (z .last ≡ x .last))
+    ((z .count ≡ 0) × (z .height ≡ 0) × (z .last ≡ 0))
+    (record { count = z .count; height = z .height; last = z .last })
+
+abbrev pub RunsSent : ProposeAnswer → Result ℕ → Type 0
+RunsSent z = Sent (z .refusal) (λ n. z .count ≡ n) (z .count ≡ 0) (z .count)
+
+abbrev pub VerdictSent : Refusal → Result (Unit {0}) → Type 0
+VerdictSent z = Sent z (λ x. Unit {0}) (Unit {0}) tt

@@ -10,6 +10,8 @@ use Rattle.ends.specs.declared.refusal.Refusal as ends
 use Rattle.ends.specs.Refusal as of-ends
 use Rattle.states.specs.declared.refusal.Refusal as receiver
 use Rattle.states.specs.Refusal as of-receiver
+use Rattle.planner.specs.declared.refusal.Refusal as planner
+use Rattle.planner.specs.Refusal as of-planner
 use Rattle.flat.specs.declared.structs.Refusal.{Refusal}
 
 abbrev pub refusalOf : ℕ → ℕ → ℕ → ℕ → Refusal
@@ -33,3 +35,6 @@ flatEndRefusal e = refusalWith (of-ends.numberOf e) (packed (of-ends.valuesOf e)
 
 abbrev pub flatReceiverRefusal : receiver.Refusal → Refusal
 flatReceiverRefusal e = refusalWith (of-receiver.numberOf e) (packed (of-receiver.valuesOf e))
+
+abbrev pub flatPlannerRefusal : planner.Refusal → Refusal
+flatPlannerRefusal e = refusalWith (of-planner.numberOf e) (packed (of-planner.valuesOf e))

@@ -13,6 +13,7 @@ pub mod Failure
 pub mod State
 pub mod Outcome
 pub mod Receiver
+pub mod Planner
 pub mod Refusal
 pub mod Call
 pub mod Stands

@@ -88,6 +88,15 @@ use Rattle.states.specs.declared.state.PotentialFailureAnswer.the-variants as p
 use Rattle.states.specs.declared.state.PotentialFailureAnswer.{PotentialFailureAnswer}
 use Rattle.states.specs.declared.state.StateAnswer.the-variants as state
 use Rattle.states.specs.declared.state.StateAnswer.{StateAnswer}
+use Rattle.planner.specs.Refusal as of-planner
+use Rattle.planner.specs.declared.plan.Proposed.the-variants as proposed
+use Rattle.planner.specs.declared.plan.Proposed.{Proposed}
+use Rattle.planner.specs.declared.refusal.Refusal as planner
+use Rattle.planner.specs.declared.strips.Outlined.the-variants as outlined
+use Rattle.planner.specs.declared.strips.Outlined.{Outlined}
+use Rattle.planner.specs.declared.strips.Strips.{Strips}
+use Rattle.planner.specs.declared.verdict.Verdict.the-variants as verdict
+use Rattle.planner.specs.declared.verdict.Verdict.{Verdict}
 
 pub data Result (A : Type 0) : Type 0 where
   value : A → Result A
@@ -104,6 +113,9 @@ byEnd e = refused (of-ends.numberOf e) (of-ends.valuesOf e)
 
 abbrev pub byReceiver : {A : Type 0} → receiver.Refusal → Result A
 byReceiver e = refused (of-receiver.numberOf e) (of-receiver.valuesOf e)
+
+abbrev pub byPlanner : {A : Type 0} → planner.Refusal → Result A
+byPlanner e = refused (of-planner.numberOf e) (of-planner.valuesOf e)
 
 -- ---- of the scheduler
 abbrev pub checkedResult : Checked → Result RingBufferScheduler
@@ -219,3 +231,16 @@ stepResult (step.Refused e) = byReceiver e
 abbrev pub endedResult : Ended → Result (ReceiverState × Outcome × ℕ)
 endedResult (ended.Accepted q o n) = value (q, o, n)
 endedResult (ended.Refused e) = byReceiver e
+
+-- ---- of the planner; a verdict has nothing beside the refusal
+abbrev pub outlinedResult : Outlined → Result Strips
+outlinedResult (outlined.Of o) = value o
+outlinedResult (outlined.Refused e) = byPlanner e
+
+abbrev pub proposedResult : Proposed → Result ℕ
+proposedResult (proposed.Runs n) = value n
+proposedResult (proposed.Refused e) = byPlanner e
+
+abbrev pub verdictResult : Verdict → Result (Unit {0})
+verdictResult verdict.Accepted = value tt
+verdictResult (verdict.Refused e) = byPlanner e

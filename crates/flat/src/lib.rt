@@ -10,6 +10,7 @@ pub mod list;
 pub mod modulus;
 pub mod operation;
 pub mod outcome;
+pub mod plan;
 pub mod reading_end;
 pub mod receiver_record;
 pub mod refusal;

@@ -1,6 +1,6 @@
 // The flat forms of refusals: the number, and the values, those that it lacks 0.
 ghost use mathlib.Core.Path.{_≡_};
-ghost use Rattle.flat.specs.Flat.{refusalWith, noRefusal, flatRefusal, flatCopyRefusal, flatEndRefusal, flatReceiverRefusal};
+ghost use Rattle.flat.specs.Flat.{refusalWith, noRefusal, flatRefusal, flatCopyRefusal, flatEndRefusal, flatReceiverRefusal, flatPlannerRefusal};
 use crate::structs::Refusal;
 use sched::Values;
 
@@ -47,6 +47,12 @@ pub fn flat_end_refusal(e: ends::Refusal) -> Refusal
 
 pub(crate) fn flat_receiver_refusal(e: states::Refusal) -> Refusal
     ensures { λ r. ⌜ r ≡ flatReceiverRefusal e ⌝ }
+{
+    refusal_with(e.number(), e.values())
+}
+
+pub(crate) fn flat_planner_refusal(e: planner::Refusal) -> Refusal
+    ensures { λ r. ⌜ r ≡ flatPlannerRefusal e ⌝ }
 {
     refusal_with(e.number(), e.values())
 }

@@ -314,3 +314,19 @@ pub struct EndedAnswer {
     pub outcome: Outcome,
     pub used: u64,
 }
+
+// A plan: how many strips, the rows in each but the last, and the rows in the last. One strip alone has both.
+#[repr(C)]
+pub struct StripsAnswer {
+    pub refusal: Refusal,
+    pub count: u64,
+    pub height: u64,
+    pub last: u64,
+}
+
+// How many runs stand at the front of the lent plan.
+#[repr(C)]
+pub struct ProposeAnswer {
+    pub refusal: Refusal,
+    pub count: u64,
+}

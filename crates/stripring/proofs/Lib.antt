@@ -5,9 +5,11 @@ mod InPlaceTypes
 pub mod SaysEnds
 pub mod PromisedInPlace
 pub mod SaysReceiver
+pub mod SaysPlanner
 pub mod SaysScheduler
 pub mod SaysValues
 pub mod Thin
+pub mod ThinPlanner
 pub mod ThinScheduler
 pub mod ThinBlocks
 pub mod ThinValues

@@ -9,6 +9,7 @@ pub mod in_place;
 pub mod list;
 pub mod modulus;
 pub mod operation;
+pub mod plan;
 pub mod reading_end;
 pub mod receiver_record;
 pub mod receiver_run;

@@ -1,7 +1,7 @@
 -- An answer that a library gives exactly when its table says so goes out with a refusal that is given exactly then: for each kind of
 -- answer, and any table.
 use Prim.Native.Nat.{ℕ}
-use mathlib.Core.Path.{_≡_, refl, subst}
+use mathlib.Core.Path.{_≡_, refl, ap, subst}
 use mathlib.Core.Bool.{Bool, true, false}
 use mathlib.Core.List.{List, [], _∷_}
 use Rattle.operations.specs.Given as verdict
@@ -94,20 +94,21 @@ use Rattle.flat.specs.declared.structs.Refusal.{Refusal}
 use Rattle.flat.proofs.SentLaws.{accepted, scheduler-refusal, copy-refusal, end-refusal, receiver-refusal}
 
 module _ {G : ℕ → List ℕ → Type 0} where
+  -- a number with values that the table gives, and no others
+  pub given : (r : Refusal) (n : ℕ) (us : List ℕ) → RefusalStands r n us → G n us → ((k : ℕ) (vs : List ℕ) → G k vs → (n ≡ k) × (us ≡ vs)) → GivenAt G r
+  given r n us p g one =
+      record {
+        only = (n, us, p, g);
+        always = λ k vs h. subst (RefusalStands r k) (one k vs h .1) (subst (λ (m : ℕ). RefusalStands r m us) (one k vs h .0) p);
+      }
+
   -- the scheduler's verdict, and that of the copies and the ends
   given-so : (r : Refusal) (v : verdict.Verdict) → RefusalStands r (verdict.numberIn v) (verdict.valuesIn v) → verdict.Exactly G v → GivenAt G r
-  given-so r v p g =
-      record {
-        only = (verdict.numberIn v, verdict.valuesIn v, p, g .only);
-        always = λ k vs h. subst (RefusalStands r k) (g .always k vs h .1) (subst (λ (n : ℕ). RefusalStands r n (verdict.valuesIn v)) (g .always k vs h .0) p);
-      }
+  given-so r v p g = given r (verdict.numberIn v) (verdict.valuesIn v) p (g .only) (g .always)
 
   given-to : (r : Refusal) (v : Verdict) → RefusalStands r (v .number) (v .values) → Exactly G v → GivenAt G r
   given-to r v p g =
-      record {
-        only = (v .number, v .values, p, g .only);
-        always = λ k vs h. subst (λ (u : Verdict). RefusalStands r (u .number) (u .values)) (g .always k vs h) p;
-      }
+      given r (v .number) (v .values) p (g .only) (λ k vs h. (ap (λ (u : Verdict). u .number) (g .always k vs h), ap (λ (u : Verdict). u .values) (g .always k vs h)))
 
   -- ---- the scheduler's
   pub checked-given : (x : Checked) → verdict.Exactly G (sched.ofChecked x) → GivenAt G (flatChecked x .refusal)

@@ -19,3 +19,5 @@ pub mod GivenRun
 pub mod RefusesScheduler
 pub mod RefusesEnds
 pub mod RefusesReceiver
+pub mod RefusesPlanner
+pub mod PromisedPlanner

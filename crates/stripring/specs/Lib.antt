@@ -1,5 +1,6 @@
 pub mod InPlace
 pub mod PromiseInPlace
+pub mod PromisePlanner
 pub mod Run
 pub mod Hosted
 pub mod Given

@@ -4,11 +4,12 @@ use mathlib.Core.Path.{_≡_, refl}
 use mathlib.Core.List.{List, [], _∷_}
 use Rattle.lines.specs.Answer.{textsOf}
 use Rattle.lines.specs.Decimal.{digitsBy, decimal, isDigit, digitsOn, numberFront}
+use Rattle.lines.specs.Field.{spaceThen, endThen}
 use Rattle.lines.specs.Lines.{lastLines, linesFrom, linesOf}
 use Rattle.modular.specs.Modulus.{subMod, addMod}
 use Rattle.sched.specs.Scheduler.{soundOf, layoutIn, someOf, scheduleIn}
 use Rattle.planline.specs.Cut.{lineText}
-use Rattle.planline.specs.Line.{spaceThen, endThen, kindOf, kindFront, parseOf, planOf}
+use Rattle.planline.specs.Line.{kindOf, kindFront, parseOf, planOf}
 use Rattle.planline.specs.Text.{operationText, listText, planText}
 
 abbrev pub input : List ℕ

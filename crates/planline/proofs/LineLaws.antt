@@ -6,36 +6,15 @@ use lib.ListN.{length, drop, getD, length-drop, drop-of-length-le}
 use lib.Seq.{drop-drop}
 use native.Mathlib.Omega.{arith}
 use borrow.Author.Tests.{eq-eqb, ne-eqb, lt-ltb, le-ltb}
-use Rattle.lines.specs.declared.decimal.Number.{Number}
-use Rattle.lines.specs.Decimal.{Front, some, none, frontIn}
+use Rattle.lines.specs.Decimal.{Front, some, none}
+use Rattle.lines.specs.Field.{lastFront}
 use Rattle.lines.proofs.DecimalLaws.{at-cons}
 use Rattle.operations.specs.declared.operation.OperationType.{OperationType}
 use Rattle.planline.specs.declared.line.Kind.{Kind}
 use Rattle.planline.specs.declared.line.Kind.the-variants as kind
 use Rattle.planline.specs.declared.line.Parsed.the-variants as parsed
 use Rattle.planline.specs.declared.line.Plan.the-variants as plan
-use Rattle.planline.specs.Line.{spaceThen, endThen, lastFront, kindOf, kindFront, askedOf, withAmount, parseOf, planFrom, planOf}
-
-module _ (xs : List ℕ) (i n : ℕ) where
-  pub space-there : i < length xs → getD xs i 0 ≡ 32 → spaceThen n (drop i xs) ≡ some n (drop (i + 1) xs)
-  unfolding spaceThen
-  space-there h e = rw (at-cons xs i h, eq-eqb _ _ e)
-
-  pub space-other : i < length xs → (getD xs i 0 ≡ 32 → ⊥) → spaceThen n (drop i xs) ≡ none
-  unfolding spaceThen
-  space-other h e = rw (at-cons xs i h, ne-eqb _ _ e)
-
-  pub space-end : length xs ≤ i → spaceThen n (drop i xs) ≡ none
-  unfolding spaceThen
-  space-end h = rw (drop-of-length-le xs h)
-
-  pub end-there : length xs ≤ i → endThen n (drop i xs) ≡ some n (drop i xs)
-  unfolding endThen
-  end-there h = rw (drop-of-length-le xs h)
-
-  pub end-other : i < length xs → endThen n (drop i xs) ≡ none
-  unfolding endThen
-  end-other h = rw (at-cons xs i h)
+use Rattle.planline.specs.Line.{kindOf, kindFront, askedOf, withAmount, parseOf, planFrom, planOf}
 
 module _ (xs : List ℕ) (i : ℕ) where
   pub kind-end : length xs ≤ i → kindFront (drop i xs) ≡ kind.Bad
@@ -67,10 +46,7 @@ kind-long (x ∷ (y ∷ ys)) t p = omega arith
 pub kind-room : (xs : List ℕ) (i : ℕ) (t : OperationType) → kind.Of t ≡ kindFront (drop i xs) → i + 2 ≤ length xs
 kind-room xs i t p = omega (arith, kind-long (drop i xs) t p, length-drop i xs)
 
--- ---- what a reader answered, as the bytes from its index on
-pub front-is : (line : List ℕ) {r s : Number} {f : Front} → r ≡ s → frontIn r line ≡ f → frontIn s line ≡ f
-front-is line p q = ap (λ (x : Number). frontIn x line) (sym p) ∙ q
-
+-- ---- the letter, and the last number behind it
 module _ (l w r : ℕ) where
   pub amount-there : {t : OperationType} {m : ℕ} {ys : List ℕ} {k : Kind} {f : Front} → kind.Of t ≡ k → some m ys ≡ f → parsed.Of (askedOf l w r t m) ≡ withAmount l w r k f
   amount-there p q = rw (← p, ← q)

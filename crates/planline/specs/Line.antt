@@ -10,7 +10,8 @@ use Rattle.operations.specs.Refusal.{numberOf}
 use Rattle.sched.specs.declared.schedule.ScheduledAnswer.{ScheduledAnswer}
 use Rattle.sched.specs.declared.schedule.ScheduledAnswer.the-variants as schedules
 use Rattle.sched.specs.Scheduler.{schedulerOf, scheduleOf}
-use Rattle.lines.specs.Decimal.{decimal, Front, some, none, numberFront}
+use Rattle.lines.specs.Decimal.{decimal, Front, some, none}
+use Rattle.lines.specs.Field.{spacedFront, lastFront}
 use Rattle.planline.specs.declared.line.Asked.{Asked}
 use Rattle.planline.specs.declared.line.Kind.{Kind}
 use Rattle.planline.specs.declared.line.Kind.the-variants as kind
@@ -29,30 +30,6 @@ lineOf a =
     decimal (a .«buf_len») ++ (32 ∷ (decimal (a .written) ++ (32 ∷ (decimal (a .read) ++ (32 ∷ (letterOf (a .typ) ∷ (32 ∷ decimal (a .«max_len»))))))))
 
 -- ---- what a line says
-unfoldable pub spaceThen : ℕ → List ℕ → Front
-spaceThen n [] = none
-spaceThen n (x ∷ xs) = cond (eqb x 32) (some n xs) none
-
-abbrev pub afterSpace : Front → Front
-afterSpace (some n xs) = spaceThen n xs
-afterSpace none = none
-
--- a number and a space
-abbrev pub spacedFront : List ℕ → Front
-spacedFront xs = afterSpace (numberFront xs)
-
-unfoldable pub endThen : ℕ → List ℕ → Front
-endThen n [] = some n []
-endThen n (x ∷ xs) = none
-
-abbrev pub atEnd : Front → Front
-atEnd (some n xs) = endThen n xs
-atEnd none = none
-
--- a number, and nothing behind it
-abbrev pub lastFront : List ℕ → Front
-lastFront xs = atEnd (numberFront xs)
-
 unfoldable pub kindOf : ℕ → Kind
 kindOf x = cond (eqb x 82) (kind.Of Read) (cond (eqb x 87) (kind.Of Write) kind.Bad)
 

@@ -1,10 +1,11 @@
 // What a line asks, and the scheduler's answer.
 ghost use mathlib.Core.Path.{_≡_};
 ghost use lib.ListN.{drop};
-ghost use Rattle.lines.specs.Decimal.{frontIn};
-ghost use Rattle.planline.specs.Line.{spacedFront, lastFront, kindOf, kindFront, withWritten, withRead, withAmount, parseOf, planFor, planOf};
+ghost use Rattle.lines.specs.Field.{spacedFront, lastFront};
+ghost use Rattle.planline.specs.Line.{kindOf, kindFront, withWritten, withRead, withAmount, parseOf, planFor, planOf};
 use lines::Number;
-use lines::number_at;
+use lines::last;
+use lines::spaced;
 use sched::Counter;
 use sched::OperationType;
 use sched::RingBufferScheduler;
@@ -34,38 +35,6 @@ pub enum Plan {
     Bad,
     Refused(u64),
     Ok(ScheduledOperations),
-}
-
-// A number and a space.
-fn spaced(line: &[u8], at: usize) -> Number
-    ensures { λ r. ⌜ frontIn r (now (line .entry)) ≡ spacedFront (drop at (now (line .entry))) ⌝ }
-{
-    match number_at(line, at) {
-        Number::Of { n, next } => {
-            if next < line.len() {
-                if line[next] == b' ' {
-                    return Number::Of { n, next: next + 1 };
-                }
-            }
-            Number::Bad
-        }
-        Number::Bad => Number::Bad,
-    }
-}
-
-// A number, and the line's end.
-fn last(line: &[u8], at: usize) -> Number
-    ensures { λ r. ⌜ frontIn r (now (line .entry)) ≡ lastFront (drop at (now (line .entry))) ⌝ }
-{
-    match number_at(line, at) {
-        Number::Of { n, next } => {
-            if next < line.len() {
-                return Number::Bad;
-            }
-            Number::Of { n, next }
-        }
-        Number::Bad => Number::Bad,
-    }
 }
 
 fn kind_of(byte: u8) -> Kind

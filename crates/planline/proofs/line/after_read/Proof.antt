@@ -1,10 +1,12 @@
 -- The letter, and the last number two bytes behind it.
+use Prim.Native.Nat.{_+_}
 use mathlib.Core.Path.{sym, _∙_}
 use lib.ListN.{drop}
 use native.Mathlib.Omega.{arith}
 use borrow.Author.Needs.{needs}
-use Rattle.planline.proofs.LineLaws.{front-is, kind-room, amount-there, amount-none, kind-none, last-behind}
-use Rattle.planline.specs.Line.{lastFront}
+use Rattle.lines.specs.Field.{lastFront}
+use Rattle.lines.proofs.FieldLaws.{front-is, last-front}
+use Rattle.planline.proofs.LineLaws.{kind-room, amount-there, amount-none, kind-none, last-behind}
 use Rattle.planline.proofs.line.after_read.Statement.{statement}
 use Rattle.planline.proofs.line.after_read.Tie as tie
 
@@ -22,7 +24,7 @@ returns c =
     let start = at-kind-at .before .before in
     let a = start .args in
     amount-there (a .buf-len) (a .written) (a .read) (sym (at-typ .typ .given .1) ∙ at-kind-at .kind-at .ensures)
-    (front-is (a .line .now) (c .before .n .given .1) (at-last .last .ensures) ∙ last-behind (a .line .now) (a .at))
+    (front-is (a .line .now) (c .before .n .given .1) (last-front (a .line .now) (a .at + 2) (at-last .last .ensures)) ∙ last-behind (a .line .now) (a .at))
 
 returns-2 : tie.Need-returns-2
 returns-2 c =
@@ -32,7 +34,7 @@ returns-2 c =
     let start = at-kind-at .before .before in
     let a = start .args in
     amount-none (a .buf-len) (a .written) (a .read) (sym (at-typ .typ .given .1) ∙ at-kind-at .kind-at .ensures)
-    (front-is (a .line .now) (c .enum-told .given .1) (at-last .last .ensures) ∙ last-behind (a .line .now) (a .at))
+    (front-is (a .line .now) (c .enum-told .given .1) (last-front (a .line .now) (a .at + 2) (at-last .last .ensures)) ∙ last-behind (a .line .now) (a .at))
 
 returns-3 : tie.Need-returns-3
 returns-3 c =

@@ -1,29 +1,29 @@
--- The lines that are accepted are the well-formed ones: each is read as what it asks, and nothing else is read.
+-- The lines that ask the scheduler are the well-formed ones: each is read as what it asks, and nothing else is read.
 use Prim.Native.Nat.{ℕ, _<_, _≤_, _^_}
 use mathlib.Core.Path.{_≡_, refl, sym, ap, _∙_}
 use mathlib.Core.Bool.{Bool, true, false, cond}
 use mathlib.Core.List.{List, [], _∷_, _++_}
 use lib.Dec.{eqb}
-use mathlib.Core.Logic.{⊎-elim}
 use lib.ListN.{length, drop, length-append}
 use native.Mathlib.Omega.{arith}
 use borrow.Author.Tests.{eqb-true}
-use Rattle.modular.proofs.Laws.{lt-or-le}
 use Rattle.lines.specs.Decimal.{decimal, Front, some, none}
 use Rattle.lines.specs.Field.{spacedFront, lastFront}
 use Rattle.lines.proofs.DecimalLaws.{decimal-short}
 use Rattle.lines.proofs.FieldLaws.{spaced-decimal, last-decimal, spaced-reads, last-reads}
 use Rattle.operations.specs.declared.operation.OperationType.{OperationType}
 use Rattle.operations.specs.declared.operation.OperationType.the-variants.{Read, Write}
-use Rattle.planline.specs.declared.line.Asked.{Asked}
-use Rattle.planline.specs.declared.line.Kind.{Kind}
-use Rattle.planline.specs.declared.line.Kind.the-variants as kind
-use Rattle.planline.specs.declared.line.Parsed.{Parsed}
-use Rattle.planline.specs.declared.line.Parsed.the-variants as parsed
-use Rattle.planline.specs.declared.line.Plan.the-variants as plan
+use Rattle.planline.specs.declared.ring.Asked.{Asked}
+use Rattle.planline.specs.declared.ring.Kind.{Kind}
+use Rattle.planline.specs.declared.ring.Kind.the-variants as kind
+use Rattle.planline.specs.declared.ring.Parsed.{Parsed}
+use Rattle.planline.specs.declared.ring.Parsed.the-variants as parsed
+use Rattle.planline.specs.declared.plan.Plan.the-variants as plan
+use Rattle.planline.specs.declared.plan.Question.the-variants as question
 use Rattle.planline.specs.Grammar.{Fits, WellFormed}
-use Rattle.planline.specs.Line.{letterOf, lineOf, kindOf, kindFront, askedOf, withAmount, withRead, withWritten, withLength, parseOf, planFor, planFrom, planOf}
-use Rattle.planline.proofs.LineLaws.{plan-long, plan-short}
+use Rattle.planline.specs.Ring.{letterOf, lineOf, kindOf, kindFront, askedOf, withAmount, withRead, withWritten, withLength, parseOf, planFor, planFrom}
+use Rattle.planline.specs.Plan.{planOf}
+use Rattle.planline.proofs.PlanLaws.{plan-short, plan-bad}
 
 -- ---- every well-formed line is read
 kind-letter : (t : OperationType) (xs : List ℕ) → kindFront (letterOf t ∷ (32 ∷ xs)) ≡ kind.Of t
@@ -115,15 +115,11 @@ line-short a =
       decimal-short (a .«max_len»),
     )
 
-pub planned : (a : Asked) → Fits a → planOf (lineOf a) ≡ planFor a
-planned a f = sym (plan-short (lineOf a) (line-short a)) ∙ ap planFrom (accepts a f)
+pub planned : (a : Asked) → Fits a → planOf question.Ring (lineOf a) ≡ planFor a
+planned a f = sym (plan-short question.Ring (lineOf a) (line-short a)) ∙ ap planFrom (accepts a f)
 
-pub bad-else : (xs : List ℕ) → ((a : Asked) → WellFormed xs a → ⊥) → planOf xs ≡ plan.Bad
-bad-else xs none-such =
-    ⊎-elim
-    (λ long. sym (plan-long xs long))
-    (λ short. sym (plan-short xs short) ∙ go (parseOf xs) refl)
-    (lt-or-le 120 (length xs))
+pub bad-else : (xs : List ℕ) → ((a : Asked) → WellFormed xs a → ⊥) → planOf question.Ring xs ≡ plan.Bad
+bad-else xs none-such = plan-bad question.Ring xs (go (parseOf xs) refl)
   where
     go : (p : Parsed) → parseOf xs ≡ p → planFrom p ≡ plan.Bad
     go (parsed.Of a) e = absurd (none-such a (accepted xs a e))

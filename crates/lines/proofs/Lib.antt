@@ -2,6 +2,7 @@ pub mod AnswerLaws
 pub mod CutLaws
 pub mod DecimalForm
 pub mod DecimalLaws
+pub mod FieldLaws
 pub mod LinesLaws
 pub mod NumberLaws
 pub mod NumeralLaws

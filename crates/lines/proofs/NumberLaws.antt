@@ -14,7 +14,7 @@ use Rattle.lines.proofs.DecimalForm.{Reads, front-decimal, front-reads}
 use Rattle.lines.proofs.NumeralLaws.{decimal-numeral, numeral-is}
 
 -- what stands behind a text that begins at an index is the line's end
-rest-is : (line text rest : List ℕ) (at : ℕ) → drop at line ≡ text ++ rest → drop (length line - length rest) line ≡ rest
+pub rest-is : (line text rest : List ℕ) (at : ℕ) → drop at line ≡ text ++ rest → drop (length line - length rest) line ≡ rest
 rest-is line text rest at e =
     let whole : line ≡ (take at line ++ text) ++ rest = sym (take-append-drop at line) ∙ ap (λ (x : List ℕ). take at line ++ x) e ∙ sym (append-assoc (take at line) text rest) in
     let n : length (take at line ++ text) ≡ length line - length rest = omega (arith, ap length whole, length-append (take at line ++ text) rest) in

@@ -14,18 +14,24 @@ use Rattle.lines.specs.declared.cut.Took.{Took}
 use Rattle.lines.specs.declared.decimal.Number.{Number}
 use Rattle.lines.specs.declared.decimal.Number.the-variants as number
 use Rattle.lines.specs.Decimal.{decimal, numberAt}
+use Rattle.lines.specs.Field.{spacedAt, lastAt}
 use Rattle.lines.specs.Numeral.{Numeral}
-use Rattle.lines.specs.Promise.{Stops, Stands, Behind, Part, Held}
+use Rattle.lines.specs.Promise.{Stops, Stands, Spaced, Last, Behind, Part, Held}
 use Rattle.lines.specs.Text.{filled}
 use Rattle.lines.proofs.CutLaws.{cut-of, held-of}
+use Rattle.lines.proofs.FieldLaws.{spaced-stands, stands-spaced, last-stands, stands-last}
 use Rattle.lines.proofs.NumberLaws.{stands-number, number-stands, printed-stands}
 use Rattle.lines.proofs.NumeralLaws.{decimal-numeral}
-use Rattle.lines.proofs.Says.{number-at-says, put-decimal-says, put-says, has-room-says, take-line-says}
+use Rattle.lines.proofs.Says.{number-at-says, spaced-says, last-says, put-decimal-says, put-says, has-room-says, take-line-says}
 use Rattle.lines.proofs.TextLaws.{appended}
 use Rattle.lines.proofs.decimal.number_at.Kinds as number-at-kinds
 use Rattle.lines.proofs.decimal.number_at.Reads as number-at
 use Rattle.lines.proofs.decimal.put_decimal.Kinds as put-decimal-kinds
 use Rattle.lines.proofs.decimal.put_decimal.Reads as put-decimal
+use Rattle.lines.proofs.field.spaced.Kinds as spaced-kinds
+use Rattle.lines.proofs.field.spaced.Reads as spaced
+use Rattle.lines.proofs.field.last.Kinds as last-kinds
+use Rattle.lines.proofs.field.last.Reads as last
 use Rattle.lines.proofs.text.put.Kinds as put-kinds
 use Rattle.lines.proofs.text.put.Reads as put
 use Rattle.lines.proofs.text.has_room.Kinds as has-room-kinds
@@ -41,6 +47,22 @@ pub number-at-promised :
 number-at-promised κs a z q n next =
     let said : z ≡ numberAt (a .0 .now) (a .1 .0) = number-at-says κs a z (q .0) (q .1) in
     (λ s. said ∙ stands-number (a .0 .now) (a .1 .0) n next s, λ e. number-stands (a .0 .now) (a .1 .0) n next (sym said ∙ e))
+
+-- with a space behind it
+pub spaced-promised :
+    Keeps 1 spaced-kinds.ps spaced-kinds.r spaced.Learnt
+    (λ κs a z. (n next : ℕ) → (Spaced (a .0 .now) (a .1 .0) n next → z ≡ number.Of n next) × (z ≡ number.Of n next → Spaced (a .0 .now) (a .1 .0) n next))
+spaced-promised κs a z q n next =
+    let said : z ≡ spacedAt (a .0 .now) (a .1 .0) = spaced-says κs a z (q .0) (q .1) in
+    (λ s. said ∙ spaced-stands (a .0 .now) (a .1 .0) n next s, λ e. stands-spaced (a .0 .now) (a .1 .0) n next (sym said ∙ e))
+
+-- and as all that is left of the line
+pub last-promised :
+    Keeps 1 last-kinds.ps last-kinds.r last.Learnt
+    (λ κs a z. (n next : ℕ) → (Last (a .0 .now) (a .1 .0) n next → z ≡ number.Of n next) × (z ≡ number.Of n next → Last (a .0 .now) (a .1 .0) n next))
+last-promised κs a z q n next =
+    let said : z ≡ lastAt (a .0 .now) (a .1 .0) = last-says κs a z (q .0) (q .1) in
+    (λ s. said ∙ last-stands (a .0 .now) (a .1 .0) n next s, λ e. stands-last (a .0 .now) (a .1 .0) n next (sym said ∙ e))
 
 -- its numeral is printed where that has room
 pub put-decimal-promised :

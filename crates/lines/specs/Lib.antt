@@ -1,6 +1,7 @@
 pub mod Answer
 pub mod Cut
 pub mod Decimal
+pub mod Field
 pub mod Lines
 pub mod Numeral
 pub mod Promise

@@ -23,6 +23,21 @@ pub record Stands (line : List ℕ) (at n next : ℕ) : Type 0 where
   pub stops : 0 < n → Stops rest
   pub end : next ≡ at + length text
 
+-- the same with a space behind it, and `next` is the index behind the space
+pub record Spaced (line : List ℕ) (at n next : ℕ) : Type 0 where
+  pub text : List ℕ
+  pub rest : List ℕ
+  pub is : drop at line ≡ text ++ (32 ∷ rest)
+  pub numeral : Numeral text n
+  pub fits : n < 2 ^ 64
+  pub end : next ≡ at + length text + 1
+
+-- n's numeral is all that stands from an index on
+pub record Last (line : List ℕ) (at n next : ℕ) : Type 0 where
+  pub numeral : Numeral (drop at line) n
+  pub fits : n < 2 ^ 64
+  pub end : next ≡ length line
+
 -- ---- a text in a buffer
 -- it stands behind the first `at` bytes, and nothing else of the buffer changes; nothing at all where `longest` bytes have no room.
 -- Then the index behind it, and the bytes

@@ -1,44 +1,31 @@
--- The lines that are accepted are the well-formed ones: each is read as what it asks, and nothing else is read.
+-- The lines that ask the scheduler are the well-formed ones: each is read as what it asks, and nothing else is read.
 use Prim.Native.Nat.{ℕ, _<_, _≤_, _^_}
 use mathlib.Core.Path.{_≡_, refl, sym, ap, _∙_}
 use mathlib.Core.Bool.{Bool, true, false, cond}
-use mathlib.Core.List.{List, [], _∷_, _++_, append-nil}
+use mathlib.Core.List.{List, [], _∷_, _++_}
 use lib.Dec.{eqb}
-use mathlib.Core.Logic.{⊎-elim}
 use lib.ListN.{length, drop, length-append}
 use native.Mathlib.Omega.{arith}
 use borrow.Author.Tests.{eqb-true}
-use Rattle.modular.proofs.Laws.{lt-or-le}
-use Rattle.lines.specs.Decimal.{decimal, Front, some, none, numberFront}
-use Rattle.lines.proofs.DecimalForm.{Reads, front-decimal, never, front-reads}
+use Rattle.lines.specs.Decimal.{decimal, Front, some, none}
+use Rattle.lines.specs.Field.{spacedFront, lastFront}
 use Rattle.lines.proofs.DecimalLaws.{decimal-short}
+use Rattle.lines.proofs.FieldLaws.{spaced-decimal, last-decimal, spaced-reads, last-reads}
 use Rattle.operations.specs.declared.operation.OperationType.{OperationType}
 use Rattle.operations.specs.declared.operation.OperationType.the-variants.{Read, Write}
-use Rattle.planline.specs.declared.line.Asked.{Asked}
-use Rattle.planline.specs.declared.line.Kind.{Kind}
-use Rattle.planline.specs.declared.line.Kind.the-variants as kind
-use Rattle.planline.specs.declared.line.Parsed.{Parsed}
-use Rattle.planline.specs.declared.line.Parsed.the-variants as parsed
-use Rattle.planline.specs.declared.line.Plan.the-variants as plan
+use Rattle.planline.specs.declared.ring.Asked.{Asked}
+use Rattle.planline.specs.declared.ring.Kind.{Kind}
+use Rattle.planline.specs.declared.ring.Kind.the-variants as kind
+use Rattle.planline.specs.declared.ring.Parsed.{Parsed}
+use Rattle.planline.specs.declared.ring.Parsed.the-variants as parsed
+use Rattle.planline.specs.declared.plan.Plan.the-variants as plan
+use Rattle.planline.specs.declared.plan.Question.the-variants as question
 use Rattle.planline.specs.Grammar.{Fits, WellFormed}
-use Rattle.planline.specs.Line.{letterOf, lineOf, spaceThen, afterSpace, spacedFront, endThen, atEnd, lastFront, kindOf, kindFront, askedOf, withAmount, withRead, withWritten, withLength, parseOf, planFor, planFrom, planOf}
-use Rattle.planline.proofs.LineLaws.{plan-long, plan-short}
+use Rattle.planline.specs.Ring.{letterOf, lineOf, kindOf, kindFront, askedOf, withAmount, withRead, withWritten, withLength, parseOf, planFor, planFrom}
+use Rattle.planline.specs.Plan.{planOf}
+use Rattle.planline.proofs.PlanLaws.{plan-short, plan-bad}
 
 -- ---- every well-formed line is read
-space-taken : (n : ℕ) (xs : List ℕ) → spaceThen n (32 ∷ xs) ≡ some n xs
-unfolding spaceThen
-space-taken n xs = refl
-
-end-taken : (n : ℕ) → endThen n [] ≡ some n []
-unfolding endThen
-end-taken n = refl
-
-spaced-decimal : (n : ℕ) (xs : List ℕ) → n < 2 ^ 64 → spacedFront (decimal n ++ (32 ∷ xs)) ≡ some n xs
-spaced-decimal n xs f = ap afterSpace (front-decimal n (32 ∷ xs) f (λ p h k. omega arith)) ∙ space-taken n xs
-
-last-decimal : (n : ℕ) → n < 2 ^ 64 → lastFront (decimal n) ≡ some n []
-last-decimal n f = ap lastFront (sym (append-nil (decimal n))) ∙ ap atEnd (front-decimal n [] f (λ p. tt)) ∙ end-taken n
-
 kind-letter : (t : OperationType) (xs : List ℕ) → kindFront (letterOf t ∷ (32 ∷ xs)) ≡ kind.Of t
 unfolding kindFront kindOf
 kind-letter Read xs = refl
@@ -56,43 +43,6 @@ accepts a f =
 -- ---- and nothing else
 bad : {A : Type 0} (a : Asked) → parsed.Bad ≡ parsed.Of a → A
 bad a p = absurd (let z : _≡_ {A = ℕ} 0 1 = cc in omega arith)
-
-space-reads : (m n : ℕ) (zs ys : List ℕ) → spaceThen m zs ≡ some n ys → (m ≡ n) × (zs ≡ 32 ∷ ys)
-unfolding spaceThen
-space-reads m n [] ys p = never n ys p
-space-reads m n (x ∷ zs) ys p = go (eqb x 32) refl p
-  where
-    go : (b : Bool) → eqb x 32 ≡ b → cond b (some m zs) none ≡ some n ys → (m ≡ n) × (x ∷ zs ≡ 32 ∷ ys)
-    go true e p =
-        let q : m ≡ n = cc in
-        let g : zs ≡ ys = cc in
-        (q, ap (λ (y : ℕ). y ∷ zs) (eqb-true x 32 e) ∙ ap (λ (y : List ℕ). 32 ∷ y) g)
-    go false e p = never n ys p
-
-spaced-reads : (xs : List ℕ) (n : ℕ) (ys : List ℕ) → spacedFront xs ≡ some n ys → (xs ≡ decimal n ++ (32 ∷ ys)) × (n < 2 ^ 64)
-spaced-reads xs n ys p = go (numberFront xs) refl p
-  where
-    go : (f : Front) → numberFront xs ≡ f → afterSpace f ≡ some n ys → (xs ≡ decimal n ++ (32 ∷ ys)) × (n < 2 ^ 64)
-    go none q p = never n ys p
-    go (some m zs) q p =
-        let r : (m ≡ n) × (zs ≡ 32 ∷ ys) = space-reads m n zs ys p in
-        let s : Reads xs n (32 ∷ ys) = front-reads xs n (32 ∷ ys) (q ∙ ap (λ (k : ℕ). some k zs) (r .0) ∙ ap (λ (z : List ℕ). some n z) (r .1)) in
-        (s .is, s .fits)
-
-end-reads : (m n : ℕ) (zs ys : List ℕ) → endThen m zs ≡ some n ys → (m ≡ n) × (zs ≡ [])
-unfolding endThen
-end-reads m n [] ys p = let q : m ≡ n = cc in (q, refl)
-end-reads m n (x ∷ zs) ys p = never n ys p
-
-last-reads : (xs : List ℕ) (n : ℕ) (ys : List ℕ) → lastFront xs ≡ some n ys → (xs ≡ decimal n) × (n < 2 ^ 64)
-last-reads xs n ys p = go (numberFront xs) refl p
-  where
-    go : (f : Front) → numberFront xs ≡ f → atEnd f ≡ some n ys → (xs ≡ decimal n) × (n < 2 ^ 64)
-    go none q p = never n ys p
-    go (some m zs) q p =
-        let r : (m ≡ n) × (zs ≡ []) = end-reads m n zs ys p in
-        let s : Reads xs n [] = front-reads xs n [] (q ∙ ap (λ (k : ℕ). some k zs) (r .0) ∙ ap (λ (z : List ℕ). some n z) (r .1)) in
-        (s .is ∙ append-nil (decimal n), s .fits)
 
 letter-reads : (x : ℕ) (t : OperationType) → kindOf x ≡ kind.Of t → x ≡ letterOf t
 unfolding kindOf
@@ -121,7 +71,7 @@ module _ (xs : List ℕ) (a : Asked) where
     after-read (kind.Of t) e none g h = bad a h
     after-read (kind.Of t) e (some m us) g h =
         let c : askedOf l w r t m ≡ a = cc in
-        let d : (drop 2 vs ≡ decimal m) × (m < 2 ^ 64) = last-reads (drop 2 vs) m us g in
+        let d : (drop 2 vs ≡ decimal m) × (m < 2 ^ 64) × (us ≡ []) = last-reads (drop 2 vs) m us g in
         let v : vs ≡ letterOf t ∷ (32 ∷ decimal m) = kind-reads vs t e ∙ ap (λ (x : List ℕ). letterOf t ∷ (32 ∷ x)) (d .0) in
         rw (← c)
         (record {
@@ -165,15 +115,11 @@ line-short a =
       decimal-short (a .«max_len»),
     )
 
-pub planned : (a : Asked) → Fits a → planOf (lineOf a) ≡ planFor a
-planned a f = sym (plan-short (lineOf a) (line-short a)) ∙ ap planFrom (accepts a f)
+pub planned : (a : Asked) → Fits a → planOf question.Ring (lineOf a) ≡ planFor a
+planned a f = sym (plan-short question.Ring (lineOf a) (line-short a)) ∙ ap planFrom (accepts a f)
 
-pub bad-else : (xs : List ℕ) → ((a : Asked) → WellFormed xs a → ⊥) → planOf xs ≡ plan.Bad
-bad-else xs none-such =
-    ⊎-elim
-    (λ long. sym (plan-long xs long))
-    (λ short. sym (plan-short xs short) ∙ go (parseOf xs) refl)
-    (lt-or-le 120 (length xs))
+pub bad-else : (xs : List ℕ) → ((a : Asked) → WellFormed xs a → ⊥) → planOf question.Ring xs ≡ plan.Bad
+bad-else xs none-such = plan-bad question.Ring xs (go (parseOf xs) refl)
   where
     go : (p : Parsed) → parseOf xs ≡ p → planFrom p ≡ plan.Bad
     go (parsed.Of a) e = absurd (none-such a (accepted xs a e))

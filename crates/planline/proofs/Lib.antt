@@ -1,7 +1,10 @@
 pub mod Case
 pub mod Grammar
-pub mod LineLaws
+pub mod PlanLaws
 pub mod Printing
 pub mod Promised
+pub mod PromisedStrips
+pub mod RingLaws
 pub mod Says
+pub mod StripsLines
 pub mod TextLaws

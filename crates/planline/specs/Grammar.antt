@@ -1,9 +1,9 @@
--- The lines that are well-formed, by what they ask.
+-- The lines that ask the scheduler, by what they ask.
 use Prim.Native.Nat.{ℕ, _^_, _<_}
 use mathlib.Core.Path.{_≡_}
 use mathlib.Core.List.{List}
-use Rattle.planline.specs.declared.line.Asked.{Asked}
-use Rattle.planline.specs.Line.{lineOf}
+use Rattle.planline.specs.declared.ring.Asked.{Asked}
+use Rattle.planline.specs.Ring.{lineOf}
 
 -- every number is at most 2^64 - 1
 pub record Fits (a : Asked) : Type 0 where

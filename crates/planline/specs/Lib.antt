@@ -1,5 +1,7 @@
 pub mod Cut
 pub mod Grammar
-pub mod Line
+pub mod Plan
 pub mod Promise
+pub mod Ring
+pub mod Strips
 pub mod Text

@@ -4,6 +4,7 @@ ghost use Rattle.lines.specs.Answer.{step, isReady};
 ghost use Rattle.lines.specs.Text.{filled};
 ghost use Rattle.planline.specs.Cut.{mostHeld, stepOf, lastOf};
 ghost use Rattle.planline.specs.Text.{longest};
+use crate::plan::Question;
 use crate::text::LONGEST;
 use crate::text::append;
 use lines::has_room;
@@ -22,6 +23,7 @@ pub struct Cut {
 // Takes the piece's bytes from `from` on, up to the end of a line, and writes that line's answer at `at`. Nothing is taken
 // where `line` is shorter than 121 bytes or the longest answer has no room.
 pub fn answer_next(
+    question: Question,
     line: &mut [u8],
     held: usize,
     piece: &[u8],
@@ -29,7 +31,7 @@ pub fn answer_next(
     out: &mut [u8],
     at: usize,
 ) -> Cut
-    ensures { λ r. ⌜ step (filled (r .held) (now (line .exit))) (r .next) (filled (r .at) (now (out .exit))) ≡ stepOf (filled held (now (line .entry))) from (now (piece .entry)) (filled at (now (out .entry))) ⌝ }
+    ensures { λ r. ⌜ step (filled (r .held) (now (line .exit))) (r .next) (filled (r .at) (now (out .exit))) ≡ stepOf question (filled held (now (line .entry))) from (now (piece .entry)) (filled at (now (out .entry))) ⌝ }
 {
     if !is_ready(line, out, at) {
         return Cut {
@@ -44,7 +46,7 @@ pub fn answer_next(
         return Cut {
             held: 0,
             next: took.next,
-            at: append(&line[..n], out, at),
+            at: append(question, &line[..n], out, at),
         };
     }
     Cut {
@@ -55,8 +57,8 @@ pub fn answer_next(
 }
 
 // The input's end: a last line without its line feed is answered too.
-pub fn answer_last(line: &[u8], held: usize, out: &mut [u8], at: usize) -> usize
-    ensures { λ r. ⌜ filled r (now (out .exit)) ≡ lastOf (filled held (now (line .entry))) (filled at (now (out .entry))) ⌝ }
+pub fn answer_last(question: Question, line: &[u8], held: usize, out: &mut [u8], at: usize) -> usize
+    ensures { λ r. ⌜ filled r (now (out .exit)) ≡ lastOf question (filled held (now (line .entry))) (filled at (now (out .entry))) ⌝ }
 {
     if !is_ready(line, out, at) {
         return at;
@@ -65,9 +67,9 @@ pub fn answer_last(line: &[u8], held: usize, out: &mut [u8], at: usize) -> usize
         return at;
     }
     if held < MOST_HELD {
-        return append(&line[..held], out, at);
+        return append(question, &line[..held], out, at);
     }
-    append(&line[..MOST_HELD], out, at)
+    append(question, &line[..MOST_HELD], out, at)
 }
 
 // Whether the longest line that is held has room, and the longest answer.

@@ -16,14 +16,14 @@ returns c =
     let at-before = c .before .before .before .before in
     let start = at-before .before in
     let a = start .args in
-    last-unready lineText mostHeld longest (a .held) (a .line .now) (filled (a .at) (a .out .now)) (sym (c .before .is-ready .ensures) ∙ not-true _ (c .if1 .taken))
+    last-unready (lineText (a .question)) mostHeld longest (a .held) (a .line .now) (filled (a .at) (a .out .now)) (sym (c .before .is-ready .ensures) ∙ not-true _ (c .if1 .taken))
 
 returns-2 : tie.Need-returns-2
 returns-2 c =
     let at-is-ready = c .before .before in
     let start = at-is-ready .before .before .before .before in
     let a = start .args in
-    last-none lineText mostHeld longest (a .held) (a .line .now) (filled (a .at) (a .out .now)) (sym (at-is-ready .is-ready .ensures) ∙ not-false _ (c .before .if1 .left)) (c .if2 .taken)
+    last-none (lineText (a .question)) mostHeld longest (a .held) (a .line .now) (filled (a .at) (a .out .now)) (sym (at-is-ready .is-ready .ensures) ∙ not-false _ (c .before .if1 .left)) (c .if2 .taken)
 
 slice-aggregate-append : tie.Need-slice-aggregate-append
 slice-aggregate-append c =
@@ -43,7 +43,7 @@ returns-3 c =
     let start = at-is-ready .before .before .before .before in
     let a = start .args in
     at-append .append .ensures
-    ∙ last-there lineText mostHeld longest (a .held) (a .line .now) (filled (a .at) (a .out .now)) (sym (at-is-ready .is-ready .ensures) ∙ not-false _ (at-if1 .if1 .left)) (at-if2 .if2 .left) (a .held) (omega arith)
+    ∙ last-there (lineText (a .question)) mostHeld longest (a .held) (a .line .now) (filled (a .at) (a .out .now)) (sym (at-is-ready .is-ready .ensures) ∙ not-false _ (at-if1 .if1 .left)) (at-if2 .if2 .left) (a .held) (omega arith)
 
 slice-aggregate-append-2 : tie.Need-slice-aggregate-append-2
 slice-aggregate-append-2 c =
@@ -63,7 +63,7 @@ returns-4 c =
     let start = at-is-ready .before .before .before .before in
     let a = start .args in
     at-append2 .append2 .ensures
-    ∙ last-there lineText mostHeld longest (a .held) (a .line .now) (filled (a .at) (a .out .now)) (sym (at-is-ready .is-ready .ensures) ∙ not-false _ (at-if1 .if1 .left)) (at-if2 .if2 .left) mostHeld (omega arith)
+    ∙ last-there (lineText (a .question)) mostHeld longest (a .held) (a .line .now) (filled (a .at) (a .out .now)) (sym (at-is-ready .is-ready .ensures) ∙ not-false _ (at-if1 .if1 .left)) (at-if2 .if2 .left) mostHeld (omega arith)
 
 pub answer-last-spec : {M : Type 1} → statement M
 answer-last-spec =

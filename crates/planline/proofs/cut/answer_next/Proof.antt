@@ -18,7 +18,7 @@ returns c =
     let at-before = c .before .before .before .before .before .before in
     let start = at-before .before in
     let a = start .args in
-    step-unready lineText mostHeld longest (filled (a .held) (a .line .now)) (a .from) (a .piece .now) (filled (a .at) (a .out .now)) (sym (c .before .is-ready .ensures) ∙ not-true _ (c .if1 .taken))
+    step-unready (lineText (a .question)) mostHeld longest (filled (a .held) (a .line .now)) (a .from) (a .piece .now) (filled (a .at) (a .out .now)) (sym (c .before .is-ready .ensures) ∙ not-true _ (c .if1 .taken))
 
 slice-reshare-prefix-append : tie.Need-slice-reshare-prefix-append
 slice-reshare-prefix-append c =
@@ -48,7 +48,7 @@ returns-2 c =
     let a = start .args in
     let t = at-take-line .take-line in
     ap (λ (o : Filled). step (filled 0 (t .last .0)) (t .result .next) o) (at-append .append .ensures)
-    ∙ step-whole lineText mostHeld longest (filled (a .held) (a .line .now)) (a .from) (a .piece .now) (filled (a .at) (a .out .now)) (sym (at-is-ready .is-ready .ensures) ∙ not-false _ (at-if1 .if1 .left)) (t .ensures) (at-if2 .if2 .taken)
+    ∙ step-whole (lineText (a .question)) mostHeld longest (filled (a .held) (a .line .now)) (a .from) (a .piece .now) (filled (a .at) (a .out .now)) (sym (at-is-ready .is-ready .ensures) ∙ not-false _ (at-if1 .if1 .left)) (t .ensures) (at-if2 .if2 .taken)
 
 returns-3 : tie.Need-returns-3
 returns-3 c =
@@ -59,7 +59,7 @@ returns-3 c =
     let start = at-is-ready .before .before .before .before .before .before in
     let a = start .args in
     let t = at-take-line .take-line in
-    step-part lineText mostHeld longest (filled (a .held) (a .line .now)) (a .from) (a .piece .now) (filled (a .at) (a .out .now)) (sym (at-is-ready .is-ready .ensures) ∙ not-false _ (at-if1 .if1 .left)) (t .ensures) (c .if2 .left)
+    step-part (lineText (a .question)) mostHeld longest (filled (a .held) (a .line .now)) (a .from) (a .piece .now) (filled (a .at) (a .out .now)) (sym (at-is-ready .is-ready .ensures) ∙ not-false _ (at-if1 .if1 .left)) (t .ensures) (c .if2 .left)
 
 pub answer-next-spec : {M : Type 1} → statement M
 answer-next-spec =

@@ -8,8 +8,8 @@ use borrow.Author.Tests.{leb-true}
 use borrow.Author.Needs.{needs}
 use Rattle.lines.specs.Text.{filled, hasRoom, appendOf}
 use Rattle.lines.proofs.TextLaws.{append-room, append-full}
-use Rattle.planline.specs.declared.line.Plan.{Plan}
-use Rattle.planline.specs.Line.{planOf}
+use Rattle.planline.specs.declared.plan.Plan.{Plan}
+use Rattle.planline.specs.Cut.{lineText}
 use Rattle.planline.specs.Text.{planText, longest}
 use Rattle.planline.proofs.TextLaws.{plan-text-short}
 use Rattle.planline.proofs.text.append.Statement.{statement}
@@ -34,7 +34,7 @@ returns-2 c =
     let at-before = c .before .before .before .before in
     let start = at-before .before in
     let a = start .args in
-    append-full longest (planText (planOf (a .line .now))) (a .out .now) (a .at) (sym (c .before .has-room .ensures) ∙ c .if1 .left)
+    append-full longest (lineText (a .question) (a .line .now)) (a .out .now) (a .at) (sym (c .before .has-room .ensures) ∙ c .if1 .left)
 
 pub append-spec : {M : Type 1} → statement M
 append-spec = tie.close (tie.spec (search needs) (search needs) (search needs) (search needs) returns (search needs) returns-2)

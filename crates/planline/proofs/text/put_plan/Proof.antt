@@ -32,8 +32,18 @@ returns-3 c =
     let at-plan2 = at-put4 .before .before .before .before in
     rw (at-plan2 .plan2 .given .1) (stores-then (stores-put (111 ∷ 107 ∷ 32 ∷ []) (at-put4 .put4 .ensures)) (stores-then (at-put-list .put-list .ensures) (stores-put (10 ∷ []) (at-put5 .put5 .ensures))))
 
+returns-4 : tie.Need-returns-4
+unfolding planText
+returns-4 c =
+    let at-put7 = c .before .before in
+    let at-put-strips = at-put7 .before .before .before .before .before in
+    let at-put6 = at-put-strips .before .before .before .before in
+    let at-plan3 = at-put6 .before .before .before .before in
+    rw (at-plan3 .plan3 .given .1) (stores-then (stores-put (111 ∷ 107 ∷ 32 ∷ []) (at-put6 .put6 .ensures)) (stores-then (at-put-strips .put-strips .ensures) (stores-put (10 ∷ []) (at-put7 .put7 .ensures))))
+
 pub put-plan-spec : {M : Type 1} → statement M
 put-plan-spec =
     tie.close (tie.spec (search needs) (search needs) (search needs) (search needs) (search needs) (search needs) (search needs)
     (search needs) (search needs) (search needs) (search needs) (search needs) (search needs) (search needs) (search needs) (search needs)
-    returns (search needs) returns-2 (search needs) returns-3)
+    (search needs) (search needs) (search needs) (search needs) (search needs) (search needs) returns (search needs) returns-2 (search needs)
+    returns-3 (search needs) returns-4)

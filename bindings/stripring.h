@@ -20,6 +20,13 @@
  *   11  the call needs one more socket answer than was lent
  *   12  a stored errno is not 1 to 4095 (a: 0), or a socket answer is one that its place cannot have (a: 1 + its index)
  *   13  2^64 - 1 acknowledgements are pending
+ *   14  rows are not 1 to 65535, or their bytes not 1 to 2^20    a: rows, b: bytes a row
+ *   15  no plan exists: one row and its header exceed L          a: bytes a row, b: L
+ *   16  a run is empty                                  a: its index, from 0
+ *   17  a run does not begin where the one before ended, the first one at row 0, or ends past the last row    a: its index
+ *   18  a run and its header exceed L                   a: its index
+ *   19  the runs end before the last row                a: the row reached
+ *   39  a lent plan is shorter than its runs            a: runs needed, b: runs lent
  *
  * Memory. A pointer and the length behind it lend memory for the time of the call; it stays the caller's. Through a pointer
  * to const the call only reads. What another pointer lends is written, and nothing else that is lent may overlap it. A
@@ -146,6 +153,13 @@ typedef struct stripring_receiver {
   uint64_t pending_ack_count;
   uint64_t notification_socket_shutdown_issued;
 } stripring_receiver;
+
+/* Rows that follow one another: the first one, from 0, and how many. Plans are lent as numbers, two to a run, so an array of n
+ * runs is lent as `(uint64_t *)runs, 2 * n`. */
+typedef struct stripring_run {
+  uint64_t first;
+  uint64_t count;
+} stripring_run;
 
 /* An answer of the host's socket. `kind` 0: received the byte `value` with so many descriptors. 1: closed by the other side.
  * 2: failed with the errno `value`. 3: sent `value` bytes. 4: done. What a kind does not use is not looked at. */
@@ -341,6 +355,20 @@ typedef struct stripring_step_answer {
   stripring_call call;
 } stripring_step_answer;
 
+/* A plan in three numbers: how many strips, the rows of each but the last, and the rows of the last. One strip alone is both. */
+typedef struct stripring_strips_answer {
+  stripring_refusal refusal;
+  uint64_t count;
+  uint64_t height;
+  uint64_t last;
+} stripring_strips_answer;
+
+/* How many runs were written, from the front of the plan on. */
+typedef struct stripring_propose_answer {
+  stripring_refusal refusal;
+  uint64_t count;
+} stripring_propose_answer;
+
 /* ---- The two ends: refused with 1 to 5, and with what is named ----
  *
  * Both are made with one length and start empty. A host writes, sends the counter to the other process, and takes the one
@@ -494,6 +522,24 @@ stripring_failure_answer stripring_failure_normalize(stripring_failure f);
 
 /* e if c is errno 32, else c. */
 stripring_failure_answer stripring_failure_advance_failure_towards_error(stripring_failure c, stripring_failure e);
+
+/* ---- Strips, how an image is cut for a ring: refused with 1, 2, 14, 15, in this order, and then with what is named ----
+ *
+ * A strip is a run of rows that is one chunk: its header of 8 bytes and its rows take at most buf_len bytes, the ring's length. A
+ * plan is the runs of a whole image. It is lent as numbers, two to a run; `plan_len` counts the numbers, and one that is left over
+ * at the end is no run. */
+
+/* The plan with the fewest strips, every one but the last as tall as fits, in three numbers: so many runs propose wants lent. */
+stripring_strips_answer stripring_planner_outline(uint64_t rows, uint64_t row_bytes, uint64_t buf_len);
+
+/* Writes the runs of that plan to the front of `plan`, whose rest stays. 39. */
+stripring_propose_answer stripring_planner_propose(uint64_t rows, uint64_t row_bytes, uint64_t buf_len, uint64_t *plan,
+                                                   size_t plan_len);
+
+/* Whether a plan from anywhere is one: no run is empty, the first begins at row 0, each other where the one before ended, the last
+ * ends at the last row, and each fits. The first bad run is named, by 16, 17 or 18, tested in that order; where none is bad, 19. */
+stripring_refusal stripring_planner_check(uint64_t rows, uint64_t row_bytes, uint64_t buf_len, const uint64_t *plan,
+                                          size_t plan_len);
 
 /* ---- The scheduler: refused with 1 to 5, and with what is named. `op` is 0 for a read, any other for a write ---- */
 

@@ -1,6 +1,7 @@
 //! Times of the static library stripring beside the unchanged Rust and beside other rings.
 
 mod best;
+mod planner;
 mod rings;
 mod rust;
 mod sched;
@@ -9,4 +10,5 @@ mod stripring;
 fn main() {
     sched::print_table();
     rings::print_table();
+    planner::print_table();
 }

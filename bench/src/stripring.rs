@@ -1,5 +1,7 @@
 //! The static library's calls that are measured, and the records that they take and give.
 
+use oracle::planner_model::Image;
+
 #[repr(C)]
 #[derive(Clone, Copy, Debug, PartialEq)]
 pub struct Scheduler {
@@ -144,6 +146,21 @@ unsafe extern "C" {
         dst: *mut u8,
         dst_len: usize,
     ) -> Answer<Copied>;
+
+    fn stripring_planner_propose(
+        rows: u64,
+        row_bytes: u64,
+        buf_len: u64,
+        plan: *mut u64,
+        plan_len: usize,
+    ) -> Answer<u64>;
+    fn stripring_planner_check(
+        rows: u64,
+        row_bytes: u64,
+        buf_len: u64,
+        plan: *const u64,
+        plan_len: usize,
+    ) -> Refusal;
 }
 
 pub fn write(s: Scheduler, ring: &mut [u8], src: &[u8]) -> Answer<Copied> {
@@ -173,4 +190,15 @@ pub fn end_write_in_place(e: &mut End, ring: &mut [u8], src: &[u8]) -> Answer<Po
 pub fn end_read_in_place(e: &mut End, ring: &[u8], dst: &mut [u8]) -> Answer<Portion> {
     let (from, len) = (ring.as_ptr(), ring.len());
     unsafe { stripring_reading_end_read_in_place(e, from, len, dst.as_mut_ptr(), dst.len()) }
+}
+
+// Sound, both: as above.
+pub fn propose(image: Image, plan: &mut [u64]) -> Answer<u64> {
+    let (p, n) = (plan.as_mut_ptr(), plan.len());
+    unsafe { stripring_planner_propose(image.rows, image.row_bytes, image.buf_len, p, n) }
+}
+
+pub fn check(image: Image, plan: &[u64]) -> Refusal {
+    let (p, n) = (plan.as_ptr(), plan.len());
+    unsafe { stripring_planner_check(image.rows, image.row_bytes, image.buf_len, p, n) }
 }

@@ -1,23 +1,12 @@
 /* The calls that change an end in place, each beside the call by value: the same answer, the same bytes, and the end after it in the
  * host's struct; a refused call leaves the struct as it was. Exit 1 at the first thing that is not so. */
+#include "check.h"
 #include "stripring.h"
 
 #include <stdio.h>
-#include <stdlib.h>
 #include <string.h>
 
 enum { RING_LEN = 5, BYTES_LEN = 4 };
-
-static unsigned held;
-
-static void check(bool holds, const char *what, int line) {
-  if (!holds) {
-    fprintf(stderr, "in_place.c:%d: not so: %s\n", line, what);
-    exit(1);
-  }
-  held++;
-}
-#define CHECK(what) check(what, #what, __LINE__)
 
 static bool same(const void *a, const void *b, size_t len) { return memcmp(a, b, len) == 0; }
 

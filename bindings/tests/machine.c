@@ -1,6 +1,7 @@
 /* The receiver's machine as a host drives it, one answer at a time: an answer that is refused changes nothing, and each
  * acknowledgement goes out once. Exit 1 at the first thing that is not so. */
 #define _GNU_SOURCE
+#include "check.h"
 #include "stripring.h"
 
 #include <errno.h>
@@ -14,17 +15,6 @@ enum { RING_LEN = 10, MAX_BATCH = 128, RECEIVE = 0, SEND = 1, SHUTDOWN = 2, FINI
 
 /* A chunk with a body of 2 bytes. */
 static const uint8_t RING[RING_LEN] = {0, 0, 0, 0, 0, 0, 0, 2, 'a', 'b'};
-
-static unsigned held;
-
-static void check(bool holds, const char *what, int line) {
-  if (!holds) {
-    fprintf(stderr, "machine.c:%d: not so: %s\n", line, what);
-    exit(1);
-  }
-  held++;
-}
-#define CHECK(what) check(what, #what, __LINE__)
 
 /* ---- what is handed in ---- */
 

@@ -1,9 +1,9 @@
 /* How much of what was asked is left over: of the next operation, of a list, of a copy by value and in place; and 0 where the call is
  * refused. Exit 1 at the first thing that is not so. */
+#include "check.h"
 #include "stripring.h"
 
 #include <stdio.h>
-#include <stdlib.h>
 #include <string.h>
 
 enum { READ, WRITE, RING_LEN = 10, ASKED = 9 };
@@ -13,17 +13,6 @@ static const stripring_scheduler PARTIAL = {RING_LEN, 7, 3};
 static const stripring_scheduler EMPTY = {RING_LEN, 3, 3};
 static const stripring_scheduler UNSOUND = {RING_LEN, 11, 0};
 static const stripring_scheduler OF_ONE = {1, 0, 0};
-
-static unsigned held;
-
-static void check(bool holds, const char *what, int line) {
-  if (!holds) {
-    fprintf(stderr, "remainder.c:%d: not so: %s\n", line, what);
-    exit(1);
-  }
-  held++;
-}
-#define CHECK(what) check(what, #what, __LINE__)
 
 static bool is(stripring_operation o, uint64_t typ, uint64_t off, uint64_t len) {
   return o.typ == typ && o.off == off && o.len == len;

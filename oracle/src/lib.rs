@@ -1,6 +1,9 @@
-//! The unchanged Rust of rosenpass, as a library, and its answers as plain numbers.
+//! The unchanged Rust of rosenpass, as a library, and its answers as plain numbers; and what stands in where the
+//! Rust has nothing.
 
+pub mod lines;
 pub mod modular_answers;
+pub mod planner_model;
 pub mod receiver_answers;
 pub mod receiver_standins;
 pub mod ringplan;
@@ -8,6 +11,7 @@ pub mod sched_answers;
 pub mod sched_flat;
 pub mod scripted_socket;
 pub mod standins;
+pub mod stripplan;
 
 /// The rosenpass files, each a module, compiled where they lie (see build.rs).
 pub mod rosenpass {

@@ -1,19 +1,25 @@
 //! The judge: runs the unchanged Rust beside what it is compared with (see README.md).
 
+mod line_answers;
+mod line_kinds;
+mod line_rows;
 mod memory;
 mod modular_u8;
 mod numbers;
 mod pieces;
+mod planner_inputs;
+mod planner_paper;
 mod receiver_inputs;
 mod receiver_paper;
 mod record_modular;
 mod record_receiver;
 mod record_sched;
-mod ringplan_compare;
 mod ringplan_lines;
 mod ringplan_paper;
 mod sched_inputs;
 mod sched_paper;
+mod stripplan_lines;
+mod stripplan_paper;
 mod tally;
 
 #[cfg(feature = "judge")]
@@ -25,13 +31,17 @@ mod machine;
 #[cfg(feature = "judge")]
 mod modular;
 #[cfg(feature = "judge")]
+mod planner;
+#[cfg(feature = "judge")]
+mod planner_damage;
+#[cfg(feature = "judge")]
 mod receiver;
 #[cfg(feature = "judge")]
 mod sched;
 #[cfg(feature = "judge")]
 mod stripring;
 
-use std::io::{self, BufWriter};
+use std::io::{self, BufWriter, StdinLock, StdoutLock};
 use std::process::ExitCode;
 
 fn main() -> ExitCode {
@@ -49,29 +59,37 @@ fn main() -> ExitCode {
         ["receiver"] => receiver::run(),
         #[cfg(feature = "judge")]
         ["machine"] => machine::run(),
+        #[cfg(feature = "judge")]
+        ["planner"] => planner::run(),
         ["sched-paper"] => sched_paper::run(),
         ["receiver-paper"] => receiver_paper::run(),
+        ["planner-paper"] => planner_paper::run(),
         ["record-modular"] => record_modular::run(),
         ["record-sched"] => record_sched::run(),
         ["record-receiver"] => record_receiver::run(),
-        ["ringplan"] => ringplan(),
+        ["ringplan"] => answer_lines(|i, o| oracle::ringplan::run(i, o)),
         ["ringplan-paper"] => ringplan_paper::run(),
         ["ringplan-lines"] => ringplan_lines::run(),
         ["ringplan-user-lines"] => ringplan_lines::run_user(),
-        ["ringplan-compare", lines, rust, program, what] => {
-            ringplan_compare::run(lines, rust, program, what)
+        ["stripplan"] => answer_lines(|i, o| oracle::stripplan::run(i, o)),
+        ["stripplan-paper"] => stripplan_paper::run(),
+        ["stripplan-lines"] => stripplan_lines::run(),
+        ["compare-answers", name, lines, rust, program, what] => {
+            line_answers::run(name, lines, rust, program, what)
         }
         ["pieces", length] => pieces::run(length),
         _ => {
             eprintln!(
-                "usage: oracle modular-u8|modular|sched|copies|receiver|machine|sched-paper|receiver-paper\
+                "usage: oracle modular-u8|modular|sched|copies|receiver|machine|planner\
+                |sched-paper|receiver-paper|planner-paper\
                 |record-modular|record-sched|record-receiver\
-                |ringplan|ringplan-paper|ringplan-lines|ringplan-user-lines"
+                |ringplan|ringplan-paper|ringplan-lines|ringplan-user-lines\
+                |stripplan|stripplan-paper|stripplan-lines"
             );
-            eprintln!("usage: oracle ringplan-compare LINES RUST PROGRAM WHAT");
+            eprintln!("usage: oracle compare-answers NAME LINES RUST PROGRAM WHAT");
             eprintln!("usage: oracle pieces LENGTH");
             eprintln!(
-                "modular, sched, copies, receiver and machine need a build with the feature judge"
+                "modular, sched, copies, receiver, machine and planner need a build with the feature judge"
             );
             return ExitCode::from(2);
         }
@@ -83,7 +101,7 @@ fn main() -> ExitCode {
     }
 }
 
-fn ringplan() -> bool {
+fn answer_lines(program: fn(StdinLock, BufWriter<StdoutLock>) -> io::Result<()>) -> bool {
     let output = BufWriter::new(io::stdout().lock());
-    oracle::ringplan::run(io::stdin().lock(), output).is_ok()
+    program(io::stdin().lock(), output).is_ok()
 }

@@ -1,28 +1,16 @@
 //! The rows of docs/PAPER.md ("The case", "Readings") that tell two readings of `ringplan` apart, on
 //! the Rust program of the same rules.
 
-use crate::tally::Tally;
+use crate::line_rows::{Rows, compare};
 use oracle::ringplan;
 
 pub fn run() -> bool {
-    let mut tally = Tally::new(["the Rust", "expected"]);
-    for (input, want) in ROWS {
-        let want = format!("ring plan\n{want}");
-        tally.compare([answers(input), want], || {
-            input.as_bytes().escape_ascii().to_string()
-        });
-    }
-    tally.report("ringplan-paper: the Rust against the rows of docs/PAPER.md")
+    compare("ringplan", ringplan::HEADER, ROWS, |i, o| {
+        ringplan::run(i, o)
+    })
 }
 
-fn answers(input: &str) -> String {
-    let mut answers = Vec::new();
-    ringplan::run(input.as_bytes(), &mut answers).expect("memory");
-    String::from_utf8(answers).expect("text")
-}
-
-/// A whole input, and its answers after the header.
-pub const ROWS: &[(&str, &str)] = &[
+pub const ROWS: Rows = &[
     // The case of the paper.
     (
         "10 7 3 W 9\n0 0 0 R 1\n10 7 3 R\n",

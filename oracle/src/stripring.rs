@@ -1,5 +1,6 @@
 //! The static library's calls. Each is total, so each is safe to call.
 
+use oracle::planner_model::Image;
 use oracle::receiver_answers::{Kind, Lent};
 use oracle::sched_answers::{Input, Row};
 
@@ -359,4 +360,37 @@ pub fn answered(call: CallNumbers, ring: &[u8], answer: [u64; 3], place: u64) ->
 run_calls! {
     reading: receiver_read_with_fds receiver_read_with_fds_impl;
     others: receiver_service_chunk_acknowledgements receiver_shutdown;
+}
+
+unsafe extern "C" {
+    safe fn stripring_planner_outline(rows: u64, row_bytes: u64, buf_len: u64) -> Answer<7>;
+    fn stripring_planner_propose(
+        rows: u64,
+        row_bytes: u64,
+        buf_len: u64,
+        plan: *mut u64,
+        plan_len: usize,
+    ) -> Answer<5>;
+    fn stripring_planner_check(
+        rows: u64,
+        row_bytes: u64,
+        buf_len: u64,
+        plan: *const u64,
+        plan_len: usize,
+    ) -> Answer<4>;
+}
+
+pub fn outline(image: Image) -> Row {
+    stripring_planner_outline(image.rows, image.row_bytes, image.buf_len).row()
+}
+
+pub fn propose(image: Image, plan: &mut [u64]) -> Row {
+    let (p, n) = (plan.as_mut_ptr(), plan.len());
+    // SAFETY: a slice with its length. So below.
+    unsafe { stripring_planner_propose(image.rows, image.row_bytes, image.buf_len, p, n) }.row()
+}
+
+pub fn check(image: Image, plan: &[u64]) -> Row {
+    let (p, n) = (plan.as_ptr(), plan.len());
+    unsafe { stripring_planner_check(image.rows, image.row_bytes, image.buf_len, p, n) }.row()
 }

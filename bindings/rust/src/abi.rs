@@ -125,6 +125,14 @@ pub struct Receiver {
     pub notification_socket_shutdown_issued: u64,
 }
 
+/// Rows that follow one another: the first one, from 0, and how many.
+#[repr(C)]
+#[derive(Clone, Copy, Debug, Default, PartialEq, Eq)]
+pub struct Run {
+    pub first: u64,
+    pub count: u64,
+}
+
 #[repr(C)]
 #[derive(Clone, Copy, Debug, Default, PartialEq, Eq)]
 pub struct Answer {
@@ -348,6 +356,22 @@ pub struct StepAnswer {
     pub call: Call,
 }
 
+#[repr(C)]
+#[derive(Clone, Copy, Debug, Default, PartialEq, Eq)]
+pub struct StripsAnswer {
+    pub refusal: Refusal,
+    pub count: u64,
+    pub height: u64,
+    pub last: u64,
+}
+
+#[repr(C)]
+#[derive(Clone, Copy, Debug, Default, PartialEq, Eq)]
+pub struct ProposeAnswer {
+    pub refusal: Refusal,
+    pub count: u64,
+}
+
 unsafe extern "C" {
     pub safe fn stripring_writing_end_new(buf_len: u64) -> WritingEndAnswer;
     pub safe fn stripring_writing_end_from_counters(
@@ -481,6 +505,21 @@ unsafe extern "C" {
         c: Failure,
         e: Failure,
     ) -> FailureAnswer;
+    pub safe fn stripring_planner_outline(rows: u64, row_bytes: u64, buf_len: u64) -> StripsAnswer;
+    fn stripring_planner_propose(
+        rows: u64,
+        row_bytes: u64,
+        buf_len: u64,
+        plan: *mut u64,
+        plan_len: usize,
+    ) -> ProposeAnswer;
+    fn stripring_planner_check(
+        rows: u64,
+        row_bytes: u64,
+        buf_len: u64,
+        plan: *const u64,
+        plan_len: usize,
+    ) -> Refusal;
     pub safe fn stripring_scheduler_max_buf_len() -> u64;
     pub safe fn stripring_scheduler_try_new(buf_len: u64) -> SchedulerAnswer;
     pub safe fn stripring_scheduler_try_from_counters(
@@ -682,4 +721,18 @@ pub fn receiver_service_chunk_acknowledgements(r: Receiver, answers: &[Answer]) 
 
 pub fn receiver_shutdown(r: Receiver, answers: &[Answer]) -> EndedAnswer {
     unsafe { stripring_receiver_shutdown(r, answers.as_ptr(), answers.len()) }
+}
+
+/// In a run.
+const NUMBERS: usize = size_of::<Run>() / size_of::<u64>();
+
+pub fn planner_propose(rows: u64, row_bytes: u64, buf_len: u64, plan: &mut [Run]) -> ProposeAnswer {
+    let (numbers, len) = (plan.as_mut_ptr().cast(), NUMBERS * plan.len());
+    // SAFETY: a run is its two numbers and nothing between them. So below.
+    unsafe { stripring_planner_propose(rows, row_bytes, buf_len, numbers, len) }
+}
+
+pub fn planner_check(rows: u64, row_bytes: u64, buf_len: u64, plan: &[Run]) -> Refusal {
+    let (numbers, len) = (plan.as_ptr().cast(), NUMBERS * plan.len());
+    unsafe { stripring_planner_check(rows, row_bytes, buf_len, numbers, len) }
 }

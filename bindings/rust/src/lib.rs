@@ -38,6 +38,7 @@
 #[allow(unsafe_code)]
 pub mod abi;
 mod ends;
+pub mod planner;
 mod receiver;
 mod refusal;
 mod scheduler;

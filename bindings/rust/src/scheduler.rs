@@ -3,6 +3,7 @@
 use crate::abi;
 use crate::refusal::{Refusal, accepted, sound};
 use std::array::IntoIter;
+use std::fmt;
 use std::iter::Take;
 use std::ops::Range;
 
@@ -26,6 +27,15 @@ impl OperationType {
             Self::Read => 0,
             Self::Write => 1,
         }
+    }
+}
+
+impl fmt::Display for OperationType {
+    fn fmt(&self, f: &mut fmt::Formatter) -> fmt::Result {
+        f.write_str(match self {
+            Self::Read => "read",
+            Self::Write => "write",
+        })
     }
 }
 

@@ -1,13 +1,13 @@
-//! Compares the answers of the program `ringplan` with those of the Rust.
+//! Compares a program's answers to lines with those of the Rust.
 
 use std::fs;
 
 /// How much of a line is shown.
 const SHOWN: usize = 200;
 
-/// Takes the files of the input lines, of the Rust's answers and of the program's, and what the
-/// input is. Prints the counts and the first difference; true where there is none.
-pub fn run(lines: &str, rust: &str, program: &str, what: &str) -> bool {
+/// Takes the program's name, the files of the input lines, of the Rust's answers and of the program's, and
+/// what the input is. Prints the counts and the first difference; true where there is none.
+pub fn run(name: &str, lines: &str, rust: &str, program: &str, what: &str) -> bool {
     let [lines, rust, program] = [lines, rust, program].map(read);
     let [lines, rust, program] = [&lines, &rust, &program].map(|bytes| cut(bytes));
     let count = |word: &[u8]| {
@@ -19,7 +19,7 @@ pub fn run(lines: &str, rust: &str, program: &str, what: &str) -> bool {
         .filter(|&no| rust.get(no) != program.get(no))
         .collect();
     println!(
-        "ringplan, {what}: {} lines, {} ok, {} refused, {} bad; {} differences",
+        "{name}, {what}: {} lines, {} ok, {} refused, {} bad; {} differences",
         lines.len(),
         count(b"ok"),
         count(b"refused"),
@@ -31,7 +31,7 @@ pub fn run(lines: &str, rust: &str, program: &str, what: &str) -> bool {
         let line = no.checked_sub(1).and_then(|before| lines.get(before));
         println!("first difference: line {no}: {}", shown(line));
         println!("the Rust: {}", shown(rust.get(no)));
-        println!("ringplan: {}", shown(program.get(no)));
+        println!("{name}: {}", shown(program.get(no)));
     }
     differing.is_empty()
 }

@@ -25,7 +25,7 @@ const CHANGED_NUMBERS: [fn(u64, u64) -> u64; 14] = [
 
 /// What becomes of a plan at the run whose numbers begin at this place.
 #[rustfmt::skip]
-const CHANGED_RUNS: [fn(&mut Vec<u64>, usize); 12] = [
+const CHANGED_RUNS: [fn(&mut Vec<u64>, usize); 13] = [
     // left out
     |plan, at| drop(plan.drain(at..at + 2)),
     // twice
@@ -33,6 +33,8 @@ const CHANGED_RUNS: [fn(&mut Vec<u64>, usize); 12] = [
     // an empty one before it, and behind it
     |plan, at| insert(plan, at, [plan[at], 0]),
     |plan, at| insert(plan, at + 2, [end(plan, at), 0]),
+    // an empty one that is out of place
+    |plan, at| insert(plan, at, [end(plan, at), 0]),
     // one row more behind it
     |plan, at| insert(plan, at + 2, [end(plan, at), 1]),
     // the first one

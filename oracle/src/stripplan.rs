@@ -1,4 +1,5 @@
-//! What docs/PAPER.md says of the program `stripplan` ("Strips"), over the model of the planner.
+//! What docs/PAPER.md says of the program `stripplan` ("Lines of strips", "Strips answered"), over the model of
+//! the planner.
 
 use crate::lines::{self, fields, number};
 use crate::planner_model::{Image, Strips};

@@ -1,5 +1,5 @@
-//! The lines that `stripplan` is tried on: those of docs/PAPER.md ("Strips"), and random ones of the kinds
-//! below.
+//! The lines that `stripplan` is tried on: those of docs/PAPER.md ("The case of strips") and more like them, and
+//! random ones of the kinds below.
 
 use crate::line_kinds::{Fields, Kind, Lines, damaged, decimal, kind, print, written};
 use crate::line_rows::whole_lines;

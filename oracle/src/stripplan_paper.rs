@@ -1,5 +1,5 @@
-//! The rows of docs/PAPER.md ("Strips") that tell two readings of `stripplan` apart, on the Rust program of the
-//! same rules.
+//! The case of docs/PAPER.md ("The case of strips"), and rows that tell two readings of `stripplan` apart, on the
+//! Rust program of the same rules.
 
 use crate::line_rows::{Rows, compare};
 use oracle::stripplan;
@@ -11,6 +11,7 @@ pub fn run() -> bool {
 }
 
 pub const ROWS: Rows = &[
+    // The case of the paper.
     ("10 4 20\n10 4 11\n10 4\n", "ok 4 3 1\nrefused 15\nbad\n"),
     // Where the input ends.
     ("", ""),

@@ -1,4 +1,4 @@
--- Of the calls that tell a refusal in numbers: its number is never 0, which tells of none, and its values are read back whole.
+-- Of the calls that tell a refusal in numbers: its number is the paper's, and never 0, which tells of none; its values are read back whole.
 use Prim.Native.Nat.{_<_}
 use mathlib.Core.Path.{_≡_, refl}
 use native.Mathlib.Omega.{arith}
@@ -22,8 +22,8 @@ pub values-back : (e : Refusal) → unpacked (packed (valuesOf e)) ≡ valuesOf 
 values-back (Copy e) = copies.values-back e
 values-back RanBack = refl
 
-pub number-promised : Keeps 0 Refusal-number-kinds.ps Refusal-number-kinds.r Refusal-number.Learnt (λ κs a z. 0 < z)
-number-promised κs a z q = rw (Refusal-number-says κs a z (q .0) (q .1)) (number-some (a .0))
+pub number-promised : Keeps 0 Refusal-number-kinds.ps Refusal-number-kinds.r Refusal-number.Learnt (λ κs a z. (z ≡ numberOf (a .0)) × (0 < z))
+number-promised κs a z q = rw (Refusal-number-says κs a z (q .0) (q .1)) (refl, number-some (a .0))
 
 pub values-promised : Keeps 0 values-kinds.ps values-kinds.r values.Learnt (λ κs a z. unpacked z ≡ valuesOf (a .0))
 values-promised κs a z q = rw (values-says κs a z (q .0) (q .1)) (values-back (a .0))

@@ -1,4 +1,4 @@
--- Of the calls that tell a refusal in numbers: its number is never 0, which tells of none, and its values are read back whole.
+-- Of the calls that tell a refusal in numbers: its number is the paper's, and never 0, which tells of none; its values are read back whole.
 use Prim.Native.Nat.{_<_}
 use mathlib.Core.Path.{_≡_, refl}
 use mathlib.Core.List.{[], _∷_}
@@ -6,7 +6,7 @@ use Rattle.modular.proofs.Saying.{Keeps}
 use Rattle.operations.specs.declared.refusal.Refusal.{Refusal}
 use Rattle.operations.specs.declared.refusal.Refusal.the-variants.{ZeroBufferLength, BufferTooLarge, ItemsWrittenOutOfBounds, ItemsReadOutofBounds, DataAvailOutOfBounds, OperationTooLarge, OperationTooLong, InconsistentOperationType}
 use Rattle.operations.specs.Given.{TypeNumber}
-use Rattle.operations.specs.Refusal.{valuesOf, packed, unpacked}
+use Rattle.operations.specs.Refusal.{numberOf, valuesOf, packed, unpacked}
 use Rattle.operations.proofs.Given.{number-some, type-number}
 use Rattle.operations.proofs.Says.{OperationType-number-says, Refusal-number-says, values-says, none-says, one-says, two-says, three-says}
 use Rattle.operations.proofs.operation.OperationType.number.Kinds as OperationType-number-kinds
@@ -35,8 +35,8 @@ values-back (OperationTooLarge t n greatest) = refl
 values-back (OperationTooLong excess) = refl
 values-back InconsistentOperationType = refl
 
-pub number-promised : Keeps 0 Refusal-number-kinds.ps Refusal-number-kinds.r Refusal-number.Learnt (λ κs a z. 0 < z)
-number-promised κs a z q = rw (Refusal-number-says κs a z (q .0) (q .1)) (number-some (a .0))
+pub number-promised : Keeps 0 Refusal-number-kinds.ps Refusal-number-kinds.r Refusal-number.Learnt (λ κs a z. (z ≡ numberOf (a .0)) × (0 < z))
+number-promised κs a z q = rw (Refusal-number-says κs a z (q .0) (q .1)) (refl, number-some (a .0))
 
 pub values-promised : Keeps 0 values-kinds.ps values-kinds.r values.Learnt (λ κs a z. unpacked z ≡ valuesOf (a .0))
 values-promised κs a z q = rw (values-says κs a z (q .0) (q .1)) (values-back (a .0))

@@ -49,12 +49,23 @@ pub record Strips : Type 0 where
   pub length-first : Outlines 0 4 0 (outlined.Refused (Scheduler ZeroBufferLength))
   pub too-large : Outlines 0 0 (2 ^ 63 + 1) (outlined.Refused (Scheduler (BufferTooLarge (2 ^ 63 + 1))))
   pub no-rows : Outlines 0 4 5 (outlined.Refused (SizeOutOfBounds 0 4))
+  pub most-rows : Outlines 65535 1 9 (outlined.Of (record { count = 65535; height = 1; last = 1 }))
+  pub rows-too-many : Outlines 65536 4 20 (outlined.Refused (SizeOutOfBounds 65536 4))
+  pub most-bytes : Outlines 3 (2 ^ 20) (2 ^ 20 + 8) (outlined.Of (record { count = 3; height = 1; last = 1 }))
+  pub bytes-too-many : Outlines 3 (2 ^ 20 + 1) (2 ^ 63) (outlined.Refused (SizeOutOfBounds 3 (2 ^ 20 + 1)))
+  pub no-bytes : Outlines 3 0 20 (outlined.Refused (SizeOutOfBounds 3 0))
+  pub too-many-proposed : Proposes 65536 4 20 [] (proposed.Refused (SizeOutOfBounds 65536 4)) []
+  pub too-many-checked : Checks 65536 4 20 [] (verdict.Refused (SizeOutOfBounds 65536 4))
   pub own : Checks 10 4 20 (0 ∷ 3 ∷ 3 ∷ 3 ∷ 6 ∷ 3 ∷ 9 ∷ 1 ∷ []) verdict.Accepted
   pub empty-run : Checks 10 4 20 (0 ∷ 3 ∷ 4 ∷ 0 ∷ []) (verdict.Refused (EmptyRun 1))
   pub gap : Checks 10 4 20 (0 ∷ 3 ∷ 4 ∷ 3 ∷ []) (verdict.Refused (RunOutOfPlace 1))
   pub overlap : Checks 10 4 20 (0 ∷ 3 ∷ 2 ∷ 3 ∷ []) (verdict.Refused (RunOutOfPlace 1))
   pub far-past : Checks 10 4 20 (0 ∷ 3 ∷ 3 ∷ (2 ^ 64 - 1) ∷ []) (verdict.Refused (RunOutOfPlace 1))
+  pub count-of-33-bits : Checks 10 4 20 (0 ∷ 3 ∷ 3 ∷ (2 ^ 32 + 3) ∷ []) (verdict.Refused (RunOutOfPlace 1))
+  pub first-of-33-bits : Checks 10 4 20 (0 ∷ 3 ∷ (2 ^ 32 + 3) ∷ 3 ∷ []) (verdict.Refused (RunOutOfPlace 1))
   pub one-past : Checks 3 4 20 (0 ∷ 3 ∷ 3 ∷ 1 ∷ []) (verdict.Refused (RunOutOfPlace 1))
   pub long-run : Checks 10 4 20 (0 ∷ 4 ∷ []) (verdict.Refused (RunTooLong 0))
+  pub second-long : Checks 10 4 20 (0 ∷ 3 ∷ 3 ∷ 4 ∷ []) (verdict.Refused (RunTooLong 1))
+  pub one-behind : Checks 3 4 20 (0 ∷ 3 ∷ 3 ∷ []) verdict.Accepted
   pub rows-left : Checks 10 4 20 (0 ∷ 3 ∷ 3 ∷ 3 ∷ 6 ∷ 3 ∷ []) (verdict.Refused (RowsLeft 9))
   pub no-runs : Checks 10 4 20 [] (verdict.Refused (RowsLeft 0))

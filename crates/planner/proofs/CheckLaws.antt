@@ -17,8 +17,7 @@ use Rattle.planner.specs.declared.refusal.Refusal.{Refusal}
 use Rattle.planner.specs.declared.refusal.Refusal.the-variants.{EmptyRun, RunOutOfPlace, RunTooLong, RowsLeft}
 use Rattle.planner.specs.Check.{runOf, orElse, checkFrom}
 use Rattle.planner.specs.Given.{Good, Fault, fault-16, fault-17, fault-18}
-use Rattle.planner.specs.Plan.{runsIn, firstAt, countAt}
-use Rattle.planner.specs.Promise.{behind, IsPlan}
+use Rattle.planner.specs.Promise.{runsIn, firstAt, countAt, behind, IsPlan}
 use Rattle.planner.specs.Refusal.{numberOf, valuesOf}
 
 module _ (rows bytes L : ℕ) (plan : List ℕ) where

@@ -14,10 +14,9 @@ use Rattle.planner.specs.declared.verdict.Verdict.{Verdict}
 use Rattle.planner.specs.declared.verdict.Verdict.the-variants as verdict
 use Rattle.planner.specs.Check.{checkIn, checkedFrom, checkOf}
 use Rattle.planner.specs.Given.{Told, told, Exactly, GivenSizes, Good, Fault, fault-16, fault-17, fault-18, GivenCheck, by-sizes, bad-run, given-19, accepted, ofVerdict}
-use Rattle.planner.specs.Plan.{runsIn, firstAt, countAt}
-use Rattle.planner.specs.Promise.{behind, IsPlan}
+use Rattle.planner.specs.Promise.{Fitting, runsIn, firstAt, countAt, behind, IsPlan}
 use Rattle.planner.specs.Refusal.{numberOf, valuesOf}
-use Rattle.planner.specs.Sizes.{sizesOf, Fitting}
+use Rattle.planner.specs.Sizes.{sizesOf}
 use Rattle.planner.proofs.CheckLaws.{AllGood, Walked, ends, stops, faults, walked}
 use Rattle.planner.proofs.GivenSizes.{ofSizes, sizes-only, sizes-always, fit-only, refused-not}
 use Rattle.planner.proofs.PromisedValues.{number-some}

@@ -12,9 +12,9 @@ use Rattle.planner.specs.declared.refusal.Refusal.the-variants.{PlanTooS
 use Rattle.planner.specs.declared.sizes.Sizes.{Sizes}
 use Rattle.planner.specs.declared.sizes.Sizes.the-variants as sizes
 use Rattle.planner.specs.Given.{Told, told, Exactly, GivenSizes, fit, GivenPlan, before-39, given-39, room, ofOutlined, ofProposed}
-use Rattle.planner.specs.Plan.{runsIn, Proposal, proposal, proposeIn, proposeFrom, proposeOf}
-use Rattle.planner.specs.Promise.{IsPlan, Fewest}
-use Rattle.planner.specs.Sizes.{sizesOf, Fitting}
+use Rattle.planner.specs.Plan.{Proposal, proposal, proposeIn, proposeFrom, proposeOf}
+use Rattle.planner.specs.Promise.{Fitting, runsIn, IsPlan, Fewest}
+use Rattle.planner.specs.Sizes.{sizesOf}
 use Rattle.planner.specs.Strips.{outlineIn, outlineFrom, outlineOf}
 use Rattle.planner.proofs.GivenSizes.{ofSizes, sizes-only, sizes-always, fit-only, refused-not}
 use Rattle.planner.proofs.PlanLaws.{height, strips, own, own-runs, own-plan, own-fewest}

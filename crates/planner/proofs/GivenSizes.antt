@@ -16,8 +16,8 @@ use Rattle.planner.specs.declared.refusal.Refusal.{Refusal}
 use Rattle.planner.specs.declared.sizes.Sizes.{Sizes}
 use Rattle.planner.specs.declared.sizes.Sizes.the-variants as sizes
 use Rattle.planner.specs.Given.{Told, told, GivenSizes, fit, given-1, given-2, given-14, given-15}
+use Rattle.planner.specs.Promise.{Fitting}
 use Rattle.planner.specs.Refusal.{numberOf, valuesOf}
-use Rattle.planner.specs.Sizes.{Fitting}
 use Rattle.planner.proofs.PromisedValues.{number-some}
 use Rattle.planner.proofs.SizeLaws.{new, Tested}
 use Rattle.planner.proofs.SizeLaws as size

@@ -15,7 +15,8 @@ use Rattle.planner.specs.declared.verdict.Verdict.the-variants as verdic
 use Rattle.planner.specs.declared.refusal.Refusal.{Refusal}
 use Rattle.planner.specs.declared.refusal.Refusal.the-variants.{EmptyRun, RunOutOfPlace, RunTooLong, RowsLeft}
 use Rattle.planner.specs.Check.{runOf, orElse, checkFrom}
-use Rattle.planner.specs.Plan.{firstAt, countAt, runsFrom}
+use Rattle.planner.specs.Plan.{runsFrom}
+use Rattle.planner.specs.Promise.{firstAt, countAt}
 
 less : (k n : ℕ) → k < n → n - k ≡ suc (n - (k + 1))
 less k n l = omega arith

@@ -8,9 +8,8 @@ use native.Mathlib.Nat.{add-zero, zero-add, suc-mul, zero-mul, div-add-mod', mod
 use native.Mathlib.Omega.{arith}
 use Rattle.modular.proofs.Laws.{lt-or-le}
 use Rattle.planner.specs.Strips.{heightOf, stripsOf}
-use Rattle.planner.specs.Plan.{runsIn, firstAt, countAt, runsFrom}
-use Rattle.planner.specs.Promise.{behind, IsPlan, Tall, Fewest}
-use Rattle.planner.specs.Sizes.{Fitting}
+use Rattle.planner.specs.Plan.{runsFrom}
+use Rattle.planner.specs.Promise.{Fitting, runsIn, firstAt, countAt, behind, IsPlan, Tall, Fewest}
 use Rattle.planner.proofs.StripLaws.{begins, reaches, tallest, tallest-fits, fits-tallest, height-some}
 
 -- ---- its numbers

@@ -19,10 +19,9 @@ use Rattle.planner.specs.declared.refusal.Refusal.the-variants.{PlanTooS
 use Rattle.planner.specs.declared.sizes.Sizes.{Sizes}
 use Rattle.planner.specs.declared.sizes.Sizes.the-variants as sizes
 use Rattle.planner.specs.declared.strips.Outlined.the-variants as outlined
-use Rattle.planner.specs.Plan.{runsIn, Proposal, proposal, proposeIn, proposeFrom}
-use Rattle.planner.specs.Promise.{Proposes, Outlines, tells}
+use Rattle.planner.specs.Plan.{Proposal, proposal, proposeIn, proposeFrom}
+use Rattle.planner.specs.Promise.{Fitting, runsIn, Proposes, Outlines, tells}
 use Rattle.planner.specs.Promise as promise
-use Rattle.planner.specs.Sizes.{Fitting}
 use Rattle.planner.specs.Strips.{outlineIn, outlineFrom}
 use Rattle.planner.proofs.PlanLaws.{height, strips, own, runs-length, own-runs, own-plan, own-tall, own-fewest, own-height, own-wholes, own-last}
 use Rattle.planner.proofs.Says.{outline-says, propose-says}

@@ -18,11 +18,9 @@ use Rattle.planner.specs.declared.plan.Proposed.the-variants as proposed
 use Rattle.planner.specs.declared.verdict.Verdict.{Verdict}
 use Rattle.planner.specs.declared.verdict.Verdict.the-variants as verdict
 use Rattle.planner.specs.Given.{Told, told, Exactly, GivenSizes, fit, given-1, given-2, given-14, given-15, GivenPlan, before-39, given-39, room, Fault, fault-16, fault-17, fault-18, GivenCheck, by-sizes, bad-run, given-19, accepted, ofOutlined, ofProposed, ofVerdict}
-use Rattle.planner.specs.Plan.{runsIn, countAt}
-use Rattle.planner.specs.Promise.{behind, IsPlan, Fewest, NoPlanExists, Proposes, runs}
+use Rattle.planner.specs.Promise.{Bounded, Fitting, runsIn, countAt, behind, IsPlan, Fewest, NoPlanExists, Proposes, runs}
 use Rattle.planner.specs.Promise as promise
 use Rattle.planner.specs.Refusal.{numberOf}
-use Rattle.planner.specs.Sizes.{Bounded, Fitting}
 use Rattle.planner.proofs.PromisedValues.{number-some}
 use Rattle.planner.proofs.PlanLaws.{own, own-plan}
 use Rattle.planner.proofs.Promised.{propose-promised}

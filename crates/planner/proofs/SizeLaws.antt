@@ -16,7 +16,8 @@ use Rattle.sched.proofs.Laws.{sound-both}
 use Rattle.planner.specs.declared.refusal.Refusal.the-variants.{Scheduler, SizeOutOfBounds, NoPlan}
 use Rattle.planner.specs.declared.sizes.Sizes.{Sizes}
 use Rattle.planner.specs.declared.sizes.Sizes.the-variants as sizes
-use Rattle.planner.specs.Sizes.{inBounds, sizesIn, sizesFrom, sizesOf, Bounded, Fitting}
+use Rattle.planner.specs.Promise.{Bounded, Fitting}
+use Rattle.planner.specs.Sizes.{inBounds, sizesIn, sizesFrom, sizesOf}
 
 -- ---- the bounds
 data Bounds (rows bytes : ℕ) : Bool → Type 0 where

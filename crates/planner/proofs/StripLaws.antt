@@ -8,7 +8,8 @@ use Rattle.modular.proofs.Laws.{lt-or-le}
 use Rattle.planner.specs.declared.sizes.Sizes.{Sizes}
 use Rattle.planner.specs.declared.strips.Outlined.the-variants as outlined
 use Rattle.planner.specs.declared.strips.Strips.{Strips}
-use Rattle.planner.specs.Sizes.{sizesOf, Fitting}
+use Rattle.planner.specs.Promise.{Fitting}
+use Rattle.planner.specs.Sizes.{sizesOf}
 use Rattle.planner.specs.Strips.{heightOf, stripsOf, outlineIn, outlineFrom, outlineOf, AreStrips}
 use Rattle.planner.proofs.SizeLaws.{Tested, fit, no-ring, unbounded, no-plan, tested}
 

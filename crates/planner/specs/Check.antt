@@ -9,7 +9,7 @@ use Rattle.planner.specs.declared.verdict.Verdict.the-variants as verdic
 use Rattle.planner.specs.declared.refusal.Refusal.the-variants.{EmptyRun, RunOutOfPlace, RunTooLong, RowsLeft}
 use Rattle.planner.specs.declared.sizes.Sizes.{Sizes}
 use Rattle.planner.specs.declared.sizes.Sizes.the-variants as sizes
-use Rattle.planner.specs.Plan.{runsIn, firstAt, countAt}
+use Rattle.planner.specs.Promise.{runsIn, firstAt, countAt}
 use Rattle.planner.specs.Sizes.{sizesOf}
 
 -- run k, which is to go on from row `at`

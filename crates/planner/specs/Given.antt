@@ -10,10 +10,8 @@ use Rattle.planner.specs.declared.strips.Outlined.{Outlined}
 use Rattle.planner.specs.declared.strips.Outlined.the-variants as outlined
 use Rattle.planner.specs.declared.plan.Proposed.{Proposed}
 use Rattle.planner.specs.declared.plan.Proposed.the-variants as proposed
-use Rattle.planner.specs.Plan.{runsIn, firstAt, countAt}
-use Rattle.planner.specs.Promise.{behind, IsPlan, Fewest}
+use Rattle.planner.specs.Promise.{Bounded, Fitting, runsIn, firstAt, countAt, behind, IsPlan, Fewest}
 use Rattle.planner.specs.Refusal.{numberOf, valuesOf}
-use Rattle.planner.specs.Sizes.{Bounded, Fitting}
 
 -- ---- what a caller is told: a number and its values
 pub record Told : Type 0 where

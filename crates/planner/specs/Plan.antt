@@ -1,9 +1,9 @@
--- A plan as a slice of numbers, two to a run: its first row, and how many rows it has. And the plan that is proposed.
-use Prim.Native.Nat.{ℕ, zero, suc, _+_, _-_, _*_, _/_, _≤_, _<_, min}
+-- The plan that is proposed.
+use Prim.Native.Nat.{ℕ, zero, suc, _-_, _*_, _≤_, _<_, min}
 use mathlib.Core.Bool.{cond}
 use mathlib.Core.List.{List, [], _∷_}
 use lib.Dec.{ltb}
-use lib.ListN.{length, getD}
+use lib.ListN.{length}
 use lib.Seq.{sets}
 use Rattle.planner.specs.declared.strips.Strips.{Strips}
 use Rattle.planner.specs.declared.strips.Outlined.{Outlined}
@@ -11,19 +11,9 @@ use Rattle.planner.specs.declared.strips.Outlined.the-variants as outlin
 use Rattle.planner.specs.declared.plan.Proposed.{Proposed}
 use Rattle.planner.specs.declared.plan.Proposed.the-variants as proposed
 use Rattle.planner.specs.declared.refusal.Refusal.the-variants.{PlanTooShort}
+use Rattle.planner.specs.Promise.{runsIn}
 use Rattle.planner.specs.Strips.{outlineOf}
 
--- ---- a plan
-abbrev pub runsIn : List ℕ → ℕ
-runsIn plan = length plan / 2
-
-abbrev pub firstAt : List ℕ → ℕ → ℕ
-firstAt plan k = getD plan (2 * k) 0
-
-abbrev pub countAt : List ℕ → ℕ → ℕ
-countAt plan k = getD plan (2 * k + 1) 0
-
--- ---- the plan that is proposed
 -- the runs from run k on, m of them: each has `height` rows, or all that are left
 unfoldable pub runsFrom : ℕ → ℕ → ℕ → ℕ → List ℕ
 runsFrom height rows k zero = []

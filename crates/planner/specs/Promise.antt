@@ -1,15 +1,38 @@
--- What a plan is, in the request's own sentence, and what is promised of the calls. No definition of the code is named here.
-use Prim.Native.Nat.{ℕ, zero, suc, _+_, _*_, _≤_, _<_}
+-- What a plan is, in one sentence, and what is promised of the calls. This file cites nothing of how they work: the code's definitions cite it,
+-- for how a plan's numbers are read and which sizes are in bounds.
+use Prim.Native.Nat.{ℕ, zero, suc, _+_, _*_, _/_, _^_, _≤_, _<_}
 use mathlib.Core.Path.{_≡_}
 use mathlib.Core.List.{List}
-use lib.ListN.{length, take, drop}
+use lib.ListN.{length, getD, take, drop}
+use Rattle.sched.specs.Scheduler.{Sized}
 use Rattle.planner.specs.declared.plan.Proposed.{Proposed}
 use Rattle.planner.specs.declared.plan.Proposed.the-variants as proposed
 use Rattle.planner.specs.declared.refusal.Refusal.{Refusal}
 use Rattle.planner.specs.declared.strips.Outlined.{Outlined}
 use Rattle.planner.specs.declared.strips.Outlined.the-variants as outlined
 use Rattle.planner.specs.declared.strips.Strips.{Strips}
-use Rattle.planner.specs.Plan.{runsIn, firstAt, countAt}
+
+-- ---- the sizes that are not refused: 1 to 65535 rows, 1 to 2^20 bytes a row, and one row goes into the ring with its header
+pub record Bounded (rows bytes : ℕ) : Type 0 where
+  pub some-rows : 1 ≤ rows
+  pub most-rows : rows ≤ 65535
+  pub some-bytes : 1 ≤ bytes
+  pub most-bytes : bytes ≤ 2 ^ 20
+
+pub record Fitting (rows bytes L : ℕ) : Type 0 where
+  pub sized : Sized L
+  pub bounded : Bounded rows bytes
+  pub row : bytes + 8 ≤ L
+
+-- ---- a plan: numbers, two to a run, its first row and how many rows it has; one that is left over at the end is no run
+abbrev pub runsIn : List ℕ → ℕ
+runsIn plan = length plan / 2
+
+abbrev pub firstAt : List ℕ → ℕ → ℕ
+firstAt plan k = getD plan (2 * k) 0
+
+abbrev pub countAt : List ℕ → ℕ → ℕ
+countAt plan k = getD plan (2 * k + 1) 0
 
 -- the row behind the first k runs: row 0, or the end of the last of them
 abbrev pub behind : List ℕ → ℕ → ℕ

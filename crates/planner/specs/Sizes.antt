@@ -1,9 +1,9 @@
 -- The sizes of an image and the length L of a ring: which are refused before any plan is looked at.
-use Prim.Native.Nat.{ℕ, _+_, _^_, _≤_}
+use Prim.Native.Nat.{ℕ, _^_}
 use mathlib.Core.Bool.{Bool, false, cond}
 use lib.Dec.{eqb, ltb, leb}
 use Rattle.sched.specs.Chunk.{bodyFits}
-use Rattle.sched.specs.Scheduler.{schedulerOf, Sized, soundOf}
+use Rattle.sched.specs.Scheduler.{schedulerOf, soundOf}
 use Rattle.sched.specs.declared.scheduler.Checked.{Checked}
 use Rattle.sched.specs.declared.scheduler.Checked.the-variants as checked
 use Rattle.planner.specs.declared.refusal.Refusal.the-variants.{Scheduler, SizeOutOfBounds, NoPlan}
@@ -26,15 +26,3 @@ sizesFrom rows bytes L (checked.Refused e) = sizes.Refused (Scheduler e)
 -- 1 and 2 come first
 abbrev pub sizesOf : ℕ → ℕ → ℕ → Sizes
 sizesOf rows bytes L = sizesFrom rows bytes L (soundOf (schedulerOf L (record { 0 = 0 }) (record { 0 = 0 })))
-
--- ---- the sizes that are not refused
-pub record Bounded (rows bytes : ℕ) : Type 0 where
-  pub some-rows : 1 ≤ rows
-  pub most-rows : rows ≤ 65535
-  pub some-bytes : 1 ≤ bytes
-  pub most-bytes : bytes ≤ 2 ^ 20
-
-pub record Fitting (rows bytes L : ℕ) : Type 0 where
-  pub sized : Sized L
-  pub bounded : Bounded rows bytes
-  pub row : bytes + 8 ≤ L

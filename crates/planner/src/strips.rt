@@ -1,8 +1,8 @@
 // A plan in three numbers: how many strips, the rows in each, and the rows in the last.
 ghost use mathlib.Core.Path.{_≡_};
 ghost use Prim.Native.Nat.{_≤_, min};
+ghost use Rattle.planner.specs.Promise.{Fitting};
 ghost use Rattle.planner.specs.Strips.{heightOf, outlineIn, outlineOf};
-ghost use Rattle.planner.specs.Sizes.{Fitting};
 use crate::refusal::Refusal;
 use crate::sizes::Sizes;
 use crate::sizes::demand_sizes;

@@ -2,7 +2,7 @@
 ghost use mathlib.Core.Path.{_≡_};
 ghost use Prim.Native.Nat.{_≤_};
 ghost use Rattle.planner.specs.Check.{runOf, checkIn, checkOf};
-ghost use Rattle.planner.specs.Sizes.{Fitting};
+ghost use Rattle.planner.specs.Promise.{Fitting};
 use crate::refusal::Refusal;
 use crate::sizes::Sizes;
 use crate::sizes::demand_sizes;

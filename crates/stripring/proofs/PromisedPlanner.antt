@@ -13,9 +13,8 @@ use Rattle.planner.proofs.PromisedValues.{number-some}
 use Rattle.planner.specs.Check.{checkOf}
 use Rattle.planner.specs.Given.{Told, ofOutlined, ofProposed, ofVerdict}
 use Rattle.planner.specs.Plan.{proposeOf}
-use Rattle.planner.specs.Promise.{IsPlan, Proposes, Outlines}
+use Rattle.planner.specs.Promise.{Bounded, IsPlan, Proposes, Outlines}
 use Rattle.planner.specs.Promise as promise
-use Rattle.planner.specs.Sizes.{Bounded}
 use Rattle.planner.specs.Strips.{outlineOf}
 use Rattle.planner.specs.declared.plan.Proposed.{Proposed}
 use Rattle.planner.specs.declared.plan.Proposed.the-variants as proposed

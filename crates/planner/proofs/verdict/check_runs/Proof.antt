@@ -5,7 +5,7 @@ use native.Mathlib.Nat.{sub-zero}
 use native.Mathlib.Omega.{arith}
 use borrow.Author.Needs.{needs}
 use Rattle.planner.specs.Check.{checkFrom, checkIn}
-use Rattle.planner.specs.Plan.{runsIn}
+use Rattle.planner.specs.Promise.{runsIn}
 use Rattle.planner.proofs.LoopLaws.{check-good, check-bad, check-left, check-end, run-within}
 use Rattle.planner.proofs.verdict.check_runs.Statement.{statement}
 use Rattle.planner.proofs.verdict.check_runs.Tie as tie

@@ -8,7 +8,7 @@ use Rattle.sched.specs.Scheduler.{soundOf}
 use Rattle.planner.specs.declared.plan.Proposed.{Proposed}
 use Rattle.planner.specs.declared.strips.Outlined.{Outlined}
 use Rattle.planner.specs.declared.verdict.Verdict.{Verdict}
-use Rattle.planner.specs.Check.{runOf, checkFrom, checkOf}
+use Rattle.planner.specs.Check.{pastEnd, runOf, checkFrom, checkOf}
 use Rattle.planner.specs.Plan.{Proposal, proposal, runsFrom, proposeIn, proposeOf}
 use Rattle.planner.specs.Sizes.{inBounds, sizesIn}
 use Rattle.planner.specs.Strips.{outlineOf}
@@ -28,7 +28,7 @@ checks : (rows bytes L : ℕ) (plan : List ℕ) (z : Verdict) → checkOf rows b
 checks rows bytes L plan z e κs a same y (ws, p) = check-says κs a y ws p ∙ rw (same .0, same .1, same .2, same .3) e
 
 pub strips : Strips
-unfolding subMod bodyFits soundOf runOf checkFrom runsFrom proposeIn inBounds sizesIn
+unfolding subMod bodyFits soundOf pastEnd runOf checkFrom runsFrom proposeIn inBounds sizesIn
 strips =
     record {
       four = outlines 10 4 20 _ refl;

@@ -15,10 +15,11 @@ use Rattle.planner.specs.declared.verdict.Verdict.{Verdict}
 use Rattle.planner.specs.declared.verdict.Verdict.the-variants as verdict
 use Rattle.planner.specs.declared.refusal.Refusal.{Refusal}
 use Rattle.planner.specs.declared.refusal.Refusal.the-variants.{EmptyRun, RunOutOfPlace, RunTooLong, RowsLeft}
-use Rattle.planner.specs.Check.{runOf, orElse, checkFrom}
+use Rattle.planner.specs.Check.{pastEnd, runOf, orElse, checkFrom}
 use Rattle.planner.specs.Given.{Good, Fault, fault-16, fault-17, fault-18}
 use Rattle.planner.specs.Promise.{runsIn, firstAt, countAt, behind, IsPlan}
 use Rattle.planner.specs.Refusal.{numberOf, valuesOf}
+use Rattle.planner.proofs.LoopLaws.{past, not-past}
 
 module _ (rows bytes L : ℕ) (plan : List ℕ) where
   -- ---- one run
@@ -29,27 +30,27 @@ module _ (rows bytes L : ℕ) (plan : List ℕ) where
   ran : (k at : ℕ) → at ≡ behind plan k → at ≤ rows → Ran k (runOf rows bytes L at k (firstAt plan k) (countAt plan k))
   unfolding runOf
   ran k at e l =
-      by (eqb (countAt plan k) 0) refl (eqb (firstAt plan k) at) refl (ltb (rows - at) (countAt plan k)) refl (bodyFits L (countAt plan k * bytes)) refl
+      by (eqb (countAt plan k) 0) refl (eqb (firstAt plan k) at) refl (pastEnd rows at (countAt plan k)) refl (bodyFits L (countAt plan k * bytes)) refl
     where
       by :
-          (a : Bool) → eqb (countAt plan k) 0 ≡ a → (b : Bool) → eqb (firstAt plan k) at ≡ b → (c : Bool) → ltb (rows - at) (countAt plan k) ≡ c →
+          (a : Bool) → eqb (countAt plan k) 0 ≡ a → (b : Bool) → eqb (firstAt plan k) at ≡ b → (c : Bool) → pastEnd rows at (countAt plan k) ≡ c →
           (d : Bool) → bodyFits L (countAt plan k * bytes) ≡ d →
           Ran k
           (cond a (verdict.Refused (EmptyRun k))
           (cond b (cond c (verdict.Refused (RunOutOfPlace k)) (cond d verdict.Accepted (verdict.Refused (RunTooLong k)))) (verdict.Refused (RunOutOfPlace k))))
       by true p b q c r d s = bad (EmptyRun k) (fault-16 (eqb-true (countAt plan k) 0 p)) refl
       by false p false q c r d s = bad (RunOutOfPlace k) (fault-17 (omega (arith, eqb-false (countAt plan k) 0 p)) (inl (λ z. eqb-false (firstAt plan k) at q (z ∙ sym e)))) refl
-      by false p true q true r d s = bad (RunOutOfPlace k) (fault-17 (omega (arith, eqb-false (countAt plan k) 0 p)) (inr (omega (arith, ltb-true (rows - at) (countAt plan k) r)))) refl
+      by false p true q true r d s = bad (RunOutOfPlace k) (fault-17 (omega (arith, eqb-false (countAt plan k) 0 p)) (inr (omega (arith, e, past rows at (countAt plan k) l r)))) refl
       by false p true q false r false s =
           bad (RunTooLong k)
-          (fault-18 (omega (arith, eqb-false (countAt plan k) 0 p)) (eqb-true (firstAt plan k) at q ∙ e) (omega (arith, ltb-false (rows - at) (countAt plan k) r)) (fits-not-by L (countAt plan k * bytes) s))
+          (fault-18 (omega (arith, eqb-false (countAt plan k) 0 p)) (eqb-true (firstAt plan k) at q ∙ e) (omega (arith, e, not-past rows at (countAt plan k) l r)) (fits-not-by L (countAt plan k * bytes) s))
           refl
       by false p true q false r true s =
           good
           (record {
             some = omega (arith, eqb-false (countAt plan k) 0 p);
             place = eqb-true (firstAt plan k) at q ∙ e;
-            within = omega (arith, ltb-false (rows - at) (countAt plan k) r);
+            within = omega (arith, e, not-past rows at (countAt plan k) l r);
             fits = fits-by L (countAt plan k * bytes) s;
           })
 

@@ -3,10 +3,10 @@ use Prim.Native.Nat.{ℕ, zero, suc, _+_, _-_, _*_, _≤_, _<_, min}
 use mathlib.Core.Path.{_≡_, refl, sym, ap, _∙_}
 use mathlib.Core.Bool.{Bool, true, false, cond}
 use mathlib.Core.List.{List, _∷_}
-use lib.Dec.{eqb, ltb}
+use lib.Dec.{eqb}
 use lib.ListN.{set}
 use lib.Seq.{sets}
-use borrow.Author.Tests.{lt-ltb, le-ltb, ltb-false}
+use borrow.Author.Tests.{lt-ltb, le-ltb, ltb-true, ltb-false}
 use native.Mathlib.Numerals.{add-one}
 use native.Mathlib.Omega.{arith}
 use Rattle.sched.specs.Chunk.{bodyFits}
@@ -14,7 +14,7 @@ use Rattle.planner.specs.declared.verdict.Verdict.{Verdict}
 use Rattle.planner.specs.declared.verdict.Verdict.the-variants as verdict
 use Rattle.planner.specs.declared.refusal.Refusal.{Refusal}
 use Rattle.planner.specs.declared.refusal.Refusal.the-variants.{EmptyRun, RunOutOfPlace, RunTooLong, RowsLeft}
-use Rattle.planner.specs.Check.{runOf, orElse, checkFrom}
+use Rattle.planner.specs.Check.{pastEnd, runOf, checkFrom}
 use Rattle.planner.specs.Plan.{runsFrom}
 use Rattle.planner.specs.Promise.{firstAt, countAt}
 
@@ -68,16 +68,26 @@ module _ (rows bytes L : ℕ) (plan : List ℕ) (at k n : ℕ) where
   unfolding checkFrom
   check-end l h = let none : n - k ≡ zero = omega arith in rw (none, le-ltb at rows h)
 
+-- ---- a run's end, as the check looks at it
+module _ (rows row count : ℕ) (l : row ≤ rows) where
+  pub past : pastEnd rows row count ≡ true → rows < row + count
+  unfolding pastEnd
+  past e = omega (arith, ltb-true)
+
+  pub not-past : pastEnd rows row count ≡ false → row + count ≤ rows
+  unfolding pastEnd
+  not-past e = omega (arith, ltb-false)
+
 -- a run that is accepted ends within the rows
 pub run-within : (rows bytes L at k first count : ℕ) → at ≤ rows → verdict.Accepted ≡ runOf rows bytes L at k first count → at + count ≤ rows
 unfolding runOf
-run-within rows bytes L at k first count l e = by (eqb count 0) (eqb first at) (ltb (rows - at) count) refl (bodyFits L (count * bytes)) e
+run-within rows bytes L at k first count l e = by (eqb count 0) (eqb first at) (pastEnd rows at count) refl (bodyFits L (count * bytes)) e
   where
     by :
-        (a b c : Bool) → ltb (rows - at) count ≡ c → (d : Bool) →
+        (a b c : Bool) → pastEnd rows at count ≡ c → (d : Bool) →
         verdict.Accepted ≡ cond a (verdict.Refused (EmptyRun k)) (cond b (cond c (verdict.Refused (RunOutOfPlace k)) (cond d verdict.Accepted (verdict.Refused (RunTooLong k)))) (verdict.Refused (RunOutOfPlace k))) →
         at + count ≤ rows
-    by a b false p d q = omega (arith, ltb-false (rows - at) count p)
+    by a b false p d q = not-past rows at count l p
     by true b true p d q = let z : _≡_ {A = ℕ} 0 1 = cc in absurd (omega arith)
     by false true true p d q = let z : _≡_ {A = ℕ} 0 1 = cc in absurd (omega arith)
     by false false true p d q = let z : _≡_ {A = ℕ} 0 1 = cc in absurd (omega arith)

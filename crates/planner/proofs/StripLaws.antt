@@ -13,14 +13,20 @@ use Rattle.planner.specs.Sizes.{sizesOf}
 use Rattle.planner.specs.Strips.{heightOf, stripsOf, outlineIn, outlineFrom, outlineOf, AreStrips}
 use Rattle.planner.proofs.SizeLaws.{Tested, fit, no-ring, unbounded, no-plan, tested}
 
+below : (k n : ℕ) → k < n + 1 → k ≤ n
+below k n l = omega arith
+
+above : (k n : ℕ) → k ≤ n → k < n + 1
+above k n l = omega arith
+
 -- ---- of any height
 module _ (rows height : ℕ) (tall : 1 ≤ height) (some : 1 ≤ rows) where
   -- strip k begins before the last row ends, and no other number of strips does
   pub begins : (k : ℕ) → k < stripsOf rows height → k * height < rows
-  begins k l = let h : k * height ≤ rows - 1 = le-div-iff-mul-le tall .0 (omega arith) in omega arith
+  begins k l = omega (arith, le-div-iff-mul-le tall .0 (below _ _ l))
 
   pub begun : (k : ℕ) → k * height < rows → k < stripsOf rows height
-  begun k l = let h : k ≤ (rows - 1) / height = le-div-iff-mul-le tall .1 (omega arith) in omega arith
+  begun k l = above _ _ (le-div-iff-mul-le tall .1 (omega arith))
 
   pub reaches : rows ≤ stripsOf rows height * height
   reaches = ⊎-elim (λ l. absurd (omega (arith, begun (stripsOf rows height) l))) (λ l. l) (lt-or-le (stripsOf rows height * height) rows)

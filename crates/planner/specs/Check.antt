@@ -1,6 +1,6 @@
 -- The check of a plan from anywhere: run by run, 16, 17, 18, and 19 behind the last.
 use Prim.Native.Nat.{ℕ, zero, suc, _+_, _-_, _*_}
-use mathlib.Core.Bool.{cond}
+use mathlib.Core.Bool.{Bool, cond}
 use mathlib.Core.List.{List}
 use lib.Dec.{eqb, ltb}
 use Rattle.sched.specs.Chunk.{bodyFits}
@@ -12,12 +12,16 @@ use Rattle.planner.specs.declared.sizes.Sizes.the-variants as sizes
 use Rattle.planner.specs.Promise.{runsIn, firstAt, countAt}
 use Rattle.planner.specs.Sizes.{sizesOf}
 
+-- a run from row `at` ends past the last row: no sum, whatever numbers a plan holds
+unfoldable pub pastEnd : ℕ → ℕ → ℕ → Bool
+pastEnd rows at count = ltb (rows - at) count
+
 -- run k, which is to go on from row `at`
 unfoldable pub runOf : ℕ → ℕ → ℕ → ℕ → ℕ → ℕ → ℕ → Verdict
 runOf rows bytes L at k first count =
     cond (eqb count 0) (verdict.Refused (EmptyRun k))
     (cond (eqb first at)
-    (cond (ltb (rows - at) count) (verdict.Refused (RunOutOfPlace k))
+    (cond (pastEnd rows at count) (verdict.Refused (RunOutOfPlace k))
     (cond (bodyFits L (count * bytes)) verdict.Accepted (verdict.Refused (RunTooLong k))))
     (verdict.Refused (RunOutOfPlace k)))
 

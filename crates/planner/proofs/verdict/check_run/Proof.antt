@@ -5,7 +5,7 @@ use native.Mathlib.Nat.{mul-le-mul}
 use native.Mathlib.Omega.{arith}
 use borrow.Author.Tests.{not-true, not-false, eq-eqb, ne-eqb, lt-ltb, le-ltb}
 use borrow.Author.Needs.{needs}
-use Rattle.planner.specs.Check.{runOf}
+use Rattle.planner.specs.Check.{pastEnd, runOf}
 use Rattle.planner.proofs.verdict.check_run.Statement.{statement}
 use Rattle.planner.proofs.verdict.check_run.Tie as tie
 
@@ -18,7 +18,7 @@ unfolding runOf
 returns-2 c = rw (ne-eqb _ _ (c .before .if1 .left), ne-eqb _ _ (c .if2 .taken))
 
 returns-3 : tie.Need-returns-3
-unfolding runOf
+unfolding pastEnd runOf
 returns-3 c = rw (ne-eqb _ _ (c .before .before .if1 .left), eq-eqb _ _ (c .before .if2 .left), lt-ltb _ _ (c .if3 .taken))
 
 mul-body-fits : tie.Need-mul-body-fits
@@ -28,13 +28,13 @@ mul-body-fits c =
     record { fits = omega arith }
 
 returns-4 : tie.Need-returns-4
-unfolding runOf
+unfolding pastEnd runOf
 returns-4 c =
     let at-if3 = c .before .before in
     rw (ne-eqb _ _ (at-if3 .before .before .if1 .left), eq-eqb _ _ (at-if3 .before .if2 .left), le-ltb _ _ (at-if3 .if3 .left), sym (c .before .body-fits .ensures) ∙ not-true _ (c .if4 .taken))
 
 returns-5 : tie.Need-returns-5
-unfolding runOf
+unfolding pastEnd runOf
 returns-5 c =
     let at-if3 = c .before .before in
     rw (ne-eqb _ _ (at-if3 .before .before .if1 .left), eq-eqb _ _ (at-if3 .before .if2 .left), le-ltb _ _ (at-if3 .if3 .left), sym (c .before .body-fits .ensures) ∙ not-false _ (c .if4 .left))

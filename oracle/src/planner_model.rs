@@ -1,5 +1,5 @@
 //! The strip planner as docs/PAPER.md tells it ("Strips"), over wide integers. The Rust has none: this model, written
-//! from the words of the request, is what the static library and the program `stripplan` are compared with.
+//! from the words and not from the code, is what the static library and the program `stripplan` are compared with.
 
 const MAX_BUF_LEN: u64 = 1 << 63;
 const MAX_ROWS: u64 = 65535;
@@ -39,7 +39,7 @@ impl Run {
 }
 
 impl Image {
-    /// "14 size out of bounds (L by 1 and 2 first), 15 .. exactly when one row and its header exceed L".
+    /// The length of the ring first, then the sizes of the image, then whether one row goes in with its header.
     fn demand_sizes(self) -> Result<(), Refused> {
         let Self {
             rows,
@@ -61,13 +61,13 @@ impl Image {
         Ok(())
     }
 
-    /// "at most L bytes with its 8-byte header"
+    /// So many rows and their header take at most the ring's length.
     pub fn fits(self, count: u64) -> bool {
         u128::from(count) * u128::from(self.row_bytes) + HEADER_BYTES <= u128::from(self.buf_len)
     }
 
-    /// "the runs are nonempty, start at row 0, follow one another, end at the last row, and each takes at most L
-    /// bytes with its 8-byte header", clause by clause.
+    /// What a plan is, clause by clause: no run is empty, the first starts at row 0, each other where the one before
+    /// ended, the last ends at the last row, and each fits.
     pub fn is_plan(self, runs: &[Run]) -> bool {
         let rows = u128::from(self.rows);
         runs.iter().all(|run| run.count > 0)
@@ -94,7 +94,7 @@ impl Image {
         }
     }
 
-    /// "16 empty, 17 gap, overlap or end past the last row, 18 too long, tested in that order"
+    /// Empty, then out of place or past the last row, then too long.
     fn demand_run(self, reached: u64, run: Run) -> Result<(), u64> {
         if run.count == 0 {
             return Err(16);
@@ -139,8 +139,8 @@ impl Image {
     }
 }
 
-/// What `plan` puts at the front of a lent plan of numbers, two to a run; the rest stays. "39, lent plan shorter
-/// than its runs, after 15".
+/// What `plan` puts at the front of a lent plan of numbers, two to a run; the rest stays. 39 where the runs have no
+/// room, once the sizes are known to be right.
 pub fn propose(plan: &Result<Vec<Run>, Refused>, lent: &mut [u64]) -> Result<u64, Refused> {
     let runs = plan.as_ref().map_err(|refused| *refused)?;
     let needed = runs.len() as u64;

@@ -1,19 +1,23 @@
 -- What is promised of the planner's exports, in the words of specs/PromisePlanner.antt: every outcome that an attached contract allows
 -- keeps it, because it is the flat form of what the planner's call promises.
-use Prim.Native.Nat.{ℕ}
+use Prim.Native.Nat.{ℕ, _*_, _≤_}
 use mathlib.Core.Path.{_≡_, refl, sym, ap, _∙_}
 use mathlib.Core.List.{List}
+use lib.ListN.{take}
 use native.Mathlib.Omega.{arith}
+use contract.Lifetimes.{Lfts}
+use denote.Triple.Clauses.{Lasts, atExit}
+use borrow.Fn.Kinds.{Dens, endedOf}
 use Rattle.copies.proofs.Promised.{KeepsLeft}
-use Rattle.modular.proofs.Saying.{Keeps}
+use Rattle.modular.proofs.Saying.{Allows, Keeps}
 use Rattle.sched.specs.Scheduler.{Sized}
 use Rattle.planner.proofs.Promised as promised
 use Rattle.planner.proofs.PromisedPlans as plans
 use Rattle.planner.proofs.PromisedValues.{number-some}
 use Rattle.planner.specs.Check.{checkOf}
 use Rattle.planner.specs.Given.{Told, ofOutlined, ofProposed, ofVerdict}
-use Rattle.planner.specs.Plan.{proposeOf}
-use Rattle.planner.specs.Promise.{Bounded, IsPlan, Proposes, Outlines}
+use Rattle.planner.specs.Plan.{Proposal, proposeOf}
+use Rattle.planner.specs.Promise.{runsIn, Bounded, IsPlan, Proposes, Outlines}
 use Rattle.planner.specs.Promise as promise
 use Rattle.planner.specs.Strips.{outlineOf}
 use Rattle.planner.specs.declared.plan.Proposed.{Proposed}
@@ -23,6 +27,7 @@ use Rattle.planner.specs.declared.strips.Outlined.the-variants as outlined
 use Rattle.planner.specs.declared.verdict.Verdict.{Verdict}
 use Rattle.planner.specs.declared.verdict.Verdict.the-variants as verdict
 use Rattle.flat.specs.Planner.{flatOutlined, flatProposed, flatVerdict}
+use Rattle.flat.specs.declared.structs.ProposeAnswer.{ProposeAnswer}
 use Rattle.flat.specs.declared.structs.Refusal.{Refusal}
 use Rattle.stripring.specs.PromisePlanner.{OutlinesAt, ProposesAt, ChecksAt, FifteenAt}
 use Rattle.stripring.specs.PromisePlanner as face
@@ -84,6 +89,50 @@ pub planner-check-promised : Keeps 1 check-kinds.ps check-kinds.r check.Learnt
 planner-check-promised κs a z (ws, p) s b =
     let x = checkOf (a .0) (a .1 .0) (a .1 .1 .0) (a .1 .1 .1 .0 .now) in
     rw (planner-check-says κs a z ws p) (checks-at (a .0) (a .1 .0) (a .1 .1 .0) (a .1 .1 .1 .0 .now) x (plans.check-promised κs a x (ws, refl) s b))
+
+-- ---- the plan that one export proposes is accepted by the other, and no plan that is accepted has fewer runs
+runs-told : (x : Proposed) → flatProposed x .refusal .number ≡ 0 → x ≡ proposed.Runs (flatProposed x .count)
+runs-told (proposed.Runs n) e = refl
+runs-told (proposed.Refused r) e = absurd (omega (arith, number-some r, e))
+
+module _
+    (κs : Lfts 1)
+    (a : Dens κs propose-kinds.ps)
+    (z : ProposeAnswer)
+    (ws : Lasts (endedOf 1 propose-kinds.ps propose-kinds.r) κs a)
+    (q : propose.Learnt κs a z (atExit (endedOf 1 propose-kinds.ps propose-kinds.r) κs a ws))
+    (made : z .refusal .number ≡ 0)
+    (ηs : Lfts 1)
+    (b : Dens ηs check-kinds.ps)
+    (same : (b .0 ≡ a .0) × (b .1 .0 ≡ a .1 .0) × (b .1 .1 .0 ≡ a .1 .1 .0))
+    (y : Refusal)
+    (c : Allows 1 check-kinds.ps check-kinds.r check.Learnt ηs b y)
+  where
+    abbrev proposal : Proposal
+    proposal = proposeOf (a .0) (a .1 .0) (a .1 .1 .0) (a .1 .1 .1 .0 .now)
+
+    abbrev judged : Verdict
+    judged = checkOf (b .0) (b .1 .0) (b .1 .1 .0) (b .1 .1 .1 .0 .now)
+
+    left : (z ≡ flatProposed (proposal .answer)) × (ws ≡ (tt, (tt, (tt, (proposal .plan, tt)))))
+    left = planner-propose-says κs a z ws q
+
+    told : y ≡ flatVerdict judged
+    told = planner-check-says ηs b y (c .0) (c .1)
+
+    proposed-runs : proposal .answer ≡ proposed.Runs (z .count)
+    proposed-runs = rw (left .0) (runs-told (proposal .answer) (rw (left .0) at made))
+
+    pub planner-own-plan-accepted : b .1 .1 .1 .0 .now ≡ take (2 * z .count) (ws .1 .1 .1 .0) → y .number ≡ 0
+    planner-own-plan-accepted p =
+        let there : b .1 .1 .1 .0 .now ≡ take (2 * z .count) (proposal .plan) = rw (left .1) at p in
+        let accepted : judged ≡ verdict.Accepted = plans.own-plan-accepted κs a (proposal .answer) (tt, (tt, (tt, (proposal .plan, tt)))) refl (z .count) proposed-runs ηs b same judged (c .0, refl) there in
+        ap (λ (r : Refusal). r .number) told ∙ ap (λ (v : Verdict). flatVerdict v .number) accepted
+
+    pub planner-accepted-not-fewer : y .number ≡ 0 → z .count ≤ runsIn (b .1 .1 .1 .0 .now)
+    planner-accepted-not-fewer e =
+        plans.accepted-not-fewer κs a (proposal .answer) (tt, (tt, (tt, (proposal .plan, tt)))) refl (z .count) proposed-runs ηs b same judged (c .0, refl)
+        (zero-accepts (b .0) (b .1 .0) (b .1 .1 .0) judged (sym (ap (λ (r : Refusal). r .number) told) ∙ e))
 
 -- ---- 15, of each
 pub planner-outline-15 : Keeps 0 outline-kinds.ps outline-kinds.r outline.Learnt

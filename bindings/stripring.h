@@ -532,7 +532,8 @@ stripring_failure_answer stripring_failure_advance_failure_towards_error(stripri
 /* The plan with the fewest strips, every one but the last as tall as fits, in three numbers: so many runs propose wants lent. */
 stripring_strips_answer stripring_planner_outline(uint64_t rows, uint64_t row_bytes, uint64_t buf_len);
 
-/* Writes the runs of that plan to the front of `plan`, whose rest stays. 39. */
+/* Writes the runs of that plan to the front of `plan`, whose rest stays. Refused with 39 where they have no room, and then `plan` is as it
+ * was. */
 stripring_propose_answer stripring_planner_propose(uint64_t rows, uint64_t row_bytes, uint64_t buf_len, uint64_t *plan,
                                                    size_t plan_len);
 

@@ -17,8 +17,9 @@ use Rattle.states.specs.declared.refusal.Refusal.the-variants.{AnswerMissing, M
 use Rattle.states.specs.declared.state.Failure.the-variants.{Io, Protocol}
 use Rattle.states.specs.declared.state.OperationalState.{OperationalState}
 use Rattle.states.specs.declared.state.OperationalState.the-variants.{Normal, Draining, Terminated}
-use Rattle.states.specs.declared.state.Violation.the-variants.{InvalidChunkAnnouncement, ControlOverflow, UnknownHeader, InvalidChunkLength}
-use Rattle.states.specs.State.{fitsErrno, normalizeIn, towardsErrorIn}
+use Rattle.states.specs.declared.state.Violation.{Violation}
+use Rattle.states.specs.declared.state.Violation.the-variants.{InvalidChunkAnnouncement, HeaderOverflow, UnknownHeader, InvalidChunkLength, BodyOverflow}
+use Rattle.states.specs.State.{overflowOf, behindHeader, fitsErrno, normalizeIn, towardsErrorIn}
 use Rattle.states.specs.Answer.{interruptedOf, receivedOf, sentOf, shutOf}
 use Rattle.receiver.specs.Call.{flushCall}
 use Rattle.receiver.specs.Receiver.{besideByte, readOutcome, failedOutcome, doneOutcome, receiver}
@@ -175,18 +176,42 @@ a-late-refusal-changes-nothing = (refl, refl, refl)
 
 -- ---- an announcement
 a-violation-puts-the-scheduler-back :
-    (reads empty Normal 0 false (header 0 65) 2 (byte 0 1 ∷ done ∷ []) ≡ Accepted (receiver empty (Terminated (Protocol ControlOverflow)) 0 true) (failedOutcome (Protocol ControlOverflow)) 2) ×
+    (reads empty Normal 0 false (header 0 65) 2 (byte 0 1 ∷ done ∷ []) ≡ Accepted (receiver empty (Terminated (Protocol (BodyOverflow (overflowOf 65 56)))) 0 true) (failedOutcome (Protocol (BodyOverflow (overflowOf 65 56)))) 2) ×
     (reads empty Normal 0 true (header 0 0) 2 (byte 0 1 ∷ []) ≡ Accepted (receiver empty (Terminated (Protocol InvalidChunkLength)) 0 true) (failedOutcome (Protocol InvalidChunkLength)) 1) ×
     (reads empty Normal 0 true (header 64 5) 2 (byte 0 1 ∷ []) ≡ Accepted (receiver empty (Terminated (Protocol UnknownHeader)) 0 true) (failedOutcome (Protocol UnknownHeader)) 1) ×
     (reads empty Normal 0 true zeros 2 (byte 7 1 ∷ []) ≡ Accepted (receiver empty (Terminated (Protocol InvalidChunkAnnouncement)) 0 true) (failedOutcome (Protocol InvalidChunkAnnouncement)) 1)
-unfolding bodyFits numberFrom readyFrom soundOf subMod addMod fitsErrno normalizeIn towardsErrorIn interruptedOf receivedOf shutOf
+unfolding behindHeader bodyFits numberFrom readyFrom soundOf subMod addMod fitsErrno normalizeIn towardsErrorIn interruptedOf receivedOf shutOf
 a-violation-puts-the-scheduler-back = (refl, refl, refl, refl)
 
 eight-bytes-stay-free-behind-a-body :
     (reads empty Normal 0 true (header 0 56) 2 (byte 0 1 ∷ []) ≡ Accepted (receiver (ring 64 64 10) Normal 0 true) (bytes 2 1) 1) ×
-    (reads empty Normal 0 true (header 0 57) 2 (byte 0 1 ∷ []) ≡ Accepted (receiver empty (Terminated (Protocol ControlOverflow)) 0 true) (failedOutcome (Protocol ControlOverflow)) 1)
-unfolding flushCall bodyFits numberFrom readyFrom soundOf subMod addMod fitsErrno normalizeIn towardsErrorIn interruptedOf receivedOf shutOf
+    (reads empty Normal 0 true (header 0 57) 2 (byte 0 1 ∷ []) ≡ Accepted (receiver empty (Terminated (Protocol (BodyOverflow (overflowOf 57 56)))) 0 true) (failedOutcome (Protocol (BodyOverflow (overflowOf 57 56)))) 1)
+unfolding behindHeader flushCall bodyFits numberFrom readyFrom soundOf subMod addMod fitsErrno normalizeIn towardsErrorIn interruptedOf receivedOf shutOf
 eight-bytes-stay-free-behind-a-body = (refl, refl)
+
+-- which part overflowed, in a ring of this length with this at its front: the bytes needed and the room are answered and stored
+abbrev announced : ℕ → OperationalState → List ℕ → Ended
+announced l st front = endOfStreamIn (endedOf (readOf (receiver (ring l 0 0) st 0 true) front 2 1 (byte 0 1 ∷ [])))
+
+abbrev overflows : ℕ → Violation → Ended
+overflows l v = Accepted (receiver (ring l 0 0) (Terminated (Protocol v)) 0 true) (failedOutcome (Protocol v)) 1
+
+the-header-needs-8-of-l-and-the-body-what-the-header-leaves :
+    (announced 4 Normal (replicate 4 0) ≡ overflows 4 (HeaderOverflow (overflowOf 8 4))) ×
+    (announced 7 Normal (replicate 7 0) ≡ overflows 7 (HeaderOverflow (overflowOf 8 7))) ×
+    (announced 8 Normal (header 0 1) ≡ overflows 8 (BodyOverflow (overflowOf 1 0))) ×
+    (announced 64 Normal (memory (header 0 64)) ≡ overflows 64 (BodyOverflow (overflowOf 64 56)))
+unfolding behindHeader bodyFits numberFrom readyFrom soundOf subMod addMod fitsErrno normalizeIn towardsErrorIn interruptedOf receivedOf shutOf
+the-header-needs-8-of-l-and-the-body-what-the-header-leaves = (refl, refl, refl, refl)
+
+stored-numbers-of-an-overflow-are-carried-as-they-are :
+    (reads empty (Terminated (Protocol (HeaderOverflow (overflowOf 0 0)))) 0 true zeros 2 [] ≡
+    Accepted (receiver empty (Terminated (Protocol (HeaderOverflow (overflowOf 0 0)))) 0 true) (failedOutcome (Protocol (HeaderOverflow (overflowOf 0 0)))) 0) ×
+    (announced 64 (Draining (Io 32)) (memory (header 0 57)) ≡ overflows 64 (BodyOverflow (overflowOf 57 56))) ×
+    (announced 64 (Draining (Protocol (BodyOverflow (overflowOf 3 9)))) (memory (header 0 57)) ≡
+    Accepted (receiver empty (Terminated (Protocol (BodyOverflow (overflowOf 3 9)))) 0 true) (failedOutcome (Protocol (BodyOverflow (overflowOf 57 56)))) 1)
+unfolding behindHeader bodyFits numberFrom readyFrom soundOf subMod addMod fitsErrno normalizeIn towardsErrorIn interruptedOf receivedOf shutOf
+stored-numbers-of-an-overflow-are-carried-as-they-are = (refl, refl, refl)
 
 a-chunk-read-to-its-end-is-acknowledged :
     reads empty Normal 0 true (header 0 3) 9 (byte 0 1 ∷ sends 1 ∷ []) ≡ Accepted (receiver (ring 64 11 11) Normal 0 true) (bytes 3 1) 2

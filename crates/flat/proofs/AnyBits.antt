@@ -47,5 +47,5 @@ any-bits =
       states = λ s l. rw (far 0 1 (s .kind) (omega arith) l, past 1 (s .kind) l);
       outcomes = λ o l. rw (far 0 1 (o .kind) (omega arith) l, past 1 (o .kind) l);
       phases = λ p l. rw (far 0 2 (p .kind) (omega arith) l, far 1 2 (p .kind) (omega arith) l, past 2 (p .kind) l);
-      failures = λ f. by-kind f (eqb (f .kind) 0) refl _ _ (λ z. (z, refl)) (λ s. (s, read-back));
+      failures = λ f. by-kind f (eqb (f .kind) 0) refl _ _ (λ z. (z, refl)) (λ s. (s, read-back _ _));
     }

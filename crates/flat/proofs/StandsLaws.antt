@@ -117,10 +117,10 @@ ranges-stand (outside.Two x y) = (refl, range-stands x, range-stands y)
 
 -- ---- the receiver, and a call of it
 pub failure-zeros : NoFailure noFailure
-failure-zeros = (refl, refl)
+failure-zeros = (refl, refl, refl, refl)
 
 pub failure-stands : (f : Failure) → FailureStands (flatFailure f) f
-failure-stands (Io e) = (refl, refl)
+failure-stands (Io e) = (refl, refl, refl, refl)
 failure-stands (Protocol v) = (refl, numbered v)
 
 pub state-stands : (s : OperationalState) → StateStands (flatState s) s

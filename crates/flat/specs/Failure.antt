@@ -2,7 +2,8 @@
 use Prim.Native.Nat.{ℕ}
 use mathlib.Core.Bool.{cond}
 use lib.Dec.{eqb}
-use Rattle.states.specs.State.{violationNumber, violationAt}
+use Rattle.states.specs.State.{violationNumber, overflowIn, overflowOf, violationAt}
+use Rattle.states.specs.declared.state.Overflow.{Overflow}
 use Rattle.states.specs.declared.state.Failure as receiver-failure
 use Rattle.states.specs.declared.state.Failure.the-variants.{Io, Protocol}
 use Rattle.states.specs.declared.state.FailureAnswer as receiver-answer
@@ -16,20 +17,26 @@ use Rattle.flat.specs.declared.structs.FailureAnswer.{FailureAnswer}
 use Rattle.flat.specs.declared.structs.PotentialFailureAnswer.{PotentialFailureAnswer}
 use Rattle.flat.specs.Flat.{noRefusal, flatReceiverRefusal}
 
--- kind 0 is an errno, any other a violation
+-- kind 0 is an errno, any other a violation, with any bytes needed and any room
 unfoldable pub failureAt : Failure → receiver-failure.Failure
-failureAt f = cond (eqb (f .kind) 0) (Io (f .value)) (Protocol (violationAt (f .value)))
+failureAt f = cond (eqb (f .kind) 0) (Io (f .value)) (Protocol (violationAt (f .value) (overflowOf (f .needed) (f .room))))
 
 -- where the number is 0 the failure is not looked at
 unfoldable pub potentialFailureAt : ℕ → Failure → PotentialFailure
 potentialFailureAt n f = cond (eqb n 0) None (Some (failureAt f))
 
+abbrev pub anErrno : ℕ → Failure
+anErrno e = record { kind = 0; value = e; needed = 0; room = 0 }
+
+abbrev pub aViolation : ℕ → Overflow → Failure
+aViolation n o = record { kind = 1; value = n; needed = o .needed; room = o .room }
+
 abbrev pub noFailure : Failure
-noFailure = record { kind = 0; value = 0 }
+noFailure = anErrno 0
 
 abbrev pub flatFailure : receiver-failure.Failure → Failure
-flatFailure (Io e) = record { kind = 0; value = e }
-flatFailure (Protocol v) = record { kind = 1; value = violationNumber v }
+flatFailure (Io e) = anErrno e
+flatFailure (Protocol v) = aViolation (violationNumber v) (overflowIn v)
 
 abbrev pub flatFailureAnswer : receiver-answer.FailureAnswer → FailureAnswer
 flatFailureAnswer (answer.Of f) = record { refusal = noRefusal; failure = flatFailure f }

@@ -133,7 +133,7 @@ abbrev pub NoBlock : Block → Type 0
 NoBlock f = (f .typ ≡ 0) × (f .no ≡ 0) × (f .off ≡ 0) × (f .len ≡ 0)
 
 abbrev pub NoFailure : Failure → Type 0
-NoFailure f = (f .kind ≡ 0) × (f .value ≡ 0)
+NoFailure f = (f .kind ≡ 0) × (f .value ≡ 0) × (f .needed ≡ 0) × (f .room ≡ 0)
 
 abbrev pub NoOutcome : Outcome → Type 0
 NoOutcome f = (f .kind ≡ 0) × (f .n ≡ 0) × (f .fds ≡ 0) × NoFailure (f .failure)
@@ -177,13 +177,13 @@ ReadCounterStands f c = f .counter ≡ c .0 .0
 
 -- ---- the receiver, and a call of it. What a kind does not use is 0
 abbrev pub FailureStands : Failure → receiver-failure.Failure → Type 0
-FailureStands f (Io e) = (f .kind ≡ 0) × (f .value ≡ e)
-FailureStands f (Protocol v) = (f .kind ≡ 1) × Numbered v (f .value)
+FailureStands f (Io e) = (f .kind ≡ 0) × (f .value ≡ e) × (f .needed ≡ 0) × (f .room ≡ 0)
+FailureStands f (Protocol v) = (f .kind ≡ 1) × Numbered v (f .value) (f .needed) (f .room)
 
 -- and of a host's, which may have any kind and any number
 abbrev pub FailureRead : Failure → receiver-failure.Failure → Type 0
 FailureRead f (Io e) = (f .kind ≡ 0) × (f .value ≡ e)
-FailureRead f (Protocol v) = (f .kind ≢ 0) × ReadBack (f .value) v
+FailureRead f (Protocol v) = (f .kind ≢ 0) × ReadBack (f .needed) (f .room) (f .value) v
 
 abbrev pub StateStands : State → OperationalState → Type 0
 StateStands f Normal = (f .kind ≡ 0) × NoFailure (f .failure)

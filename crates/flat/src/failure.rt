@@ -1,11 +1,12 @@
-// A failure as two numbers, and back: an errno, or a violation by its number.
+// A failure as numbers, and back: an errno, or a violation by its number and, of an overflow, the bytes needed and the room.
 ghost use mathlib.Core.Path.{_≡_};
-ghost use Rattle.flat.specs.Failure.{failureAt, potentialFailureAt, noFailure, flatFailure, flatFailureAnswer, flatPotentialFailure};
+ghost use Rattle.flat.specs.Failure.{failureAt, potentialFailureAt, anErrno, aViolation, noFailure, flatFailure, flatFailureAnswer, flatPotentialFailure};
 use crate::refusal::flat_receiver_refusal;
 use crate::refusal::no_refusal;
 use crate::structs::Failure;
 use crate::structs::FailureAnswer;
 use crate::structs::PotentialFailureAnswer;
+use states::Overflow;
 use states::PotentialFailure;
 use states::Violation;
 
@@ -15,7 +16,11 @@ pub fn failure(f: Failure) -> states::Failure
     if f.kind == 0 {
         return states::Failure::Io(f.value);
     }
-    states::Failure::Protocol(Violation::of_number(f.value))
+    let o = Overflow {
+        needed: f.needed,
+        room: f.room,
+    };
+    states::Failure::Protocol(Violation::of_number(f.value, o))
 }
 
 pub fn potential_failure(some: u64, f: Failure) -> PotentialFailure
@@ -30,18 +35,37 @@ pub fn potential_failure(some: u64, f: Failure) -> PotentialFailure
 pub(crate) fn no_failure() -> Failure
     ensures { λ r. ⌜ r ≡ noFailure ⌝ }
 {
-    Failure { kind: 0, value: 0 }
+    an_errno(0)
+}
+
+fn an_errno(value: u64) -> Failure
+    ensures { λ r. ⌜ r ≡ anErrno value ⌝ }
+{
+    Failure {
+        kind: 0,
+        value,
+        needed: 0,
+        room: 0,
+    }
+}
+
+fn a_violation(value: u64, o: Overflow) -> Failure
+    ensures { λ r. ⌜ r ≡ aViolation value o ⌝ }
+{
+    Failure {
+        kind: 1,
+        value,
+        needed: o.needed,
+        room: o.room,
+    }
 }
 
 pub(crate) fn flat_failure(f: states::Failure) -> Failure
     ensures { λ r. ⌜ r ≡ flatFailure f ⌝ }
 {
     match f {
-        states::Failure::Io(value) => Failure { kind: 0, value },
-        states::Failure::Protocol(v) => Failure {
-            kind: 1,
-            value: v.number(),
-        },
+        states::Failure::Io(value) => an_errno(value),
+        states::Failure::Protocol(v) => a_violation(v.number(), v.overflow()),
     }
 }
 

@@ -85,11 +85,14 @@ pub struct ReadCounter {
     pub counter: u64,
 }
 
-// Kind 0 is an errno, any other (1 in answers) a violation by `Violation::number`, read back by `Violation::of_number`.
+// Kind 0 is an errno, any other (1 in answers) a violation by `Violation::number`, read back by `Violation::of_number`. The bytes
+// needed and the room are an overflow's; of others they are 0 in answers and not looked at in a host's.
 #[repr(C)]
 pub struct Failure {
     pub kind: u64,
     pub value: u64,
+    pub needed: u64,
+    pub room: u64,
 }
 
 // Kind 0 is normal, 1 draining and any other terminated (2 in answers). The failure of a normal one is zeros in answers and not

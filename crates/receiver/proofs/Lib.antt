@@ -19,3 +19,4 @@ pub mod MadeLaws
 pub mod HandedSum
 pub mod PromisedCalls
 pub mod PromisedMachine
+pub mod PromisedOverflow

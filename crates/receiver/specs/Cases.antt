@@ -147,8 +147,8 @@ module _ (q : ReceiverState) (s : RingBufferScheduler) (ring : List ℕ) (w : Wa
   pub data TakesReceived : Received → Call → Type 0 where
     announces : {fds n : ℕ} {b : Beside} {u : RingBufferScheduler} {c : Call} → Header (with-descriptors fds) (body n b) → Chunk (q .scheduler) n u →
         HandsOut (a-record u (q .state) (q .«pending_ack_count») (q .«notification_socket_shutdown_issued»)) (w .«dst_len») b c → TakesReceived (received.Byte 0 fds) c
-    header-violates : {fds k : ℕ} {v : Violation} {c : Call} → Header (with-descriptors fds) (violates k) → Numbered v k → Fails (Protocol v) q s c → TakesReceived (received.Byte 0 fds) c
-    byte-violates : {byte fds : ℕ} {v : Violation} {c : Call} → byte ≢ 0 → Numbered v 1 → Fails (Protocol v) q s c → TakesReceived (received.Byte byte fds) c
+    header-violates : {fds k needed room : ℕ} {v : Violation} {c : Call} → Header (with-descriptors fds) (violates k needed room) → Numbered v k needed room → Fails (Protocol v) q s c → TakesReceived (received.Byte 0 fds) c
+    byte-violates : {byte fds : ℕ} {v : Violation} {c : Call} → byte ≢ 0 → Numbered v 1 0 0 → Fails (Protocol v) q s c → TakesReceived (received.Byte byte fds) c
     receive-blocks : {c : Call} → Blocks q s c → TakesReceived (received.Failed 11) c
     receive-fails : {n : ℕ} {c : Call} → n ≢ 11 → Fails (Io n) q s c → TakesReceived (received.Failed n) c
 

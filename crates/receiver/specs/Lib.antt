@@ -5,3 +5,4 @@ pub mod Handed
 pub mod Promise
 pub mod Cases
 pub mod Given
+pub mod Overflow

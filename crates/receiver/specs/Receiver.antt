@@ -15,6 +15,7 @@ use Rattle.copies.specs.Ring.{get}
 use Rattle.receiver.specs.declared.announcement.Announced.{Announced}
 use Rattle.receiver.specs.declared.announcement.Announced.the-variants as announced
 use Rattle.states.specs.Answer.{batchOf}
+use Rattle.states.specs.State.{headerOverflow, bodyOverflow}
 use Rattle.states.specs.declared.answer.Sent.{Sent}
 use Rattle.states.specs.declared.answer.Sent.the-variants as sent
 use Rattle.receiver.specs.declared.receiver.Beside.{Beside}
@@ -28,7 +29,7 @@ use Rattle.states.specs.declared.state.Failure.{Failure}
 use Rattle.states.specs.declared.state.Failure.the-variants.{Protocol}
 use Rattle.states.specs.declared.state.OperationalState.{OperationalState}
 use Rattle.states.specs.declared.state.OperationalState.the-variants.{Normal}
-use Rattle.states.specs.declared.state.Violation.the-variants.{InvalidChunkAnnouncement, ControlOverflow, UnknownHeader, InvalidChunkLength}
+use Rattle.states.specs.declared.state.Violation.the-variants.{InvalidChunkAnnouncement, UnknownHeader, InvalidChunkLength}
 
 -- ---- the record
 abbrev pub receiver : RingBufferScheduler → OperationalState → ℕ → Bool → ReceiverState
@@ -93,12 +94,12 @@ headerIn s b h =
     cond (eqb (h / 2 ^ 62) 0)
     (cond (eqb (h % 2 ^ 48) 0) (announced.Failed (Protocol InvalidChunkLength))
     (cond (bodyFits (spaceIn s) (h % 2 ^ 48)) (announced.Chunk (advancedIn (advancedIn (advancedIn s Write 8) Read 8) Write (h % 2 ^ 48)) b)
-    (announced.Failed (Protocol ControlOverflow))))
+    (announced.Failed (Protocol (bodyOverflow (spaceIn s) (h % 2 ^ 48))))))
     (announced.Failed (Protocol UnknownHeader))
 
 abbrev pub announcedIn : List ℕ → RingBufferScheduler → Beside → Announced
 announcedIn ring s b =
-    cond (ltb (spaceIn s) 8) (announced.Failed (Protocol ControlOverflow))
+    cond (ltb (spaceIn s) 8) (announced.Failed (Protocol (headerOverflow (spaceIn s))))
     (headerIn s b (numberFrom 0 (get (s .«buf_len») ring (offsetIn s Read .0) 8)))
 
 -- the byte must be 0

@@ -10,6 +10,7 @@ use crate::receiver::Beside;
 use crate::sound::max_operation_len;
 use crate::sound::read_off;
 use crate::sound::register;
+use sched::HEADER_LEN;
 use sched::OperationType;
 use sched::RingBufferScheduler;
 use states::Failure;
@@ -49,20 +50,23 @@ fn write_chunk(s: RingBufferScheduler, beside: Beside, header: u64) -> Announced
     if len == 0 {
         return Announced::Failed(Failure::Protocol(Violation::InvalidChunkLength));
     }
-    if sched::body_fits(max_operation_len(s, OperationType::Write), len) {
-        let head = register(register(s, OperationType::Write, 8), OperationType::Read, 8);
+    let space = max_operation_len(s, OperationType::Write);
+    if sched::body_fits(space, len) {
+        let written = register(s, OperationType::Write, HEADER_LEN);
+        let head = register(written, OperationType::Read, HEADER_LEN);
         let scheduler = register(head, OperationType::Write, len);
         return Announced::Chunk { scheduler, beside };
     }
-    Announced::Failed(Failure::Protocol(Violation::ControlOverflow))
+    Announced::Failed(Failure::Protocol(Violation::of_body(space, len)))
 }
 
 fn read_header(ring: &[u8], s: RingBufferScheduler, beside: Beside) -> Announced
     requires { ⌜ IsSound s × (length (now ring) ≡ s .«buf_len») ⌝ }
     ensures { λ r. ⌜ r ≡ announcedIn (now (ring .entry)) s beside ⌝ }
 {
-    if max_operation_len(s, OperationType::Write) < 8 {
-        return Announced::Failed(Failure::Protocol(Violation::ControlOverflow));
+    let space = max_operation_len(s, OperationType::Write);
+    if space < HEADER_LEN {
+        return Announced::Failed(Failure::Protocol(Violation::of_header(space)));
     }
     write_chunk(s, beside, header(s, ring))
 }

@@ -37,19 +37,19 @@ fn from_1(op: u64, line: &[u64], s: State) -> bool {
         1 => potential_failure(line, state::stripring_state_failure(s)),
         2 => state(
             line,
-            6,
-            state::stripring_state_with_failure(s, failure_at(line, 4)),
+            10,
+            state::stripring_state_with_failure(s, failure_at(line, 6)),
         ),
         3 => state(
             line,
-            7,
-            state::stripring_state_with_potential_failure(s, at(line, 4), failure_at(line, 5)),
+            11,
+            state::stripring_state_with_potential_failure(s, at(line, 6), failure_at(line, 7)),
         ),
-        4 => state(line, 4, state::stripring_state_normalize(s)),
+        4 => state(line, 6, state::stripring_state_normalize(s)),
         5 => state(
             line,
-            7,
-            state::stripring_state_advance_state_towards_termination(s, state_at(line, 4)),
+            11,
+            state::stripring_state_advance_state_towards_termination(s, state_at(line, 6)),
         ),
         _ => false,
     }
@@ -57,11 +57,11 @@ fn from_1(op: u64, line: &[u64], s: State) -> bool {
 
 fn from_6(op: u64, line: &[u64], f: Failure) -> bool {
     match op {
-        6 => failure(line, 3, failure::stripring_failure_normalize(f)),
+        6 => failure(line, 5, failure::stripring_failure_normalize(f)),
         _ => failure(
             line,
-            5,
-            failure::stripring_failure_advance_failure_towards_error(f, failure_at(line, 3)),
+            9,
+            failure::stripring_failure_advance_failure_towards_error(f, failure_at(line, 5)),
         ),
     }
 }
@@ -85,6 +85,8 @@ fn made(line: &[u64], a: ReceiverAnswer) -> bool {
             state.kind,
             f.kind,
             f.value,
+            f.needed,
+            f.room,
             r.pending_ack_count,
             r.notification_socket_shutdown_issued,
         ],
@@ -94,18 +96,20 @@ fn made(line: &[u64], a: ReceiverAnswer) -> bool {
 fn potential_failure(line: &[u64], a: PotentialFailureAnswer) -> bool {
     let e = a.refusal;
     let f = a.failure;
-    answers(line, 4, e, &[a.some, f.kind, f.value])
+    answers(line, 6, e, &[a.some, f.kind, f.value, f.needed, f.room])
 }
 
 fn state(line: &[u64], from: usize, a: StateAnswer) -> bool {
     let e = a.refusal;
     let s = a.state;
-    answers(line, from, e, &[s.kind, s.failure.kind, s.failure.value])
+    let f = s.failure;
+    answers(line, from, e, &[s.kind, f.kind, f.value, f.needed, f.room])
 }
 
 fn failure(line: &[u64], from: usize, a: FailureAnswer) -> bool {
     let e = a.refusal;
-    answers(line, from, e, &[a.failure.kind, a.failure.value])
+    let f = a.failure;
+    answers(line, from, e, &[f.kind, f.value, f.needed, f.room])
 }
 
 // ---- what the calls take
@@ -121,5 +125,7 @@ fn failure_at(line: &[u64], i: usize) -> Failure {
     Failure {
         kind: at(line, i),
         value: at(line, after(i, 1)),
+        needed: at(line, after(i, 2)),
+        room: at(line, after(i, 3)),
     }
 }

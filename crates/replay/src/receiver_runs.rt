@@ -19,9 +19,9 @@ const BEFORE: u8 = 170;
 
 // A service or a shutdown, which looks at no ring.
 pub fn without_ring(op: u64, line: &[u64]) -> bool {
-    let n = least(at(line, 9), MOST);
-    let a = without_ring_over(op, receiver(line), run_at(line, 10), n);
-    ended(line, after(10, n + n + n), a, &[])
+    let n = least(at(line, 11), MOST);
+    let a = without_ring_over(op, receiver(line), run_at(line, 12), n);
+    ended(line, after(12, n + n + n), a, &[])
 }
 
 fn without_ring_over(op: u64, receiver: Receiver, run: [Answer; MOST], n: usize) -> EndedAnswer
@@ -41,8 +41,8 @@ pub fn read(op: u64, line: &[u64]) -> bool {
 
 // Of each memory only the front, as long as the line says, is lent to the call.
 fn read_in(op: u64, line: &[u64], ring: &[u8], dst: &mut [u8]) -> bool {
-    let ring_len = least(at(line, 9), ring.len());
-    let i = after(10, ring_len);
+    let ring_len = least(at(line, 11), ring.len());
+    let i = after(12, ring_len);
     let dst_len = least(at(line, i), dst.len());
     read_into(
         op,
@@ -83,7 +83,7 @@ fn ended(line: &[u64], from: usize, a: EndedAnswer, dst: &[u8]) -> bool {
     if a.refusal.number != 0 {
         return told(line, from, a);
     }
-    let bytes_at = least(after(from, 15) as u64, line.len());
+    let bytes_at = least(after(from, 19) as u64, line.len());
     told(&line[0..bytes_at], from, a) && ends_in_bytes(line, bytes_at, dst)
 }
 
@@ -100,6 +100,8 @@ fn told(line: &[u64], from: usize, a: EndedAnswer) -> bool {
             a.receiver.state.kind,
             a.receiver.state.failure.kind,
             a.receiver.state.failure.value,
+            a.receiver.state.failure.needed,
+            a.receiver.state.failure.room,
             a.receiver.pending_ack_count,
             a.receiver.notification_socket_shutdown_issued,
             a.outcome.kind,
@@ -107,6 +109,8 @@ fn told(line: &[u64], from: usize, a: EndedAnswer) -> bool {
             a.outcome.fds,
             a.outcome.failure.kind,
             a.outcome.failure.value,
+            a.outcome.failure.needed,
+            a.outcome.failure.room,
             a.used,
         ],
     )
@@ -135,8 +139,8 @@ fn receiver(line: &[u64]) -> Receiver {
     Receiver {
         scheduler: scheduler_at(line),
         state: state_at(line, 4),
-        pending_ack_count: at(line, 7),
-        notification_socket_shutdown_issued: at(line, 8),
+        pending_ack_count: at(line, 9),
+        notification_socket_shutdown_issued: at(line, 10),
     }
 }
 
@@ -144,7 +148,7 @@ fn receiver(line: &[u64]) -> Receiver {
 fn ring(line: &[u64]) -> [u8; ROOM] {
     let mut bytes = [0u8; ROOM];
     for i in 0..ROOM {
-        bytes[i] = (at(line, after(10, i)) % 256) as u8;
+        bytes[i] = (at(line, after(12, i)) % 256) as u8;
     }
     bytes
 }

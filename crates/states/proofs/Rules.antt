@@ -8,14 +8,15 @@ use lib.Dec.{eqb, leb}
 use borrow.Author.Tests.{eqb-true, eqb-false, eq-eqb, leb-true, leb-false}
 use Rattle.states.specs.Answer.{batchOf}
 use Rattle.states.specs.Promise.{Batch, all, most, Reason, end-and-end, end-gives-way, error-and-end, error-stays, normal, blocked-draining, blocked-terminated, Normalized, calmed, drains, ends, Holds, holds-none, draining-holds, terminated-holds, Carries, normal-carries-none, draining-carries, terminated-carries, Advanced, calm-by-calm, calm-by-draining, calm-by-terminated, terminated-stays, draining-stays, draining-by-draining, draining-by-terminated}
-use Rattle.states.specs.State.{violationNumber, violationAt, isErrno, failureIn, withFailureIn, normalizeIn, towardsErrorIn, advanceNormal, advanceIn}
+use Rattle.states.specs.State.{behindHeader, violationNumber, overflowOf, overflowIn, violationAt, isErrno, failureIn, withFailureIn, normalizeIn, towardsErrorIn, advanceNormal, advanceIn}
 use Rattle.states.specs.declared.state.Failure.{Failure}
 use Rattle.states.specs.declared.state.Failure.the-variants.{Io, Protocol}
 use Rattle.states.specs.declared.state.OperationalState.{OperationalState}
 use Rattle.states.specs.declared.state.OperationalState.the-variants.{Normal, Draining, Terminated}
+use Rattle.states.specs.declared.state.Overflow.{Overflow}
 use Rattle.states.specs.declared.state.Violation.{Violation}
-use Rattle.states.specs.declared.state.Violation.the-variants.{InvalidChunkAnnouncement, ControlOverflow, UnknownHeader, InvalidChunkLength}
-use Rattle.states.specs.Promise.{Numbered, violation-1, violation-2, violation-3, violation-4, ReadBack, has-number, no-number}
+use Rattle.states.specs.declared.state.Violation.the-variants.{InvalidChunkAnnouncement, HeaderOverflow, UnknownHeader, InvalidChunkLength, BodyOverflow}
+use Rattle.states.specs.Promise.{Behind, Numbered, violation-1, violation-2, violation-3, violation-4, violation-5, ReadBack, reads-1, reads-2, reads-3, reads-5, reads-other}
 
 -- ---- batches
 pub batch-rule : (p : ℕ) → p ≢ 0 → Batch p (batchOf p)
@@ -85,34 +86,57 @@ pub errno-rule : (f : Failure) (k : ℕ) → (isErrno f k ≡ true → f ≡ Io 
 errno-rule f k = (is-errno f k, λ e. ap (λ (x : Failure). isErrno x k) e ∙ eq-eqb k k refl)
 
 -- ---- violations
-pub numbered : (v : Violation) → Numbered v (violationNumber v)
+pub numbered : (v : Violation) → Numbered v (violationNumber v) (overflowIn v .needed) (overflowIn v .room)
 numbered InvalidChunkAnnouncement = violation-1
-numbered ControlOverflow = violation-2
+numbered (HeaderOverflow o) = violation-2
 numbered UnknownHeader = violation-3
 numbered InvalidChunkLength = violation-4
+numbered (BodyOverflow o) = violation-5
 
-pub violation-back : (v : Violation) → violationAt (violationNumber v) ≡ v
+pub behind-rule : (L : ℕ) → Behind L (behindHeader L)
+unfolding behindHeader
+behind-rule L = ((λ l. omega (arith, l)), (λ l. omega (arith, l)))
+
+-- a violation has one number, one count of bytes needed and one room
+pub numbers-are : (v : Violation) (k needed room : ℕ) → Numbered v k needed room → (k ≡ violationNumber v) × (needed ≡ overflowIn v .needed) × (room ≡ overflowIn v .room)
+numbers-are _ _ _ _ violation-1 = (refl, refl, refl)
+numbers-are _ _ _ _ violation-2 = (refl, refl, refl)
+numbers-are _ _ _ _ violation-3 = (refl, refl, refl)
+numbers-are _ _ _ _ violation-4 = (refl, refl, refl)
+numbers-are _ _ _ _ violation-5 = (refl, refl, refl)
+
+-- and 2 and 5 are of an overflow
+pub number-2 : (v : Violation) (k needed room : ℕ) → Numbered v k needed room → k ≡ 2 → v ≡ HeaderOverflow (overflowOf needed room)
+number-2 _ _ _ _ violation-1 e = absurd (omega (arith, e))
+number-2 _ _ _ _ violation-2 e = refl
+number-2 _ _ _ _ violation-3 e = absurd (omega (arith, e))
+number-2 _ _ _ _ violation-4 e = absurd (omega (arith, e))
+number-2 _ _ _ _ violation-5 e = absurd (omega (arith, e))
+
+pub number-5 : (v : Violation) (k needed room : ℕ) → Numbered v k needed room → k ≡ 5 → v ≡ BodyOverflow (overflowOf needed room)
+number-5 _ _ _ _ violation-1 e = absurd (omega (arith, e))
+number-5 _ _ _ _ violation-2 e = absurd (omega (arith, e))
+number-5 _ _ _ _ violation-3 e = absurd (omega (arith, e))
+number-5 _ _ _ _ violation-4 e = absurd (omega (arith, e))
+number-5 _ _ _ _ violation-5 e = refl
+
+pub violation-back : (v : Violation) → violationAt (violationNumber v) (overflowIn v) ≡ v
 unfolding violationAt
 violation-back InvalidChunkAnnouncement = refl
-violation-back ControlOverflow = refl
+violation-back (HeaderOverflow o) = refl
 violation-back UnknownHeader = refl
 violation-back InvalidChunkLength = refl
+violation-back (BodyOverflow o) = refl
 
--- by the tests of the definition, and the number that it does not test
-pub read-back : {n : ℕ} → ReadBack n (violationAt n)
+-- by the tests of the definition
+pub read-back : (n : ℕ) (o : Overflow) → ReadBack (o .needed) (o .room) n (violationAt n o)
 unfolding violationAt
-read-back {n} = by (eqb n 1) refl (eqb n 2) refl (eqb n 3) refl (eqb n 4) refl
+read-back n o = by (eqb n 1) refl (eqb n 2) refl (eqb n 3) refl (eqb n 5) refl
   where
-    none : (m : ℕ) → m ≢ 1 → m ≢ 2 → m ≢ 3 → m ≢ 4 → (v : Violation) → Numbered v m → ⊥
-    none _ a b c d v violation-1 = a refl
-    none _ a b c d v violation-2 = b refl
-    none _ a b c d v violation-3 = c refl
-    none _ a b c d v violation-4 = d refl
-
-    by : (x : Bool) → eqb n 1 ≡ x → (y : Bool) → eqb n 2 ≡ y → (z : Bool) → eqb n 3 ≡ z → (u : Bool) → eqb n 4 ≡ u →
-        ReadBack n (cond x InvalidChunkAnnouncement (cond y ControlOverflow (cond z UnknownHeader InvalidChunkLength)))
-    by true p y q z r u s = rw (eqb-true n 1 p) (has-number violation-1)
-    by false p true q z r u s = rw (eqb-true n 2 q) (has-number violation-2)
-    by false p false q true r u s = rw (eqb-true n 3 r) (has-number violation-3)
-    by false p false q false r true s = rw (eqb-true n 4 s) (has-number violation-4)
-    by false p false q false r false s = no-number (none n (eqb-false n 1 p) (eqb-false n 2 q) (eqb-false n 3 r) (eqb-false n 4 s))
+    by : (x : Bool) → eqb n 1 ≡ x → (y : Bool) → eqb n 2 ≡ y → (z : Bool) → eqb n 3 ≡ z → (u : Bool) → eqb n 5 ≡ u →
+        ReadBack (o .needed) (o .room) n (cond x InvalidChunkAnnouncement (cond y (HeaderOverflow o) (cond z UnknownHeader (cond u (BodyOverflow o) InvalidChunkLength))))
+    by true p y q z r u s = rw (eqb-true n 1 p) reads-1
+    by false p true q z r u s = rw (eqb-true n 2 q) reads-2
+    by false p false q true r u s = rw (eqb-true n 3 r) reads-3
+    by false p false q false r true s = rw (eqb-true n 5 s) reads-5
+    by false p false q false r false s = reads-other (eqb-false n 1 p) (eqb-false n 2 q) (eqb-false n 3 r) (eqb-false n 5 s)

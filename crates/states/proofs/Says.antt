@@ -3,7 +3,7 @@ use Rattle.modular.proofs.Saying.{Says}
 use Rattle.operations.specs.Refusal.{packed}
 use Rattle.states.specs.Answer.{batchOf, interruptedOf, receivedOf, sentOf, shutOf}
 use Rattle.states.specs.Refusal.{numberOf, valuesOf}
-use Rattle.states.specs.State.{fitsState, failureIn, advanceIn, violationNumber, violationAt, isErrno, failureOf, withFailureOf, withPotentialFailureOf, normalizeOf, advanceOf, normalizeFailureOf, towardsErrorOf}
+use Rattle.states.specs.State.{fitsState, failureIn, advanceIn, headerOverflow, bodyOverflow, violationNumber, overflowIn, violationAt, isErrno, failureOf, withFailureOf, withPotentialFailureOf, normalizeOf, advanceOf, normalizeFailureOf, towardsErrorOf}
 use Rattle.states.proofs.state.OperationalState.fits.Kinds as fits-kinds
 use Rattle.states.proofs.state.OperationalState.fits.Reads as fits
 use Rattle.states.proofs.state.OperationalState.cached_failure.Kinds as cached-failure-kinds
@@ -42,6 +42,12 @@ use Rattle.states.proofs.refusal.Refusal.values.Kinds as values-kinds
 use Rattle.states.proofs.refusal.Refusal.values.Reads as values
 use Rattle.states.proofs.state.Violation.number.Kinds as Violation-number-kinds
 use Rattle.states.proofs.state.Violation.number.Reads as Violation-number
+use Rattle.states.proofs.state.Violation.of_header.Kinds as of-header-kinds
+use Rattle.states.proofs.state.Violation.of_header.Reads as of-header
+use Rattle.states.proofs.state.Violation.of_body.Kinds as of-body-kinds
+use Rattle.states.proofs.state.Violation.of_body.Reads as of-body
+use Rattle.states.proofs.state.Violation.overflow.Kinds as overflow-kinds
+use Rattle.states.proofs.state.Violation.overflow.Reads as overflow
 use Rattle.states.proofs.state.Violation.of_number.Kinds as of-number-kinds
 use Rattle.states.proofs.state.Violation.of_number.Reads as of-number
 
@@ -102,8 +108,17 @@ Refusal-number-says κs a z ws p = p
 pub values-says : Says 0 values-kinds.ps values-kinds.r values.Learnt (λ κs a. packed (valuesOf (a .0)))
 values-says κs a z ws p = p
 
+pub of-header-says : Says 0 of-header-kinds.ps of-header-kinds.r of-header.Learnt (λ κs a. headerOverflow (a .0))
+of-header-says κs a z ws p = p
+
+pub of-body-says : Says 0 of-body-kinds.ps of-body-kinds.r of-body.Learnt (λ κs a. bodyOverflow (a .0) (a .1 .0))
+of-body-says κs a z ws p = p
+
 pub Violation-number-says : Says 0 Violation-number-kinds.ps Violation-number-kinds.r Violation-number.Learnt (λ κs a. violationNumber (a .0))
 Violation-number-says κs a z ws p = p
 
-pub of-number-says : Says 0 of-number-kinds.ps of-number-kinds.r of-number.Learnt (λ κs a. violationAt (a .0))
+pub overflow-says : Says 0 overflow-kinds.ps overflow-kinds.r overflow.Learnt (λ κs a. overflowIn (a .0))
+overflow-says κs a z ws p = p
+
+pub of-number-says : Says 0 of-number-kinds.ps of-number-kinds.r of-number.Learnt (λ κs a. violationAt (a .0) (a .1 .0))
 of-number-says κs a z ws p = p

@@ -1,6 +1,6 @@
 -- What the states, the failures and the answers promise, told again by cases and in other words than those of their rules, so that a
 -- rule that is changed in its place is seen.
-use Prim.Native.Nat.{ℕ, _<_, _≤_}
+use Prim.Native.Nat.{ℕ, _+_, _<_, _≤_}
 use mathlib.Core.Path.{_≡_}
 use mathlib.Core.Logic.{_≢_}
 use Rattle.states.specs.declared.answer.Answer.{Answer}
@@ -16,8 +16,9 @@ use Rattle.states.specs.declared.state.OperationalState.{OperationalStat
 use Rattle.states.specs.declared.state.OperationalState.the-variants.{Normal, Draining, Terminated}
 use Rattle.states.specs.declared.state.PotentialFailure.{PotentialFailure}
 use Rattle.states.specs.declared.state.PotentialFailure.the-variants.{Some, None}
+use Rattle.states.specs.declared.state.Overflow.{Overflow}
 use Rattle.states.specs.declared.state.Violation.{Violation}
-use Rattle.states.specs.declared.state.Violation.the-variants.{InvalidChunkAnnouncement, ControlOverflow, UnknownHeader, InvalidChunkLength}
+use Rattle.states.specs.declared.state.Violation.the-variants.{InvalidChunkAnnouncement, HeaderOverflow, UnknownHeader, InvalidChunkLength, BodyOverflow}
 
 -- ---- errnos
 abbrev pub Errno : ℕ → Type 0
@@ -103,14 +104,25 @@ module _ (a : Answer) where
     shutdown-failed : AnErrno → SaysShut (shut.Failed (a .value))
     no-shutdown : a .kind ≢ 4 → (AnErrno → ⊥) → SaysShut shut.Misfit
 
--- ---- violations by their numbers
-pub data Numbered : Violation → ℕ → Type 0 where
-  violation-1 : Numbered InvalidChunkAnnouncement 1
-  violation-2 : Numbered ControlOverflow 2
-  violation-3 : Numbered UnknownHeader 3
-  violation-4 : Numbered InvalidChunkLength 4
+-- ---- violations in numbers: which one, and of an overflow the bytes needed and the room
+abbrev pub an-overflow : ℕ → ℕ → Overflow
+an-overflow needed room = record { needed = needed; room = room }
 
--- a number read back: that of a violation is that violation, and one that none has is the fourth
-pub data ReadBack : ℕ → Violation → Type 0 where
-  has-number : {v : Violation} {n : ℕ} → Numbered v n → ReadBack n v
-  no-number : {n : ℕ} → ((v : Violation) → Numbered v n → ⊥) → ReadBack n InvalidChunkLength
+pub data Numbered : Violation → ℕ → ℕ → ℕ → Type 0 where
+  violation-1 : Numbered InvalidChunkAnnouncement 1 0 0
+  violation-2 : {needed room : ℕ} → Numbered (HeaderOverflow (an-overflow needed room)) 2 needed room
+  violation-3 : Numbered UnknownHeader 3 0 0
+  violation-4 : Numbered InvalidChunkLength 4 0 0
+  violation-5 : {needed room : ℕ} → Numbered (BodyOverflow (an-overflow needed room)) 5 needed room
+
+-- of a body that does not fit behind the header of a ring of length L: what the header leaves, and nothing where it does not fit
+abbrev pub Behind : ℕ → ℕ → Type 0
+Behind L room = (8 ≤ L → room + 8 ≡ L) × (L < 8 → room ≡ 0)
+
+-- read back: that of a violation is that violation, and one that none has is the fourth; any bytes needed and any room
+pub data ReadBack (needed room : ℕ) : ℕ → Violation → Type 0 where
+  reads-1 : ReadBack needed room 1 InvalidChunkAnnouncement
+  reads-2 : ReadBack needed room 2 (HeaderOverflow (an-overflow needed room))
+  reads-3 : ReadBack needed room 3 UnknownHeader
+  reads-5 : ReadBack needed room 5 (BodyOverflow (an-overflow needed room))
+  reads-other : {k : ℕ} → k ≢ 1 → k ≢ 2 → k ≢ 3 → k ≢ 5 → ReadBack needed room k InvalidChunkLength

@@ -1,11 +1,12 @@
 -- The rules of the states: docs/PAPER.md, "States" to "The reason rule". A name that ends in `In` is of states whose errnos fit; one
 -- that ends in `Of` tests them first ("Stored errnos"): 12 with place 0, the state's own before the argument's.
-use Prim.Native.Nat.{ℕ}
+use Prim.Native.Nat.{ℕ, _-_}
 use mathlib.Core.Bool.{Bool, cond, true, false}
 use lib.Dec.{eqb, leb}
 use Rattle.states.specs.declared.refusal.Refusal.the-variants.{Misfit}
+use Rattle.states.specs.declared.state.Overflow.{Overflow}
 use Rattle.states.specs.declared.state.Violation.{Violation}
-use Rattle.states.specs.declared.state.Violation.the-variants.{InvalidChunkAnnouncement, ControlOverflow, UnknownHeader, InvalidChunkLength}
+use Rattle.states.specs.declared.state.Violation.the-variants.{InvalidChunkAnnouncement, HeaderOverflow, UnknownHeader, InvalidChunkLength, BodyOverflow}
 use Rattle.states.specs.declared.state.Failure.{Failure}
 use Rattle.states.specs.declared.state.Failure.the-variants.{Io, Protocol}
 use Rattle.states.specs.declared.state.FailureAnswer.{FailureAnswer}
@@ -22,16 +23,39 @@ use Rattle.states.specs.declared.state.StateAnswer.the-variants as state
 -- the paper's number of a violation
 abbrev pub violationNumber : Violation → ℕ
 violationNumber InvalidChunkAnnouncement = 1
-violationNumber ControlOverflow = 2
+violationNumber (HeaderOverflow o) = 2
 violationNumber UnknownHeader = 3
 violationNumber InvalidChunkLength = 4
+violationNumber (BodyOverflow o) = 5
 
--- and back: any number but 1, 2 and 3 is the fourth
-unfoldable pub violationAt : ℕ → Violation
-violationAt n =
+abbrev pub overflowOf : ℕ → ℕ → Overflow
+overflowOf needed room = record { needed = needed; room = room }
+
+-- a header needs its 8 bytes of a ring of length L, a body its n of what is left behind them
+unfoldable pub behindHeader : ℕ → ℕ
+behindHeader L = L - 8
+
+abbrev pub headerOverflow : ℕ → Violation
+headerOverflow L = HeaderOverflow (overflowOf 8 L)
+
+abbrev pub bodyOverflow : ℕ → ℕ → Violation
+bodyOverflow L n = BodyOverflow (overflowOf n (behindHeader L))
+
+-- the bytes needed and the room, of an overflow
+abbrev pub overflowIn : Violation → Overflow
+overflowIn InvalidChunkAnnouncement = overflowOf 0 0
+overflowIn (HeaderOverflow o) = o
+overflowIn UnknownHeader = overflowOf 0 0
+overflowIn InvalidChunkLength = overflowOf 0 0
+overflowIn (BodyOverflow o) = o
+
+-- and back: any number but 1, 2, 3 and 5 is the fourth
+unfoldable pub violationAt : ℕ → Overflow → Violation
+violationAt n o =
     cond (eqb n 1) InvalidChunkAnnouncement
-    (cond (eqb n 2) ControlOverflow
-    (cond (eqb n 3) UnknownHeader InvalidChunkLength))
+    (cond (eqb n 2) (HeaderOverflow o)
+    (cond (eqb n 3) UnknownHeader
+    (cond (eqb n 5) (BodyOverflow o) InvalidChunkLength)))
 
 -- an errno is from 1 to 4095
 unfoldable pub fitsErrno : ℕ → Bool

@@ -12,6 +12,7 @@ pub use refusal::Refusal;
 pub use state::Failure;
 pub use state::FailureAnswer;
 pub use state::OperationalState;
+pub use state::Overflow;
 pub use state::PotentialFailure;
 pub use state::PotentialFailureAnswer;
 pub use state::StateAnswer;

@@ -1,36 +1,90 @@
 // The states of the receiver, and the failures in them. Every state and failure that is handed in is tested: an errno is a number
 // from 1 to 4095.
 ghost use mathlib.Core.Path.{_≡_};
-ghost use Rattle.states.specs.State.{violationNumber, violationAt, fitsFailure, fitsState, failureIn, withFailureIn, isErrno, normalizeIn, towardsErrorIn, advanceIn, failureOf, withFailureOf, withPotentialFailureOf, normalizeOf, advanceOf, normalizeFailureOf, towardsErrorOf};
+ghost use Rattle.states.specs.State.{behindHeader, headerOverflow, bodyOverflow, violationNumber, overflowIn, violationAt, fitsFailure, fitsState, failureIn, withFailureIn, isErrno, normalizeIn, towardsErrorIn, advanceIn, failureOf, withFailureOf, withPotentialFailureOf, normalizeOf, advanceOf, normalizeFailureOf, towardsErrorOf};
 use crate::refusal::Refusal;
+use sched::HEADER_LEN;
 
+// How many bytes were needed, and the room for them.
+pub struct Overflow {
+    pub needed: u64,
+    pub room: u64,
+}
+
+// No byte is behind the header of a ring that is shorter than one.
+fn behind_header(buf_len: u64) -> u64
+    ensures { λ r. ⌜ r ≡ behindHeader «buf_len» ⌝ }
+{
+    if buf_len < HEADER_LEN {
+        return 0;
+    }
+    buf_len - HEADER_LEN
+}
+
+// The Rust has one overflow, of the header and of the body.
 pub enum Violation {
     InvalidChunkAnnouncement,
-    ControlOverflow,
+    HeaderOverflow(Overflow),
     UnknownHeader,
     InvalidChunkLength,
+    BodyOverflow(Overflow),
 }
 
 impl Violation {
+    // A header does not fit into a ring of this length.
+    pub fn of_header(buf_len: u64) -> Violation
+        ensures { λ r. ⌜ r ≡ headerOverflow «buf_len» ⌝ }
+    {
+        Violation::HeaderOverflow(Overflow {
+            needed: HEADER_LEN,
+            room: buf_len,
+        })
+    }
+
+    // A body of so many bytes does not fit behind the header.
+    pub fn of_body(buf_len: u64, len: u64) -> Violation
+        ensures { λ r. ⌜ r ≡ bodyOverflow «buf_len» len ⌝ }
+    {
+        Violation::BodyOverflow(Overflow {
+            needed: len,
+            room: behind_header(buf_len),
+        })
+    }
+
     pub fn number(self) -> u64
         ensures { λ r. ⌜ r ≡ violationNumber self ⌝ }
     {
         match self {
             Violation::InvalidChunkAnnouncement => 1,
-            Violation::ControlOverflow => 2,
+            Violation::HeaderOverflow(_) => 2,
             Violation::UnknownHeader => 3,
             Violation::InvalidChunkLength => 4,
+            Violation::BodyOverflow(_) => 5,
+        }
+    }
+
+    // Zeros where nothing overflowed.
+    pub fn overflow(self) -> Overflow
+        ensures { λ r. ⌜ r ≡ overflowIn self ⌝ }
+    {
+        match self {
+            Violation::InvalidChunkAnnouncement => Overflow { needed: 0, room: 0 },
+            Violation::HeaderOverflow(o) => o,
+            Violation::UnknownHeader => Overflow { needed: 0, room: 0 },
+            Violation::InvalidChunkLength => Overflow { needed: 0, room: 0 },
+            Violation::BodyOverflow(o) => o,
         }
     }
 
     // A number that no violation has is the fourth.
-    pub fn of_number(number: u64) -> Violation
-        ensures { λ r. ⌜ r ≡ violationAt number ⌝ }
+    pub fn of_number(number: u64, o: Overflow) -> Violation
+        ensures { λ r. ⌜ r ≡ violationAt number o ⌝ }
     {
         match number {
             1 => Violation::InvalidChunkAnnouncement,
-            2 => Violation::ControlOverflow,
+            2 => Violation::HeaderOverflow(o),
             3 => Violation::UnknownHeader,
+            5 => Violation::BodyOverflow(o),
             _ => Violation::InvalidChunkLength,
         }
     }

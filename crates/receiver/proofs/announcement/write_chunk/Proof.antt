@@ -45,12 +45,13 @@ returns-3 c =
 
 returns-4 : tie.Need-returns-4
 returns-4 c =
-    let at-max-operation-len = c .before .before in
+    let at-if3 = c .before in
+    let at-max-operation-len = at-if3 .before .before in
     let at-if2 = at-max-operation-len .before in
     let at-if1 = at-if2 .before in
-    rw (eq-eqb _ _ (at-if1 .if1 .left), ne-eqb _ _ (at-if2 .if2 .left), over _ _ (at-max-operation-len .max-operation-len .ensures) _ _ (c .before .body-fits .ensures) (c .if3 .left))
+    rw (eq-eqb _ _ (at-if1 .if1 .left), ne-eqb _ _ (at-if2 .if2 .left), over _ _ (at-max-operation-len .max-operation-len .ensures) _ _ (at-if3 .before .body-fits .ensures) (at-if3 .if3 .left), c .of-body .ensures, at-max-operation-len .max-operation-len .ensures)
 
 pub write-chunk-spec : {M : Type 1} → statement M
 write-chunk-spec =
     tie.close (tie.spec returns returns-2 (search needs) (search needs) register-requires register-requires-2 register-requires-3
-    returns-3 returns-4)
+    returns-3 (search needs) returns-4)

@@ -1,4 +1,4 @@
--- The four cases of the definition.
+-- The five cases of the definition.
 use borrow.Author.Tests.{ne-eqb}
 use Rattle.states.specs.State.{violationAt}
 use Rattle.states.proofs.state.Violation.of_number.Statement.{statement}
@@ -18,7 +18,11 @@ returns-3 c = rw (c .match .keys3)
 
 returns-4 : tie.Need-returns-4
 unfolding violationAt
-returns-4 c = let (((_, one), two), three) = c .match .rest in rw (ne-eqb _ _ one, ne-eqb _ _ two, ne-eqb _ _ three)
+returns-4 c = rw (c .match .keys4)
+
+returns-5 : tie.Need-returns-5
+unfolding violationAt
+returns-5 c = let ((((_, one), two), three), five) = c .match .rest in rw (ne-eqb _ _ one, ne-eqb _ _ two, ne-eqb _ _ three, ne-eqb _ _ five)
 
 pub of-number-spec : {M : Type 1} → statement M
-of-number-spec = tie.close (tie.spec returns returns-2 returns-3 returns-4)
+of-number-spec = tie.close (tie.spec returns returns-2 returns-3 returns-4 returns-5)

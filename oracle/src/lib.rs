@@ -3,6 +3,7 @@
 
 pub mod lines;
 pub mod modular_answers;
+pub mod overflow;
 pub mod planner_model;
 pub mod receiver_answers;
 pub mod receiver_standins;

@@ -7,8 +7,8 @@ use crate::receiver::{Pair, each_random, each_small, pairs, random_calls, small_
 use crate::receiver_inputs::{Input, pick};
 use crate::stripring::{CallNumbers, CopyCall, StepNumbers, answered, begin, copy_calls};
 use crate::tally::Tally;
-use oracle::receiver_answers::Kind;
-use oracle::sched_answers::{Row, row};
+use oracle::receiver_answers::{Kind, OUTCOME, RECEIVER};
+use oracle::sched_answers::{Numbers, Row, row};
 use oracle::scripted_socket::Answer;
 use std::fmt::Debug;
 
@@ -19,6 +19,12 @@ const RECEIVE: u64 = 0;
 const SEND: u64 = 1;
 const SHUTDOWN: u64 = 2;
 const READ: u64 = 0;
+
+// Where the numbers of a call in progress begin, behind the receiver's.
+const SOURCE: usize = RECEIVER;
+const PHASE: usize = SOURCE + 3;
+const ENDS_WITH: usize = PHASE + 5;
+const CAME_TO: usize = ENDS_WITH + OUTCOME;
 
 /// A read of the machine comes to what the Rust calls `read_with_fds_impl`; the inputs of the read as
 /// it is called from outside are tried by it too.
@@ -165,30 +171,30 @@ struct Call(CallNumbers);
 
 impl Call {
     fn receiver(&self) -> &[u64] {
-        &self.0[..8]
+        &self.0[..SOURCE]
     }
 
     fn source(&self) -> [u64; 3] {
-        [self.0[8], self.0[9], self.0[10]]
+        [self.0[SOURCE], self.0[SOURCE + 1], self.0[SOURCE + 2]]
     }
 
     fn phase(&self) -> u64 {
-        self.0[11]
+        self.0[PHASE]
     }
 
     fn max_new_fds(&self) -> u64 {
-        self.0[12]
+        self.0[PHASE + 1]
     }
 
     fn batch(&self) -> u64 {
-        self.0[14]
+        self.0[PHASE + 3]
     }
 
     /// What it still ends with where it waits, what it came to where it is finished.
     fn outcome(&self) -> &[u64] {
         match self.phase() {
-            RECEIVE..=SHUTDOWN => &self.0[16..21],
-            _ => &self.0[21..],
+            RECEIVE..=SHUTDOWN => &self.0[ENDS_WITH..CAME_TO],
+            _ => &self.0[CAME_TO..],
         }
     }
 }
@@ -258,11 +264,11 @@ impl<'a> Driven<'a> {
 
     /// As a call over the answers that were taken answers.
     fn row(&self) -> Row {
-        let mut row = Row::default();
-        row[4..12].copy_from_slice(self.call.receiver());
-        row[12..17].copy_from_slice(self.call.outcome());
-        row[17] = self.taken.len() as u64;
-        row
+        let mut numbers = Numbers::default();
+        numbers.push(self.call.receiver());
+        numbers.push(self.call.outcome());
+        numbers.push(&[self.taken.len() as u64]);
+        row(&Ok(numbers))
     }
 }
 
@@ -284,14 +290,14 @@ fn gone_on(step: StepNumbers) -> Result<Call, Refused> {
 }
 
 fn accepted(call: CallNumbers) -> StepNumbers {
-    let mut step = [0; 30];
+    let mut step = [0; 36];
     step[4..].copy_from_slice(&call);
     step
 }
 
 /// With nothing beside it.
 fn refusal(number: u64, a: u64) -> StepNumbers {
-    let mut step = [0; 30];
+    let mut step = [0; 36];
     step[..2].copy_from_slice(&[number, a]);
     step
 }

@@ -6,6 +6,7 @@ mod line_rows;
 mod memory;
 mod modular_u8;
 mod numbers;
+mod overflow_paper;
 mod pieces;
 mod planner_inputs;
 mod planner_paper;
@@ -62,7 +63,7 @@ fn main() -> ExitCode {
         #[cfg(feature = "judge")]
         ["planner"] => planner::run(),
         ["sched-paper"] => sched_paper::run(),
-        ["receiver-paper"] => receiver_paper::run(),
+        ["receiver-paper"] => receiver_paper::run() & overflow_paper::run(),
         ["planner-paper"] => planner_paper::run(),
         ["record-modular"] => record_modular::run(),
         ["record-sched"] => record_sched::run(),

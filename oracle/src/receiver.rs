@@ -2,11 +2,11 @@
 
 use crate::memory::Memory;
 use crate::numbers::{Random, around};
-use crate::receiver_inputs::{Input, put_header, values};
+use crate::receiver_inputs::{Input, Receiver, State, put_header, receiver, values};
 use crate::sched_inputs::{inputs, tuples};
 use crate::stripring::{RunCall, run_calls, state_calls};
 use crate::tally::Tally;
-use oracle::receiver_answers::{Kind, Part, RUN_CALLS, STATE_CALLS};
+use oracle::receiver_answers::{Kind, Part, RECEIVER, RUN_CALLS, STATE_CALLS};
 use oracle::sched_answers::{Row, row};
 use oracle::scripted_socket::Answer;
 use std::collections::BTreeMap;
@@ -14,24 +14,38 @@ use std::collections::BTreeMap;
 const RANDOM_CALLS: usize = 1_000_000;
 const SEED: u64 = 1;
 
+const NORMAL: u64 = 0;
+const FAILED: u64 = 2;
+
 /// A ring that takes a chunk of one byte. What was read ends so that a header goes round its end.
 const SMALL: u64 = 9;
+/// A ring that takes no header.
+const SMALLER: u64 = 7;
 const SMALL_READ: u64 = 5;
-/// The data at hand and the header: no header needed; an accepted chunk, an empty one, one too long,
-/// and an unknown format.
-const SMALL_HEADERS: [(u64, u64); 5] = [(1, 1), (0, 1), (0, 0), (0, 2), (0, 1 << 62)];
-const SMALL_STATES: [[u64; 3]; 11] = [
-    [0, 0, 0],
-    [1, 0, 0],
-    [1, 0, 5],
-    [1, 0, 11],
-    [1, 0, 32],
-    [1, 1, 2],
-    [2, 0, 0],
-    [2, 0, 5],
-    [2, 0, 11],
-    [2, 0, 32],
-    [2, 1, 2],
+/// The ring, the data at hand and the header: no header needed; an accepted chunk, an empty one, one
+/// too long, an unknown format, and one that finds no room.
+const SMALL_HEADERS: [(u64, u64, u64); 6] = [
+    (SMALL, 1, 1),
+    (SMALL, 0, 1),
+    (SMALL, 0, 0),
+    (SMALL, 0, 2),
+    (SMALL, 0, 1 << 62),
+    (SMALLER, 0, 1),
+];
+const SMALL_STATES: [State; 13] = [
+    [0, 0, 0, 0, 0],
+    [1, 0, 0, 0, 0],
+    [1, 0, 5, 0, 0],
+    [1, 0, 11, 0, 0],
+    [1, 0, 32, 0, 0],
+    [1, 1, 2, 8, 4],
+    [1, 1, 5, 57, 56],
+    [2, 0, 0, 0, 0],
+    [2, 0, 5, 0, 0],
+    [2, 0, 11, 0, 0],
+    [2, 0, 32, 0, 0],
+    [2, 1, 2, 0, 0],
+    [2, 1, 5, 1, u64::MAX],
 ];
 const SMALL_ANSWERS: [Answer; 12] = [
     [0, 0, 1],
@@ -106,21 +120,21 @@ fn small(pairs: &[Pair]) -> bool {
 }
 
 pub fn small_calls() -> String {
-    format!("all small calls of a ring of {SMALL}")
+    format!("all small calls of rings of {SMALL} and {SMALLER}")
 }
 
 /// Everything that is built of the small parts. Only a read looks at memory, so to the other calls it
 /// is lent once.
 pub fn each_small(pairs: &[Pair], mut visit: impl FnMut(&Pair, &Input)) {
     let runs = small_runs();
-    for (data, header) in SMALL_HEADERS {
+    for (ring, data, header) in SMALL_HEADERS {
         for destination in 0..=2 {
             let once = (data, destination) == (1, 0);
-            for receiver in small_receivers(data) {
+            for receiver in small_receivers(ring, data) {
                 for answers in &runs {
                     let input = Input {
                         receiver,
-                        memory: small_memory(header, destination),
+                        memory: small_memory(ring, header, destination),
                         max_new_fds: 1,
                         answers: answers.clone(),
                     };
@@ -136,22 +150,20 @@ pub fn each_small(pairs: &[Pair], mut visit: impl FnMut(&Pair, &Input)) {
     }
 }
 
-fn small_memory(header: u64, destination: u64) -> Memory {
-    let mut memory = Memory::new(&mut Random(SEED), SMALL, destination);
+fn small_memory(ring: u64, header: u64, destination: u64) -> Memory {
+    let mut memory = Memory::new(&mut Random(SEED), ring, destination);
     put_header(&mut memory, SMALL_READ, header);
     memory
 }
 
 /// Of each state, without and with a batch or more to send, and shut or not.
-fn small_receivers(data: u64) -> Vec<[u64; 8]> {
+fn small_receivers(ring: u64, data: u64) -> Vec<Receiver> {
+    let scheduler = [ring, SMALL_READ + data, SMALL_READ];
     let mut receivers = vec![];
-    for [kind, failure, value] in SMALL_STATES {
+    for state in SMALL_STATES {
         for pending in [0, 1, 129] {
             for issued in [0, 1] {
-                let written = SMALL_READ + data;
-                receivers.push([
-                    SMALL, written, SMALL_READ, kind, failure, value, pending, issued,
-                ]);
+                receivers.push(receiver(scheduler, state, pending, issued));
             }
         }
     }
@@ -226,7 +238,9 @@ impl Tried {
         let mut our_memory = input.memory.clone();
         let our = ours(input.lent(&mut our_memory));
         self.count(kind(call.kind, &rust));
-        self.count_state(input.receiver[3], &rust);
+        let before = input.receiver[3];
+        self.count_state(before, &rust);
+        self.count_announced(before, &rust);
         self.tally.compare([(rust, theirs), (our, our_memory)], || {
             format!("{} {input:?}", call.name)
         });
@@ -245,6 +259,13 @@ impl Tried {
         }
     }
 
+    /// In Normal no failure is stored, so a violation is of what was announced.
+    fn count_announced(&mut self, before: u64, row: &Row) {
+        if let (NORMAL, [FAILED, _, _, 1, violation, ..]) = (before, outcome(row)) {
+            self.count(format!("announced violation {violation}"));
+        }
+    }
+
     fn report(self, calls: &str) -> bool {
         let kinds: Vec<String> = self
             .kinds
@@ -258,10 +279,15 @@ impl Tried {
     }
 }
 
+/// Behind the refusal and the receiver. Of a refusal it is zeros.
+fn outcome(row: &Row) -> &[u64] {
+    &row[4 + RECEIVER..]
+}
+
 /// What an answer is counted as.
 fn kind(call: Kind, row: &Row) -> String {
     let [number, place, ..] = *row;
-    let outcome = &row[12..];
+    let outcome = outcome(row);
     match (number, outcome[0]) {
         (12, _) if place == 0 => "refused 12 at 0".to_string(),
         (1.., _) => format!("refused {number}"),

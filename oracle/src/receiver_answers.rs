@@ -1,24 +1,35 @@
 //! The answers of receiver.rs as plain numbers, call by call.
 //!
-//! A failure is 0 and an errno, or 1 and a violation's number: 1 InvalidChunkAnnouncement,
-//! 2 ControlOverflow, 3 UnknownHeader, 4 InvalidChunkLength. A state is 0, 0, 0 for Normal, or 1 for
-//! Draining, 2 for Terminated, and its failure. A receiver is L, written, read, its state, the count
-//! of pending acknowledgements, and 1 if a shutdown has succeeded.
+//! A failure is 0, an errno and two zeros, or 1, a violation's number, the bytes needed and the room:
+//! 1 InvalidChunkAnnouncement, 2 HeaderOverflow, 3 UnknownHeader, 4 InvalidChunkLength,
+//! 5 BodyOverflow. Only 2 and 5 have bytes and room; the Rust has one ControlOverflow for both, and
+//! which of them it is, with what numbers, says the model in overflow.rs. A state is zeros for Normal,
+//! or 1 for Draining, 2 for Terminated, and its failure. A receiver is L, written, read, its state, the
+//! count of pending acknowledgements, and 1 if a shutdown has succeeded.
 //!
 //! The tests of what is handed in (1 to 5, 9, 12 with place 0, 13) stand before a call here, in the
 //! order of docs/PAPER.md: receiver.rs cannot be handed such a thing, or would panic.
 
+use crate::overflow::{Violation, counts_as};
+use crate::receiver_standins::announce_to;
 use crate::receiver_standins::io::fd_stream::ReadWithFdsResult;
 use crate::receiver_standins::rustix::io::Errno;
 use crate::rosenpass::receiver::{ReceiverFrame, ReceiverState, State};
 use crate::rosenpass::shared::SharedState;
-use crate::rosenpass::{ShmProtocolViolation, ShmStreamError};
+use crate::rosenpass::{ShmProtocolViolation as V, ShmStreamError};
 use crate::sched_answers::{Answer, Call, Input, Numbers, Refusal, call, refusal, s};
 use crate::sched_flat::{Flat, flat};
 use crate::scripted_socket;
 use std::fs::File;
 use std::os::fd::OwnedFd;
 use std::panic::{AssertUnwindSafe, catch_unwind, resume_unwind};
+
+// How many numbers each has.
+pub const FAILURE: usize = 4;
+pub const STATE: usize = 1 + FAILURE;
+pub const RECEIVER: usize = 3 + STATE + 2;
+/// See `RUN_CALLS`.
+pub const OUTCOME: usize = 3 + FAILURE;
 
 /// What a call of the states can take.
 #[derive(Clone, Copy)]
@@ -54,26 +65,26 @@ pub const STATE_CALLS: [Call<Part>; 8] = [
 ];
 
 fn with_failure(i: &Input) -> Answer {
-    let (state, reason) = (state(i)?, failure(&i[3..])?);
+    let (state, reason) = (state(i)?, failure(&i[STATE..])?);
     flat(state.with_failure(reason))
 }
 
 fn with_potential_failure(i: &Input) -> Answer {
     let state = state(i)?;
-    let reason = match i[3] {
+    let reason = match i[STATE] {
         0 => None,
-        _ => Some(failure(&i[4..])?),
+        _ => Some(failure(&i[STATE + 1..])?),
     };
     flat(state.with_potential_failure(reason))
 }
 
 fn advance_state(i: &Input) -> Answer {
-    let (from, to) = (state(i)?, state(&i[3..])?);
+    let (from, to) = (state(i)?, state(&i[STATE..])?);
     flat(from.advance_state_towards_termination(to))
 }
 
 fn advance_failure(i: &Input) -> Answer {
-    let (cached, error) = (failure(i)?, failure(&i[2..])?);
+    let (cached, error) = (failure(i)?, failure(&i[FAILURE..])?);
     flat(cached.advance_failure_towards_error(error))
 }
 
@@ -95,7 +106,7 @@ pub enum Kind {
 
 /// What is lent to it.
 pub struct Lent<'a> {
-    pub receiver: [u64; 8],
+    pub receiver: [u64; RECEIVER],
     /// No call changes it. It is lent to be changed so that one which does is seen.
     pub ring: &'a mut [u8],
     pub destination: &'a mut [u8],
@@ -157,6 +168,7 @@ fn ended<T: Flat>(
 ) -> Answer {
     let ring = lent.ring.to_vec();
     let shared = SharedState { ring };
+    announce_to(receiver.parts().0.buf_len());
     let mut frame = ReceiverFrame { shared, receiver };
     scripted_socket::lend(lent.answers);
     match catch_unwind(AssertUnwindSafe(|| call(&mut frame))) {
@@ -195,14 +207,18 @@ fn socket() -> OwnedFd {
 
 /// Refused with 12 and place 0 where an errno is not from 1 to 4095.
 fn failure(i: &[u64]) -> Result<ShmStreamError, Refusal> {
-    use ShmProtocolViolation as V;
     match (i[0], i[1]) {
         (0, errno @ 1..=4095) => Ok(ShmStreamError::Io(Errno(errno))),
         (0, _) => Err(refusal(&[12, 0])),
-        (_, 1) => Ok(ShmStreamError::Protocol(V::InvalidChunkAnnouncement)),
-        (_, 2) => Ok(ShmStreamError::Protocol(V::ControlOverflow)),
-        (_, 3) => Ok(ShmStreamError::Protocol(V::UnknownHeader)),
-        _ => Ok(ShmStreamError::Protocol(V::InvalidChunkLength)),
+        (_, number) => Ok(violation([number, i[2], i[3]])),
+    }
+}
+
+/// An overflow has any numbers, and of the others they are not looked at.
+fn violation(numbers: Violation) -> ShmStreamError {
+    match counts_as(numbers[0]) {
+        overflow @ V::ControlOverflow => ShmStreamError::Protocol(overflow, numbers),
+        other => ShmStreamError::plain(other),
     }
 }
 
@@ -214,11 +230,15 @@ fn state(i: &[u64]) -> Result<State, Refusal> {
     }
 }
 
+/// A violation has the number of docs/PAPER.md, and it counts as the one of the Rust.
 impl Flat for ShmStreamError {
     fn push_to(self, numbers: &mut Numbers) {
         match self {
-            ShmStreamError::Io(errno) => numbers.push(&[0, errno.0]),
-            ShmStreamError::Protocol(violation) => numbers.push(&[1, violation as u64]),
+            ShmStreamError::Io(errno) => numbers.push(&[0, errno.0, 0, 0]),
+            ShmStreamError::Protocol(violation, [number, needed, room]) => {
+                assert_eq!(counts_as(number), violation, "not what the Rust says");
+                numbers.push(&[1, number, needed, room]);
+            }
         }
     }
 }
@@ -234,7 +254,7 @@ impl Flat for Option<ShmStreamError> {
 fn push_failure(failure: Option<ShmStreamError>, numbers: &mut Numbers) {
     match failure {
         Some(failure) => failure.push_to(numbers),
-        None => numbers.push(&[0, 0]),
+        None => numbers.push(&[0; FAILURE]),
     }
 }
 

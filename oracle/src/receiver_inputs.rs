@@ -4,7 +4,7 @@
 use crate::memory::Memory;
 use crate::numbers::Random;
 use crate::sched_inputs::{data, sound_scheduler};
-use oracle::receiver_answers::{Kind, Lent, Part};
+use oracle::receiver_answers::{FAILURE, Kind, Lent, Part, RECEIVER, STATE};
 use oracle::scripted_socket::Answer;
 
 const M: u64 = u64::MAX;
@@ -17,29 +17,47 @@ const NORMAL: u64 = 0;
 const DRAINING: u64 = 1;
 const TERMINATED: u64 = 2;
 
-/// Errnos that fit, interruption, blocked and the stream's end among them, and the four violations.
-const FAILURES: [[u64; 2]; 11] = [
-    [0, 1],
-    [0, 4],
-    [0, 5],
-    [0, 11],
-    [0, 32],
-    [0, 104],
-    [0, 4095],
-    [1, 1],
-    [1, 2],
-    [1, 3],
-    [1, 4],
+/// The numbers of a failure.
+type Failure = [u64; FAILURE];
+/// The numbers of a state.
+pub type State = [u64; STATE];
+/// The numbers of a receiver.
+pub type Receiver = [u64; RECEIVER];
+
+/// Errnos that fit, interruption, blocked and the stream's end among them, the five violations, and two numbers that
+/// none has. Of all but the overflows, 2 and 5, the last two numbers are not looked at.
+const FAILURES: [Failure; 21] = [
+    [0, 1, 0, 0],
+    [0, 4, 8, 4],
+    [0, 5, 0, 0],
+    [0, 11, 0, 0],
+    [0, 11, 57, 56],
+    [0, 32, 0, 0],
+    [0, 32, 8, 4],
+    [0, 104, M, 0],
+    [0, 4095, 0, M],
+    [1, 1, 8, 4],
+    [1, 2, 0, 0],
+    [1, 2, 8, 4],
+    [1, 2, 4, M],
+    [1, 3, 0, M],
+    [1, 4, 57, 56],
+    [1, 5, 0, 0],
+    [1, 5, 57, 56],
+    [1, 5, 56, 57],
+    [1, 5, M, 0],
+    [1, 0, 8, 4],
+    [1, 6, 57, 56],
 ];
 /// Errnos that do not fit.
-const MISFITS: [[u64; 2]; 3] = [[0, 0], [0, 4096], [0, M]];
+const MISFITS: [Failure; 3] = [[0, 0, 0, 0], [0, 4096, 8, 4], [0, M, M, M]];
 /// Around the batch of 128, and the ends.
 const PENDING: [u64; 12] = [0, 1, 2, 127, 128, 129, 255, 256, 257, 300, M - 1, M];
 
 /// What a call over a run of answers takes.
 #[derive(Clone, Debug)]
 pub struct Input {
-    pub receiver: [u64; 8],
+    pub receiver: Receiver,
     /// The ring and the destination.
     pub memory: Memory,
     pub max_new_fds: u64,
@@ -71,10 +89,9 @@ impl Input {
         let destination = destination_length(random, at_hand, ring);
         let mut memory = Memory::new(random, ring, destination);
         write_header(random, &mut memory, scheduler[2], length);
-        let [state, failure, value] = state(random);
+        let state = state(random);
         let (pending, issued) = (pending(random), random.next() % 2);
-        let [l, written, read] = scheduler;
-        let receiver = [l, written, read, state, failure, value, pending, issued];
+        let receiver = receiver(scheduler, state, pending, issued);
         let max_new_fds = pick(random, &[0, 1, 2, 3, M]);
         let announces = kind == Kind::Read && data(scheduler) == 0;
         Self {
@@ -90,7 +107,7 @@ impl Input {
 /// at.
 pub fn values(part: Part) -> Vec<Vec<u64>> {
     let failures = [&FAILURES[..], &MISFITS].concat();
-    let bare = [[0, 0], [0, 4096]];
+    let bare = [[0, 0, 0, 0], [0, 4096, 8, 4]];
     match part {
         Part::Scheduler => panic!("a scheduler is chosen apart"),
         Part::Failure => failures.iter().map(|failure| failure.to_vec()).collect(),
@@ -103,11 +120,23 @@ pub fn values(part: Part) -> Vec<Vec<u64>> {
     }
 }
 
-fn with_kinds(kinds: &[(u64, &[[u64; 2]])]) -> Vec<Vec<u64>> {
+fn with_kinds(kinds: &[(u64, &[Failure])]) -> Vec<Vec<u64>> {
     kinds
         .iter()
-        .flat_map(|&(kind, failures)| failures.iter().map(move |f| vec![kind, f[0], f[1]]))
+        .flat_map(|&(kind, failures)| failures.iter().map(move |f| [&[kind], &f[..]].concat()))
         .collect()
+}
+
+/// Its numbers, in their order.
+pub const fn receiver(
+    [l, written, read]: [u64; 3],
+    [kind, failure, value, needed, room]: State,
+    pending: u64,
+    issued: u64,
+) -> Receiver {
+    [
+        l, written, read, kind, failure, value, needed, room, pending, issued,
+    ]
 }
 
 pub fn pick<T: Copy>(random: &mut Random, choices: &[T]) -> T {
@@ -189,21 +218,27 @@ pub fn header_into(ring: &mut [u8], read: u64, header: u64) {
     }
 }
 
-fn state(random: &mut Random) -> [u64; 3] {
+fn state(random: &mut Random) -> State {
     let kind = match random.next() % 8 {
         0 => TERMINATED,
         1..4 => DRAINING,
         _ => NORMAL,
     };
-    let [failure, value] = failure(random);
-    [kind, failure, value]
+    let [failure, value, needed, room] = failure(random);
+    [kind, failure, value, needed, room]
 }
 
-fn failure(random: &mut Random) -> [u64; 2] {
+fn failure(random: &mut Random) -> Failure {
     match random.next() % 32 {
         0 => pick(random, &MISFITS),
+        1..8 => any_violation(random),
         _ => pick(random, &FAILURES),
     }
+}
+
+/// With any numbers; 0, 6 and 7 no violation has.
+fn any_violation(random: &mut Random) -> Failure {
+    [1, random.next() % 8, random.mixed(8), random.mixed(8)]
 }
 
 fn pending(random: &mut Random) -> u64 {

@@ -1,9 +1,10 @@
 //! The receiver's rows of docs/PAPER.md ("The table") and the inputs of its "Readings" that tell two
 //! readings of the receiver apart, on the Rust.
 
-use crate::receiver_inputs::header_into;
+use crate::receiver_inputs::{Receiver, State, header_into, receiver as at};
 use crate::tally::Tally;
-use oracle::receiver_answers::{Lent, RUN_CALLS, STATE_CALLS};
+use oracle::overflow::Violation;
+use oracle::receiver_answers::{Lent, OUTCOME, RECEIVER, RUN_CALLS, STATE_CALLS};
 use oracle::sched_answers::{Numbers, line};
 use oracle::scripted_socket::Answer;
 
@@ -14,10 +15,14 @@ const UNKNOWN: u64 = 1 << 62;
 pub fn run() -> bool {
     let mut tally = Tally::new(["the Rust", "expected"]);
     for (name, numbers, want) in STATE_ROWS {
-        let call = STATE_CALLS.iter().find(|call| call.name == *name);
-        let input: Numbers = (*numbers).into();
-        let got = line(&(call.expect(name).answer)(&input.all));
-        tally.compare([got, want.to_vec()], || format!("{name} {numbers:?}"));
+        tally.compare([answered(name, numbers), want.to_vec()], || {
+            format!("{name} {numbers:?}")
+        });
+    }
+    for (from, to, want) in ADVANCED {
+        let got = answered(ADVANCE, &[*from, *to].concat());
+        let want = [&[0], &want[..]].concat();
+        tally.compare([got, want], || format!("{ADVANCE} {from:?} {to:?}"));
     }
     for (name, receiver, lent, answers, want) in RUN_ROWS {
         let got = ran(name, *receiver, *lent, answers);
@@ -25,25 +30,32 @@ pub fn run() -> bool {
             format!("{name} {receiver:?} {lent:?} {answers:?}")
         });
     }
-    tally.report(
-        "receiver-paper: receiver.rs against the rows of docs/PAPER.md",
-    )
+    tally.report("receiver-paper: receiver.rs against the rows of docs/PAPER.md")
+}
+
+fn answered(name: &str, numbers: &[u64]) -> Vec<u64> {
+    let call = STATE_CALLS.iter().find(|call| call.name == name);
+    let input: Numbers = numbers.into();
+    line(&(call.expect(name).answer)(&input.all))
 }
 
 /// What is lent to a read: how many bytes of a ring, the header in it unless a chunk is in progress,
 /// how many bytes of a destination, and the greatest count of descriptors.
 type Memory = (usize, u64, usize, u64);
 
+/// The numbers of an outcome.
+type Outcome = [u64; OUTCOME];
+
 enum Want {
     Refused(&'static [u64]),
     /// The receiver, the outcome, and how many answers were used.
-    Ended([u64; 8], [u64; 5], u64),
+    Ended(Receiver, Outcome, u64),
 }
 use Want::{Ended, Refused};
 
 /// The answer, and the bytes that were read. Each byte of a ring but a header's is its place, so
 /// these tell where they came from.
-fn ran(name: &str, receiver: [u64; 8], lent: Memory, answers: &[Answer]) -> Vec<u64> {
+fn ran(name: &str, receiver: Receiver, lent: Memory, answers: &[Answer]) -> Vec<u64> {
     let (ring, header, destination, max_new_fds) = lent;
     let mut ring: Vec<u8> = (0..ring).map(|place| place as u8).collect();
     let [_, written, read, ..] = receiver;
@@ -59,7 +71,9 @@ fn ran(name: &str, receiver: [u64; 8], lent: Memory, answers: &[Answer]) -> Vec<
         max_new_fds,
         answers,
     });
-    let n = answer.as_ref().map_or(0, |numbers| numbers.all[9]);
+    let n = answer
+        .as_ref()
+        .map_or(0, |numbers| numbers.all[RECEIVER + 1]);
     let read = destination.iter().take(n as usize).map(|&byte| byte.into());
     line(&answer).into_iter().chain(read).collect()
 }
@@ -77,44 +91,53 @@ fn wanted(want: &Want) -> Vec<u64> {
     }
 }
 
-const fn at(
-    [l, written, read]: [u64; 3],
-    [kind, failure, value]: [u64; 3],
-    pending: u64,
-    issued: u64,
-) -> [u64; 8] {
-    [l, written, read, kind, failure, value, pending, issued]
+// Violations.
+const V1: Violation = [1, 0, 0];
+const V3: Violation = [3, 0, 0];
+const V4: Violation = [4, 0, 0];
+
+const fn v2(needed: u64, room: u64) -> Violation {
+    [2, needed, room]
+}
+
+const fn v5(needed: u64, room: u64) -> Violation {
+    [5, needed, room]
 }
 
 // States.
-const N: [u64; 3] = [0, 0, 0];
+const N: State = [0; 5];
 
-const fn d(errno: u64) -> [u64; 3] {
-    [1, 0, errno]
+const fn d(errno: u64) -> State {
+    [1, 0, errno, 0, 0]
 }
 
-const fn t(errno: u64) -> [u64; 3] {
-    [2, 0, errno]
+const fn t(errno: u64) -> State {
+    [2, 0, errno, 0, 0]
+}
+
+/// Draining by a violation.
+const fn dv([number, needed, room]: Violation) -> State {
+    [1, 1, number, needed, room]
 }
 
 /// Terminated by a violation.
-const fn tv(violation: u64) -> [u64; 3] {
-    [2, 1, violation]
+const fn tv([number, needed, room]: Violation) -> State {
+    [2, 1, number, needed, room]
 }
 
 // Outcomes.
-const DONE: [u64; 5] = [1, 0, 0, 0, 0];
+const DONE: Outcome = [1, 0, 0, 0, 0, 0, 0];
 
-const fn read(n: u64, fds: u64) -> [u64; 5] {
-    [0, n, fds, 0, 0]
+const fn read(n: u64, fds: u64) -> Outcome {
+    [0, n, fds, 0, 0, 0, 0]
 }
 
-const fn failed(errno: u64) -> [u64; 5] {
-    [2, 0, 0, 0, errno]
+const fn failed(errno: u64) -> Outcome {
+    [2, 0, 0, 0, errno, 0, 0]
 }
 
-const fn violated(violation: u64) -> [u64; 5] {
-    [2, 0, 0, 1, violation]
+const fn violated([number, needed, room]: Violation) -> Outcome {
+    [2, 0, 0, 1, number, needed, room]
 }
 
 // Answers.
@@ -145,30 +168,48 @@ const NONE: Memory = (0, 0, 0, 0);
 const EMPTY: [u64; 3] = [64, 0, 0];
 const FIVE: [u64; 3] = [64, 5, 0];
 
+/// A state, the one that it is advanced by, and what becomes of it.
+#[rustfmt::skip]
+const ADVANCED: &[(State, State, State)] = &[
+    // The rows of the paper.
+    (d(32), t(11), d(32)),
+    (d(5), t(32), t(5)),
+    (t(11), d(5), d(5)),
+
+    // The reason rule: 32 gives way, also to a violation, and nothing else does. It does not look at an overflow's numbers.
+    (d(32), d(5), d(5)),
+    (d(32), t(5), t(5)),
+    (d(32), tv(v2(0, 0)), tv(v2(0, 0))),
+    (d(32), tv(v5(57, 56)), tv(v5(57, 56))),
+    (dv(v2(8, 4)), t(5), tv(v2(8, 4))),
+    (dv(v5(57, 56)), t(5), tv(v5(57, 56))),
+    (dv(v5(57, 56)), tv(v5(65, 56)), tv(v5(57, 56))),
+    (dv(v2(8, 4)), tv(v5(57, 56)), tv(v2(8, 4))),
+    (t(32), t(5), t(32)),
+];
+
 /// A call, what it is asked, and its answer: 0 and the numbers, or the refusal.
 #[rustfmt::skip]
 const STATE_ROWS: &[(&str, &[u64], &[u64])] = &[
-    // The rows of the paper.
-    (ADVANCE, &[1, 0, 32, 2, 0, 11], &[0, 1, 0, 32]),
-    (ADVANCE, &[1, 0, 5, 2, 0, 32], &[0, 2, 0, 5]),
-    (ADVANCE, &[2, 0, 11, 1, 0, 5], &[0, 1, 0, 5]),
-
-    // The reason rule: 32 gives way, also to a violation, and nothing else does.
-    (ADVANCE, &[1, 0, 32, 1, 0, 5], &[0, 1, 0, 5]),
-    (ADVANCE, &[1, 0, 32, 2, 0, 5], &[0, 2, 0, 5]),
-    (ADVANCE, &[1, 0, 32, 2, 1, 2], &[0, 2, 1, 2]),
-    (ADVANCE, &[1, 1, 2, 2, 0, 5], &[0, 2, 1, 2]),
-    (ADVANCE, &[2, 0, 32, 2, 0, 5], &[0, 2, 0, 32]),
-
     // An errno that does not fit, also where it would not be used.
-    ("state_with_failure", &[0, 0, 0, 0, 5000], &[12, 0]),
-    (ADVANCE, &[0, 0, 0, 2, 0, 0], &[12, 0]),
-    ("state_failure", &[2, 0, 4095], &[0, 1, 0, 4095]),
-    ("state_failure", &[2, 0, 4096], &[12, 0]),
+    ("state_with_failure", &[0, 0, 0, 0, 0, 0, 5000, 0, 0], &[12, 0]),
+    (ADVANCE, &[0, 0, 0, 0, 0, 2, 0, 0, 0, 0], &[12, 0]),
+    ("state_failure", &[2, 0, 4095, 0, 0], &[0, 1, 0, 4095, 0, 0]),
+    ("state_failure", &[2, 0, 4096, 0, 0], &[12, 0]),
+
+    // An overflow with any numbers, which the other failures have not; and numbers that no violation has.
+    ("state_failure", &[2, 1, 2, 0, 0], &[0, 1, 1, 2, 0, 0]),
+    ("state_failure", &[1, 1, 5, M, 1], &[0, 1, 1, 5, M, 1]),
+    ("failure_normalize", &[0, 32, 8, 4], &[0, 0, 32, 0, 0]),
+    ("failure_normalize", &[1, 1, 8, 4], &[0, 1, 1, 0, 0]),
+    ("failure_normalize", &[1, 3, 8, 4], &[0, 1, 3, 0, 0]),
+    ("failure_normalize", &[1, 4, 8, 4], &[0, 1, 4, 0, 0]),
+    ("failure_normalize", &[1, 0, 8, 4], &[0, 1, 4, 0, 0]),
+    ("failure_normalize", &[1, 6, 8, 4], &[0, 1, 4, 0, 0]),
 ];
 
 /// A call, the receiver, what is lent, the socket's answers, and what comes of it.
-type RunRow = (&'static str, [u64; 8], Memory, &'static [Answer], Want);
+type RunRow = (&'static str, Receiver, Memory, &'static [Answer], Want);
 
 #[rustfmt::skip]
 const RUN_ROWS: &[RunRow] = &[
@@ -176,18 +217,38 @@ const RUN_ROWS: &[RunRow] = &[
     (SERVICE, at(EMPTY, N, 300, 0), NONE, &[sent(128), sent(128), fails(11)], Ended(at(EMPTY, N, 44, 0), DONE, 3)),
 
     // A violation leaves the scheduler as it was before the announcement.
-    (READ, at(EMPTY, N, 0, 0), (64, 65, 9, 1), &[byte(0, 1), SHUT], Ended(at(EMPTY, tv(2), 0, 1), violated(2), 2)),
-    (READ, at(EMPTY, N, 0, 0), (64, 0, 9, 1), &[byte(0, 1), SHUT], Ended(at(EMPTY, tv(4), 0, 1), violated(4), 2)),
-    (READ, at(EMPTY, N, 0, 0), (64, UNKNOWN, 9, 1), &[byte(0, 1), SHUT], Ended(at(EMPTY, tv(3), 0, 1), violated(3), 2)),
-    (READ, at(EMPTY, N, 0, 0), (64, UNKNOWN + 5, 9, 1), &[byte(0, 1), SHUT], Ended(at(EMPTY, tv(3), 0, 1), violated(3), 2)),
+    (READ, at(EMPTY, N, 0, 0), (64, 65, 9, 1), &[byte(0, 1), SHUT],
+        Ended(at(EMPTY, tv(v5(65, 56)), 0, 1), violated(v5(65, 56)), 2)),
+    (READ, at(EMPTY, N, 0, 0), (64, 0, 9, 1), &[byte(0, 1), SHUT], Ended(at(EMPTY, tv(V4), 0, 1), violated(V4), 2)),
+    (READ, at(EMPTY, N, 0, 0), (64, UNKNOWN, 9, 1), &[byte(0, 1), SHUT], Ended(at(EMPTY, tv(V3), 0, 1), violated(V3), 2)),
+    (READ, at(EMPTY, N, 0, 0), (64, UNKNOWN + 5, 9, 1), &[byte(0, 1), SHUT], Ended(at(EMPTY, tv(V3), 0, 1), violated(V3), 2)),
+    (READ, at(EMPTY, N, 0, 0), (64, UNKNOWN + 57, 9, 1), &[byte(0, 1), SHUT], Ended(at(EMPTY, tv(V3), 0, 1), violated(V3), 2)),
 
-    // Eight bytes stay free behind a body.
+    // Eight bytes stay free behind a body. Where a part overflows it is told which, what it needed and the room.
     (READ, at(EMPTY, N, 0, 0), (64, 56, 9, 1), &[byte(0, 1)], Ended(at([64, 64, 17], N, 0, 0), read(9, 1), 1)),
-    (READ, at(EMPTY, N, 0, 0), (64, 57, 9, 1), &[byte(0, 1), SHUT], Ended(at(EMPTY, tv(2), 0, 1), violated(2), 2)),
-    (READ, at(EMPTY, N, 0, 0), (64, 64, 9, 1), &[byte(0, 1), SHUT], Ended(at(EMPTY, tv(2), 0, 1), violated(2), 2)),
+    (READ, at(EMPTY, N, 0, 0), (64, 57, 9, 1), &[byte(0, 1), SHUT],
+        Ended(at(EMPTY, tv(v5(57, 56)), 0, 1), violated(v5(57, 56)), 2)),
+    (READ, at(EMPTY, N, 0, 0), (64, 64, 9, 1), &[byte(0, 1), SHUT],
+        Ended(at(EMPTY, tv(v5(64, 56)), 0, 1), violated(v5(64, 56)), 2)),
     (READ, at([9, 0, 0], N, 0, 0), (9, 1, 9, 1), &[byte(0, 0), sent(1)], Ended(at([9, 9, 9], N, 0, 0), read(1, 0), 2)),
-    (READ, at([8, 0, 0], N, 0, 0), (8, 1, 9, 1), &[byte(0, 0), SHUT], Ended(at([8, 0, 0], tv(2), 0, 1), violated(2), 2)),
-    (READ, at([7, 0, 0], N, 0, 0), (7, 1, 9, 1), &[byte(0, 0), SHUT], Ended(at([7, 0, 0], tv(2), 0, 1), violated(2), 2)),
+    (READ, at([8, 0, 0], N, 0, 0), (8, 1, 9, 1), &[byte(0, 0), SHUT],
+        Ended(at([8, 0, 0], tv(v5(1, 0)), 0, 1), violated(v5(1, 0)), 2)),
+    (READ, at([8, 0, 0], N, 0, 0), (8, 0, 9, 1), &[byte(0, 0), SHUT], Ended(at([8, 0, 0], tv(V4), 0, 1), violated(V4), 2)),
+    (READ, at([7, 0, 0], N, 0, 0), (7, 1, 9, 1), &[byte(0, 0), SHUT],
+        Ended(at([7, 0, 0], tv(v2(8, 7)), 0, 1), violated(v2(8, 7)), 2)),
+    (READ, at([4, 0, 0], N, 0, 0), (4, 1, 9, 1), &[byte(0, 0), SHUT],
+        Ended(at([4, 0, 0], tv(v2(8, 4)), 0, 1), violated(v2(8, 4)), 2)),
+
+    // An overflow that is stored is answered as it stands, whatever its numbers are. One that is announced is answered, and gives
+    // way to the older reason where it is stored.
+    (READ, at(EMPTY, tv(v2(0, 0)), 0, 0), (64, 0, 9, 1), &[], Ended(at(EMPTY, tv(v2(0, 0)), 0, 0), violated(v2(0, 0)), 0)),
+    (SERVICE, at(EMPTY, dv(v5(1, M)), 3, 0), NONE, &[], Ended(at(EMPTY, dv(v5(1, M)), 3, 0), violated(v5(1, M)), 0)),
+    (READ, at(EMPTY, dv(v5(57, 56)), 0, 1), (64, 0, 9, 1), &[fails(11)],
+        Ended(at(EMPTY, tv(v5(57, 56)), 0, 1), violated(v5(57, 56)), 1)),
+    (READ, at(EMPTY, d(32), 0, 1), (64, 57, 9, 1), &[byte(0, 1)],
+        Ended(at(EMPTY, tv(v5(57, 56)), 0, 1), violated(v5(57, 56)), 1)),
+    (READ, at(EMPTY, dv(v2(8, 4)), 0, 1), (64, 57, 9, 1), &[byte(0, 1)],
+        Ended(at(EMPTY, tv(v2(8, 4)), 0, 1), violated(v5(57, 56)), 1)),
 
     // A header that goes round the end of the ring: 5 bytes of it before, 3 behind; then the body. Its tag is not used.
     (READ, at([20, 15, 15], N, 0, 0), (20, 0x3fff << 48 | 4, 9, 1), &[byte(0, 1), sent(1)],
@@ -229,7 +290,7 @@ const RUN_ROWS: &[RunRow] = &[
     // The byte: what its place cannot have is tested before what it says.
     (READ, at(EMPTY, N, 0, 0), (64, 5, 9, 1), &[byte(7, 2)], Refused(&[12, 1])),
     (READ, at(EMPTY, N, 0, 0), (64, 5, 9, 1), &[byte(256, 0)], Refused(&[12, 1])),
-    (READ, at(EMPTY, N, 0, 0), (64, 5, 9, 1), &[byte(7, 1), SHUT], Ended(at(EMPTY, tv(1), 0, 1), violated(1), 2)),
+    (READ, at(EMPTY, N, 0, 0), (64, 5, 9, 1), &[byte(7, 1), SHUT], Ended(at(EMPTY, tv(V1), 0, 1), violated(V1), 2)),
     (READ, at(EMPTY, N, 0, 0), (64, 5, 9, 1), &[fails(4), fails(4), byte(7, 2)], Refused(&[12, 3])),
 
     // Draining sends nothing and reads on.

@@ -2,14 +2,16 @@
 //! crates that it uses. Where the words of receiver.rs do not force a meaning, it is that of document
 //! 01, and so nothing is shown there by a comparison (docs/DIFFERENCES.md lists these).
 
+use crate::overflow::{Violation, overflowed};
 use rustix::io::Errno;
 use std::cell::Cell;
 
-/// What a stream fails with. Its two cases are those that receiver.rs makes it from.
+/// What a stream fails with. Its two cases are those that receiver.rs makes it from. Beside the Rust's
+/// violation stands the one of docs/PAPER.md: receiver.rs carries it along and does not look at it.
 #[derive(Debug, Clone, Copy, PartialEq, Eq)]
 pub enum ShmStreamError {
     Io(Errno),
-    Protocol(ShmProtocolViolation),
+    Protocol(ShmProtocolViolation, Violation),
 }
 
 /// `UnknownHeader` is of docs/PAPER.md alone ("Violations"); receiver.rs names the others.
@@ -21,14 +23,34 @@ pub enum ShmProtocolViolation {
     InvalidChunkLength,
 }
 
+/// What a violation is told from.
+#[derive(Clone, Copy, Default)]
+struct Announced {
+    /// The ring's length.
+    ring: u64,
+    /// The length that the header says; none before it is read, and none of an unknown format.
+    length: Option<u64>,
+}
+
 thread_local! {
-    /// Whether the length that was asked for last was of a header with an unknown format.
-    static UNKNOWN_FORMAT: Cell<bool> = const { Cell::new(false) };
+    /// Of the call that runs: receiver.rs says which violation it is, and nothing else.
+    static ANNOUNCED: Cell<Announced> = Cell::default();
+}
+
+/// Before a call of receiver.rs, so that nothing of the one before is left.
+pub fn announce_to(ring: u64) {
+    let length = None;
+    ANNOUNCED.set(Announced { ring, length });
 }
 
 impl ShmStreamError {
     /// docs/PAPER.md, "Failures": an orderly end of the stream is errno 32.
     pub const SHUTDOWN: Self = Self::Io(Errno::PIPE);
+
+    /// A violation in which nothing overflowed.
+    pub fn plain(violation: ShmProtocolViolation) -> Self {
+        Self::Protocol(violation, [violation as u64, 0, 0])
+    }
 
     /// A state is to be Normal for WOULDBLOCK and for EAGAIN, and behind this only WOULDBLOCK is
     /// tested: so it makes the one of the other, and on Linux they are one number.
@@ -76,19 +98,24 @@ impl From<Errno> for ShmStreamError {
 
 /// `Err(ShmProtocolViolation::ControlOverflow)?` needs it. receiver.rs has no place for a format
 /// that is unknown: such a header has the length 0 here, and what comes of that is named for what it
-/// was.
+/// was. Nor has it one for the part that overflowed: that is the model's.
 impl From<ShmProtocolViolation> for ShmStreamError {
     fn from(violation: ShmProtocolViolation) -> Self {
         use ShmProtocolViolation as V;
+        let Announced { ring, length } = ANNOUNCED.get();
         match violation {
-            V::InvalidChunkLength if UNKNOWN_FORMAT.get() => Self::Protocol(V::UnknownHeader),
-            _ => Self::Protocol(violation),
+            V::InvalidChunkLength if length.is_none() => Self::plain(V::UnknownHeader),
+            V::ControlOverflow => {
+                let part = overflowed(ring, length.unwrap_or(0));
+                Self::Protocol(violation, part.expect("a part without room"))
+            }
+            _ => Self::plain(violation),
         }
     }
 }
 
 pub mod shared {
-    use super::{UNKNOWN_FORMAT, zerocopy};
+    use super::{ANNOUNCED, Announced, zerocopy};
     use crate::rosenpass::sched::RingBufferScheduler;
 
     /// docs/PAPER.md, "The header": 8 bytes, most significant first.
@@ -100,12 +127,11 @@ pub mod shared {
         /// than 0 is unknown, see `ShmStreamError`'s `From`.
         pub fn payload_len(self) -> usize {
             let bits = u64::from_be_bytes(self.0);
-            let unknown = bits >> 62 != 0;
-            UNKNOWN_FORMAT.set(unknown);
-            match unknown {
-                true => 0,
-                false => (bits & ((1 << 48) - 1)) as usize,
-            }
+            let known = bits >> 62 == 0;
+            let length = known.then_some(bits & ((1 << 48) - 1));
+            let Announced { ring, .. } = ANNOUNCED.get();
+            ANNOUNCED.set(Announced { ring, length });
+            length.unwrap_or(0) as usize
         }
     }
 

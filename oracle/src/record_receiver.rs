@@ -8,8 +8,10 @@ use oracle::receiver_answers::{Kind, Part, RUN_CALLS, RunCall, STATE_CALLS};
 use oracle::sched_answers::line;
 
 const SEED: u64 = 1;
-/// The longest ring: with it a line has at most 128 numbers, which is what the replay program holds.
-const LONGEST: u64 = 32;
+/// So many numbers of a line the replay program holds.
+const HELD: usize = 128;
+/// The longest ring, so that no line has more: a read has its bytes and, in the destination, as many and 3.
+const LONGEST: u64 = 30;
 /// Every byte of a destination before the call.
 const BEFORE: u8 = 170;
 
@@ -88,15 +90,23 @@ fn print_head() {
     println!("#   of the destination. Before the call each is {BEFORE}, and after a refusal still");
     println!("# scheduler: L written read");
     println!(
-        "# failure: 0 and an errno, or 1 and a violation; violation: 1 InvalidChunkAnnouncement,"
+        "# failure: 0, an errno and two numbers that are not looked at, in an answer 0; or 1, a"
     );
-    println!("#   2 ControlOverflow, 3 UnknownHeader, 4 InvalidChunkLength");
+    println!("#   violation, the bytes needed and the room");
+    println!("# violation: 1 InvalidChunkAnnouncement, 2 HeaderOverflow, 3 UnknownHeader,");
     println!(
-        "# some failure, and a potential failure: 1 and a failure, or 0 and two numbers that are not looked"
+        "#   4 InvalidChunkLength, 5 BodyOverflow; a number that none has is taken for 4. Of all but"
     );
-    println!("#   at, in an answer 0");
     println!(
-        "# state: 0 Normal and two numbers that are not looked at, in an answer 0; 1 Draining or"
+        "#   2 and 5 the bytes and the room are not looked at, in an answer 0. The Rust has one"
+    );
+    println!("#   ControlOverflow for 2 and 5; which it is, and its numbers, are by a model");
+    println!(
+        "# some failure, and a potential failure: 1 and a failure, or 0 and four numbers that are not"
+    );
+    println!("#   looked at, in an answer 0");
+    println!(
+        "# state: 0 Normal and four numbers that are not looked at, in an answer 0; 1 Draining or"
     );
     println!("#   2 Terminated and a failure");
     println!(
@@ -146,5 +156,6 @@ fn numbers(bytes: &[u8]) -> Vec<u64> {
 
 fn print_line(parts: &[&[u64]]) {
     let words: Vec<String> = parts.concat().iter().map(u64::to_string).collect();
+    assert!(words.len() <= HELD, "a line that is too long: {words:?}");
     println!("{}", words.join(" "));
 }

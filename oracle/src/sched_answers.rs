@@ -53,7 +53,7 @@ impl Part {
 }
 
 /// The most numbers that a call takes or answers.
-pub const MOST: usize = 14;
+pub const MOST: usize = 18;
 
 /// The numbers of what a call takes, one part after the other; the rest is 0.
 pub type Input = [u64; MOST];

@@ -1,7 +1,7 @@
 //! The static library's calls. Each is total, so each is safe to call.
 
 use oracle::planner_model::Image;
-use oracle::receiver_answers::{Kind, Lent};
+use oracle::receiver_answers::{FAILURE, Kind, Lent, RECEIVER, STATE};
 use oracle::sched_answers::{Input, Row};
 
 /// `some` is 1 with the value, or 0 with the value 0.
@@ -253,19 +253,19 @@ copy_calls! { copy_calls:
     reading_end_read false;
 }
 
-type Failure = Flat<2>;
-type State = Flat<3>;
-type Receiver = Flat<8>;
+type Failure = Flat<FAILURE>;
+type State = Flat<STATE>;
+type Receiver = Flat<RECEIVER>;
 
 number_calls! { state_calls:
-    receiver_new(Scheduler) -> Answer<12>;
-    state_failure(State) -> Answer<7>;
-    state_with_failure(State, Failure) -> Answer<7>;
-    state_with_potential_failure(State, u64, Failure) -> Answer<7>;
-    state_normalize(State) -> Answer<7>;
-    state_advance_state_towards_termination(State, State) -> Answer<7>;
-    failure_normalize(Failure) -> Answer<6>;
-    failure_advance_failure_towards_error(Failure, Failure) -> Answer<6>;
+    receiver_new(Scheduler) -> Answer<14>;
+    state_failure(State) -> Answer<9>;
+    state_with_failure(State, Failure) -> Answer<9>;
+    state_with_potential_failure(State, u64, Failure) -> Answer<9>;
+    state_normalize(State) -> Answer<9>;
+    state_advance_state_towards_termination(State, State) -> Answer<9>;
+    failure_normalize(Failure) -> Answer<8>;
+    failure_advance_failure_towards_error(Failure, Failure) -> Answer<8>;
 }
 
 /// The library's answer to what is lent to a call over a run of the socket's answers.
@@ -282,11 +282,11 @@ macro_rules! run_calls {
                     fn $read(
                         _: Receiver, _: *const u8, _: usize, _: *mut u8, _: usize,
                         max_new_fds: u64, _: *const [u64; 3], _: usize,
-                    ) -> Answer<18>;
+                    ) -> Answer<22>;
                 )*
                 $(
                     #[link_name = concat!("stripring_", stringify!($other))]
-                    fn $other(_: Receiver, _: *const [u64; 3], _: usize) -> Answer<18>;
+                    fn $other(_: Receiver, _: *const [u64; 3], _: usize) -> Answer<22>;
                 )*
             }
             vec![
@@ -312,14 +312,14 @@ macro_rules! run_calls {
 }
 
 /// A call in progress: the receiver, the scheduler that a read copies its bytes by, and the phase.
-pub type CallNumbers = [u64; 26];
+pub type CallNumbers = [u64; 32];
 
 /// What a call of the machine answers: the refusal, and the call.
-pub type StepNumbers = [u64; 30];
+pub type StepNumbers = [u64; 36];
 
-type CallInProgress = Flat<26>;
+type CallInProgress = Flat<32>;
 type SocketAnswer = Flat<3>;
-type Step = Answer<30>;
+type Step = Answer<36>;
 
 unsafe extern "C" {
     safe fn stripring_call_begin_read(

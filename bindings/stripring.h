@@ -132,11 +132,22 @@ typedef struct stripring_read_counter {
   uint64_t counter;
 } stripring_read_counter;
 
-/* Why a stream fails. `kind` 0: the Linux errno `value`. Any other (1 in answers): a violation, 1 for an announcement that is
- * not 0, 2 for a chunk without room, 3 for an unknown header, 4 for an empty chunk; any other value is taken for 4. */
+/* Why a stream fails. `kind` 0: the socket's Linux errno `value`; 32 is the end of the stream. Any other (1 in answers): the other
+ * process broke the protocol. `value` is the violation, and any other number is taken for 4:
+ *
+ *    1  a byte that is not 0 announced a chunk
+ *    2  the ring is too short for any chunk's header     needed: 8, room: the ring's length
+ *    3  a chunk's header is of an unknown format
+ *    4  a chunk is empty
+ *    5  a chunk's body is too long for the ring          needed: the body's length, room: the ring's length less 8
+ *
+ * `needed` and `room` are bytes, and a receiver gives 2 and 5 exactly where more are needed than there is room for. A host may store
+ * any numbers in them, which are answered as they are. Of an errno and of 1, 3 and 4 they are 0 in answers and not looked at otherwise. */
 typedef struct stripring_failure {
   uint64_t kind;
   uint64_t value;
+  uint64_t needed;
+  uint64_t room;
 } stripring_failure;
 
 /* `kind` 0: normal, and the failure is 0 in answers and not looked at otherwise. 1: draining. Any other (2 in answers):

@@ -19,8 +19,8 @@ static const uint8_t RING[RING_LEN] = {0, 0, 0, 0, 0, 0, 0, 2, 'a', 'b'};
 /* ---- what is handed in ---- */
 
 static stripring_state normal(void) { return (stripring_state){0}; }
-static stripring_state draining(uint64_t number) { return (stripring_state){1, {0, number}}; }
-static stripring_state terminated(uint64_t number) { return (stripring_state){2, {0, number}}; }
+static stripring_state draining(uint64_t number) { return (stripring_state){1, {.value = number}}; }
+static stripring_state terminated(uint64_t number) { return (stripring_state){2, {.value = number}}; }
 
 static stripring_answer byte(uint64_t value) { return (stripring_answer){.kind = 0, .value = value}; }
 static stripring_answer failed(uint64_t number) { return (stripring_answer){.kind = 2, .value = number}; }
@@ -32,7 +32,7 @@ static stripring_receiver receiver(uint64_t written, stripring_state state, uint
 }
 
 static stripring_outcome read_of(uint64_t n) { return (stripring_outcome){.kind = 0, .n = n}; }
-static stripring_outcome failure(uint64_t number) { return (stripring_outcome){.kind = 2, .failure = {0, number}}; }
+static stripring_outcome failure(uint64_t number) { return (stripring_outcome){.kind = 2, .failure = {.value = number}}; }
 
 /* A call that no call of the library made: of each phase, over this record. */
 static stripring_call made_up(uint64_t kind, stripring_receiver r) {

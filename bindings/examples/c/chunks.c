@@ -4,7 +4,9 @@
 #include "strips.h"
 
 #include <errno.h>
+#include <inttypes.h>
 #include <poll.h>
+#include <stdio.h>
 #include <stdlib.h>
 #include <sys/socket.h>
 
@@ -79,10 +81,16 @@ static void announce(struct camera *c) {
 }
 
 /* False if the classifier is gone. */
-static bool film_chunk(struct camera *c, struct outstanding *o, size_t tag, const uint8_t *body, size_t len) {
-  while (space(o) < HEADER_LEN + len)
+static bool wait_for_space(struct camera *c, struct outstanding *o, size_t len) {
+  while (space(o) < len)
     if (!wait_for_acknowledgements(c, o))
       return false;
+  return true;
+}
+
+static bool film_chunk(struct camera *c, struct outstanding *o, size_t tag, const uint8_t *body, size_t len) {
+  if (!wait_for_space(c, o, HEADER_LEN + len))
+    return false;
   put_header(c, o, tag, len);
   put(c, o, body, len);
   remember(o, HEADER_LEN + len);
@@ -103,22 +111,74 @@ static bool film_strip(struct camera *c, struct outstanding *o, size_t tag, stru
   return true;
 }
 
+/* The header alone of a chunk with one byte more than the ring has room for. Nobody acknowledges it: the camera waits for that until
+ * the classifier has shut the socket down. It sends nothing more, so nothing finds the socket shut (EPIPE) or lies unread in it when it
+ * is closed (ECONNRESET). */
+static bool film_too_long(struct camera *c, struct outstanding *o, size_t tag) {
+  if (!wait_for_space(c, o, HEADER_LEN))
+    return false;
+  put_header(c, o, tag, c->ring_len - HEADER_LEN + 1);
+  remember(o, HEADER_LEN);
+  announce(c);
+  return true;
+}
+
+/* All strips; or the first half, and then a chunk that is too long. */
 static bool film_strips(struct camera *c, struct outstanding *o) {
-  for (size_t i = 0; i < c->picture->count; i++)
+  size_t count = c->picture->count / (c->too_long ? 2 : 1);
+  for (size_t i = 0; i < count; i++)
     if (!film_strip(c, o, i, c->picture->strips[i]))
       return false;
-  return true;
+  return !c->too_long || film_too_long(c, o, count);
 }
 
 void film_by_chunks(struct camera *c) {
   stripring_scheduler_answer made = stripring_scheduler_try_new(c->ring_len);
   demand(made.refusal);
-  size_t room = c->ring_len / (HEADER_LEN + 1);
+  size_t room = c->ring_len / HEADER_LEN; /* each has its header in the ring, if nothing else */
   struct outstanding o = {made.scheduler, calloc(room, sizeof(size_t)), room, 0, 0};
   bool there = film_strips(c, &o);
   while (there && o.count > 0)
     there = wait_for_acknowledgements(c, &o);
   free(o.lens);
+}
+
+/* ---- a failure in words, as the Rust crate has them ---- */
+
+static void print_violation(stripring_failure f) {
+  fprintf(stderr, "violation %" PRIu64 ": ", f.value);
+  switch (f.value) {
+  case 1:
+    fprintf(stderr, "a byte that is not 0 announced a chunk\n");
+    break;
+  case 2:
+    fprintf(stderr, "a chunk's header needs %" PRIu64 " bytes, and the ring has %" PRIu64 "\n", f.needed, f.room);
+    break;
+  case 3:
+    fprintf(stderr, "a chunk's header is of an unknown format\n");
+    break;
+  case 5:
+    fprintf(stderr,
+            "a chunk of %" PRIu64 " bytes was announced, and the ring has room for %" PRIu64 " behind the chunk's header\n",
+            f.needed, f.room);
+    break;
+  default:
+    fprintf(stderr, "an empty chunk was announced\n");
+  }
+}
+
+/* What is no failure here is told apart before: errno 11, nothing has come, and errno 32, the end of the stream. */
+static void print_failure(stripring_failure f) {
+  if (f.kind == 0)
+    fprintf(stderr, "errno %" PRIu64 ": the socket failed\n", f.value);
+  else
+    print_violation(f);
+}
+
+static _Noreturn void fail(stripring_failure f) {
+  fprintf(stderr, "strips: the classifier: ");
+  print_failure(f);
+  exit(1);
 }
 
 /* ---- the classifier ---- */
@@ -220,6 +280,6 @@ void classify_by_chunks(struct classifier *c) {
     if (is_errno(outcome, EAGAIN))
       wait_for_socket(c, &receiver.receiver);
     else if (outcome.kind != 0)
-      die("the stream failed");
+      fail(outcome.failure);
   }
 }

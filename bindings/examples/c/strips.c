@@ -2,7 +2,9 @@
  * what it read is compared with what was written. Exit 1 if anything differs.
  *
  *   strips ends|receiver RING_LEN PICTURES            by the plain ends, or by announced chunks
- *   strips ends|receiver RING_LEN PICTURES killed     the classifier is killed in the middle */
+ *   strips ends|receiver RING_LEN PICTURES killed     the classifier is killed in the middle
+ *   strips receiver RING_LEN PICTURES too-long        the camera announces a chunk in the middle that is too long for the ring, and
+ *                                                     the classifier says so and ends with 1 */
 #define _GNU_SOURCE
 #include "strips.h"
 
@@ -17,6 +19,17 @@
 #include <unistd.h>
 
 enum { STRIPS = 64, LONGEST_STRIP = 65536, SHORTEST_RING = 9 };
+
+/* What goes wrong in the middle of the pictures, and the word that asks for it. */
+enum mishap { NO_MISHAP, KILLED, TOO_LONG, UNKNOWN };
+static const char *const MISHAPS[] = {"", "killed", "too-long"};
+
+struct asked {
+  bool by_chunks;
+  size_t ring_len;
+  size_t pictures;
+  enum mishap mishap;
+};
 
 void die(const char *what) {
   perror(what);
@@ -98,49 +111,81 @@ static pid_t start(void (*classify)(struct classifier *), struct classifier *c, 
   _exit(0);
 }
 
-/* How the classifier should have ended, and whether the first bytes it read are the first that were written. */
-static bool as_it_should_be(const struct picture *p, const struct classifier *c, int status, bool killed) {
-  if (killed ? !WIFSIGNALED(status) || *c->copied >= p->len : status != 0 || *c->copied != p->len)
-    return false;
-  return memcmp(c->copy, p->bytes, *c->copied) == 0;
+/* A chunk that is too long fails the stream once everything before it is read. */
+static bool ended_as_asked(enum mishap mishap, const struct camera *camera, size_t copied, int status) {
+  size_t all = camera->picture->len;
+  switch (mishap) {
+  case KILLED:
+    return WIFSIGNALED(status) && copied < all;
+  case TOO_LONG:
+    return WIFEXITED(status) && WEXITSTATUS(status) == 1 && copied == camera->written;
+  default:
+    return status == 0 && copied == all;
+  }
 }
 
-static bool run(bool by_chunks, size_t ring_len, struct picture p, bool killed) {
+/* How the classifier should have ended, and whether the first bytes it read are the first that were written. */
+static bool as_it_should_be(enum mishap mishap, const struct camera *camera, const struct classifier *c, int status) {
+  return ended_as_asked(mishap, camera, *c->copied, status) && memcmp(c->copy, camera->picture->bytes, *c->copied) == 0;
+}
+
+static void report(const struct asked *asked, const struct classifier *c, size_t all, bool right, double took) {
+  printf("%s%s%s, ring of %zu bytes: %zu of %zu bytes read, %s, %.1f MB/s\n", asked->by_chunks ? "receiver" : "ends",
+         asked->mishap == NO_MISHAP ? "" : " ", MISHAPS[asked->mishap], asked->ring_len, (size_t)*c->copied, all,
+         right ? "the first that were written" : "WRONG", *c->copied / took / 1e6);
+}
+
+static bool run(const struct asked *asked, struct picture p) {
   int sockets[2];
   if (socketpair(AF_UNIX, SOCK_STREAM, 0, sockets) < 0)
     die("socketpair");
-  uint8_t *ring = share("ring", ring_len);
+  uint8_t *ring = share("ring", asked->ring_len);
   struct classifier classifier = {
-      ring, ring_len, sockets[1], share("copy", p.len + 1), p.len + 1, share("copied", sizeof(atomic_size_t))};
+      ring, asked->ring_len, sockets[1], share("copy", p.len + 1), p.len + 1, share("copied", sizeof(atomic_size_t))};
   double before = seconds();
-  pid_t child = start(by_chunks ? classify_by_chunks : classify_by_ends, &classifier, sockets[0]);
+  pid_t child = start(asked->by_chunks ? classify_by_chunks : classify_by_ends, &classifier, sockets[0]);
   close(sockets[1]);
-  struct camera camera = {&p, ring, ring_len, sockets[0], killed ? p.len / 2 : 0, child, 0};
-  (by_chunks ? film_by_chunks : film_by_ends)(&camera);
+  size_t kill_at = asked->mishap == KILLED ? p.len / 2 : 0;
+  struct camera camera = {&p, ring, asked->ring_len, sockets[0], kill_at, asked->mishap == TOO_LONG, child, 0};
+  (asked->by_chunks ? film_by_chunks : film_by_ends)(&camera);
   close(sockets[0]);
   int status;
   if (waitpid(child, &status, 0) < 0)
     die("waitpid");
-  double mb_per_s = *classifier.copied / (seconds() - before) / 1e6;
-  bool right = as_it_should_be(&p, &classifier, status, killed);
-  printf("%s%s, ring of %zu bytes: %zu of %zu bytes read, %s, %.1f MB/s\n", by_chunks ? "receiver" : "ends",
-         killed ? " killed" : "", ring_len, (size_t)*classifier.copied, p.len,
-         right ? "the first that were written" : "WRONG", mb_per_s);
+  bool right = as_it_should_be(asked->mishap, &camera, &classifier, status);
+  report(asked, &classifier, p.len, right, seconds() - before);
   return right;
 }
 
+static enum mishap mishap_of(const char *word) {
+  enum mishap mishap = NO_MISHAP;
+  while (mishap < UNKNOWN && strcmp(word, MISHAPS[mishap]) != 0)
+    mishap++;
+  return mishap;
+}
+
+/* False for words that ask for nothing that can be run: a chunk needs a ring of 9 bytes, and the plain ends have no chunks. */
+static bool understood(int argc, char **argv, struct asked *asked) {
+  *asked = (struct asked){.by_chunks = argc > 1 && strcmp(argv[1], "receiver") == 0,
+                          .ring_len = argc > 2 ? strtoull(argv[2], NULL, 10) : 0,
+                          .pictures = argc > 3 ? strtoull(argv[3], NULL, 10) : 0,
+                          .mishap = mishap_of(argc > 4 ? argv[4] : "")};
+  bool by_ends = argc > 1 && strcmp(argv[1], "ends") == 0;
+  if (asked->pictures == 0 || asked->mishap == UNKNOWN)
+    return false;
+  return asked->by_chunks ? asked->ring_len >= SHORTEST_RING
+                          : by_ends && asked->ring_len >= 1 && asked->mishap != TOO_LONG;
+}
+
 int main(int argc, char **argv) {
-  size_t ring_len = argc > 2 ? strtoull(argv[2], NULL, 10) : 0;
-  size_t pictures = argc > 3 ? strtoull(argv[3], NULL, 10) : 0;
-  bool by_chunks = argc > 1 && strcmp(argv[1], "receiver") == 0;
-  bool killed = argc > 4 && strcmp(argv[4], "killed") == 0;
-  bool known = by_chunks || (argc > 1 && strcmp(argv[1], "ends") == 0);
-  if (!known || pictures == 0 || ring_len < (by_chunks ? SHORTEST_RING : 1)) {
-    fprintf(stderr, "usage: strips ends|receiver RING_LEN PICTURES [killed]; a chunk needs a ring of 9 bytes\n");
+  struct asked asked;
+  if (!understood(argc, argv, &asked)) {
+    fprintf(stderr, "usage: strips ends|receiver RING_LEN PICTURES [killed], or strips receiver RING_LEN PICTURES too-long; "
+                    "a chunk needs a ring of 9 bytes\n");
     return 2;
   }
-  struct picture picture = make_picture(pictures * STRIPS);
-  bool right = run(by_chunks, ring_len, picture, killed);
+  struct picture picture = make_picture(asked.pictures * STRIPS);
+  bool right = run(&asked, picture);
   free(picture.bytes);
   free(picture.strips);
   return right ? 0 : 1;

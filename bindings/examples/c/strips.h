@@ -27,6 +27,8 @@ struct camera {
   int socket;
   /* the classifier is killed once so many bytes are written; 0 for never */
   size_t kill_at;
+  /* in the middle a chunk is announced that is longer than the ring takes */
+  bool too_long;
   pid_t classifier;
   size_t written;
 };

@@ -107,6 +107,8 @@ pub struct ReadCounter {
 pub struct Failure {
     pub kind: u64,
     pub value: u64,
+    pub needed: u64,
+    pub room: u64,
 }
 
 #[repr(C)]

@@ -38,12 +38,14 @@
 #[allow(unsafe_code)]
 pub mod abi;
 mod ends;
+mod failure;
 pub mod planner;
 mod receiver;
 mod refusal;
 mod scheduler;
 
 pub use ends::{ReadCounter, ReadingEnd, WritingEnd, WrittenCounter};
-pub use receiver::{Answer, Call, Ended, Failure, Outcome, Receiver, State, Violation, Wait};
+pub use failure::{Failure, State, Violation};
+pub use receiver::{Answer, Call, Ended, Outcome, Receiver, Wait};
 pub use refusal::Refusal;
 pub use scheduler::{OperationType, Places, Portion, Scheduler};

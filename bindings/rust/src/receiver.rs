@@ -3,66 +3,10 @@
 pub use crate::abi::Answer;
 
 use crate::abi;
+use crate::failure::{Failure, State};
 use crate::refusal::{Refusal, accepted, sound};
 use crate::scheduler::Scheduler;
 use std::io;
-
-/// A breach of the protocol by the other process.
-#[derive(Clone, Copy, Debug, PartialEq, Eq)]
-pub enum Violation {
-    /// 1: an announcement is a byte other than 0.
-    InvalidChunkAnnouncement,
-    /// 2: the ring has no room for the header or the body.
-    ControlOverflow,
-    /// 3: the header's format is not 0.
-    UnknownHeader,
-    /// 4: the body is empty.
-    InvalidChunkLength,
-}
-
-/// Why a stream fails.
-#[derive(Clone, Copy, Debug, PartialEq, Eq)]
-pub enum Failure {
-    /// An errno, by its Linux number.
-    Errno(u64),
-    Violation(Violation),
-}
-
-impl Failure {
-    /// Nothing has come; try again when the socket is ready.
-    pub const WOULDBLOCK: Self = Self::Errno(11);
-    /// The stream has come to its end.
-    pub const END_OF_STREAM: Self = Self::Errno(32);
-}
-
-impl From<abi::Failure> for Failure {
-    fn from(f: abi::Failure) -> Self {
-        match (f.kind, f.value) {
-            (0, errno) => Self::Errno(errno),
-            (_, 1) => Self::Violation(Violation::InvalidChunkAnnouncement),
-            (_, 2) => Self::Violation(Violation::ControlOverflow),
-            (_, 3) => Self::Violation(Violation::UnknownHeader),
-            _ => Self::Violation(Violation::InvalidChunkLength),
-        }
-    }
-}
-
-#[derive(Clone, Copy, Debug, PartialEq, Eq)]
-pub enum State {
-    Normal,
-    Draining(Failure),
-    Terminated(Failure),
-}
-
-impl From<abi::State> for State {
-    fn from(s: abi::State) -> Self {
-        match s.kind {
-            0 => Self::Normal,
-            1 => Self::Draining(s.failure.into()),
-            _ => Self::Terminated(s.failure.into()),
-        }
-    }
-}
 
 /// What a call comes to that is not refused.
 #[derive(Clone, Copy, Debug, PartialEq, Eq)]

@@ -249,8 +249,8 @@ const FINISHED: u64 = 3;
 
 fn record(items_written: u64, state: u64, errno: u64, pending_ack_count: u64) -> abi::Receiver {
     let failure = abi::Failure {
-        kind: 0,
         value: errno,
+        ..Default::default()
     };
     abi::Receiver {
         scheduler: abi::Scheduler {

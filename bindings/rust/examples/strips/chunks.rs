@@ -41,6 +41,16 @@ impl Outstanding {
         }
         Ok(n > 0)
     }
+
+    /// False if the classifier is gone.
+    fn wait_for_space(&mut self, socket: &UnixStream, len: usize) -> Result<bool> {
+        while self.scheduler.space_avail() < len as u64 {
+            if !self.wait_for_acknowledgements(socket)? {
+                return Ok(false);
+            }
+        }
+        Ok(true)
+    }
 }
 
 /// 2 bits format, which is 0; 14 bits tag; 48 bits length; most significant byte first.
@@ -59,19 +69,61 @@ fn announce(mut socket: &UnixStream) -> Result<()> {
 
 /// False if the classifier is gone.
 fn film_chunk(camera: &mut Camera, o: &mut Outstanding, tag: usize, body: &[u8]) -> Result<bool> {
-    let len = (HEADER_LEN + body.len()) as u64;
-    while o.scheduler.space_avail() < len {
-        if !o.wait_for_acknowledgements(&camera.socket)? {
-            return Ok(false);
-        }
+    let len = HEADER_LEN + body.len();
+    if !o.wait_for_space(&camera.socket, len)? {
+        return Ok(false);
     }
     o.scheduler
         .write(camera.ring.lend_mut(), &header(tag, body.len()))?;
     o.scheduler.write(camera.ring.lend_mut(), body)?;
-    o.lens.push_back(len);
+    o.lens.push_back(len as u64);
     announce(&camera.socket)?;
     camera.filmed(body.len())?;
     Ok(true)
+}
+
+/// The longest body that the ring has room for.
+fn longest(camera: &Camera) -> usize {
+    camera.ring_len as usize - HEADER_LEN
+}
+
+/// A strip that is longer than the ring has room for goes in several chunks.
+fn film_strip(camera: &mut Camera, o: &mut Outstanding, tag: usize, strip: &[u8]) -> Result<bool> {
+    for body in strip.chunks(longest(camera)) {
+        if !film_chunk(camera, o, tag, body)? {
+            return Ok(false);
+        }
+    }
+    Ok(true)
+}
+
+/// The header alone of a chunk with one byte more than the ring has room for. Nobody acknowledges it: the camera waits for that
+/// until the classifier has shut the socket down. It sends nothing more, so nothing finds the socket shut (EPIPE) or lies
+/// unread in it when it is closed (ECONNRESET).
+fn film_too_long(camera: &mut Camera, o: &mut Outstanding, tag: usize) -> Result<bool> {
+    if !o.wait_for_space(&camera.socket, HEADER_LEN)? {
+        return Ok(false);
+    }
+    let header = header(tag, longest(camera) + 1);
+    o.scheduler.write(camera.ring.lend_mut(), &header)?;
+    o.lens.push_back(HEADER_LEN as u64);
+    announce(&camera.socket)?;
+    Ok(true)
+}
+
+/// All strips; or the first half, and then a chunk that is too long.
+fn film_strips(camera: &mut Camera, o: &mut Outstanding) -> Result<bool> {
+    let picture = camera.picture;
+    let count = picture.strips().count() / if camera.too_long { 2 } else { 1 };
+    for (tag, strip) in picture.strips().take(count).enumerate() {
+        if !film_strip(camera, o, tag, strip)? {
+            return Ok(false);
+        }
+    }
+    match camera.too_long {
+        true => film_too_long(camera, o, count),
+        false => Ok(true),
+    }
 }
 
 pub fn film(camera: &mut Camera) -> Result<()> {
@@ -79,17 +131,10 @@ pub fn film(camera: &mut Camera) -> Result<()> {
         scheduler: Scheduler::new(camera.ring_len)?,
         lens: VecDeque::new(),
     };
-    let picture = camera.picture;
-    // A strip that is longer than the ring has room for goes in several chunks.
-    let most = camera.ring_len as usize - HEADER_LEN;
-    for (tag, strip) in picture.strips().enumerate() {
-        for body in strip.chunks(most) {
-            if !film_chunk(camera, &mut o, tag, body)? {
-                return Ok(());
-            }
-        }
+    let mut there = film_strips(camera, &mut o)?;
+    while there && !o.lens.is_empty() {
+        there = o.wait_for_acknowledgements(&camera.socket)?;
     }
-    while !o.lens.is_empty() && o.wait_for_acknowledgements(&camera.socket)? {}
     Ok(())
 }
 
@@ -156,7 +201,8 @@ pub fn classify(classifier: &mut Classifier) -> Result<()> {
             Outcome::Read { n, .. } => classifier.copy.took(n),
             Outcome::Failed(Failure::WOULDBLOCK) => wait_for_socket(classifier, &mut receiver)?,
             Outcome::Failed(Failure::END_OF_STREAM) => return Ok(()),
-            outcome => return Err(format!("the stream came to {outcome:?}").into()),
+            Outcome::Failed(failure) => return Err(failure.into()),
+            Outcome::Done => unreachable!("a read reads or fails"),
         }
     }
 }

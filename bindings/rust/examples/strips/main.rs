@@ -3,6 +3,8 @@
 //!
 //!     strips ends|receiver RING_LEN PICTURES            by the plain ends, or by announced chunks
 //!     strips ends|receiver RING_LEN PICTURES killed     the classifier is killed in the middle
+//!     strips receiver RING_LEN PICTURES too-long        the camera announces a chunk in the middle that is too long for the
+//!                                                       ring, and the classifier says so and ends with 1
 
 mod chunks;
 mod ends;
@@ -14,7 +16,7 @@ use std::os::unix::net::UnixStream;
 use std::os::unix::process::ExitStatusExt;
 use std::process::{self, ExitCode, ExitStatus};
 use std::sync::atomic::Ordering;
-use std::time::Instant;
+use std::time::{Duration, Instant};
 use sys::{Child, Shared};
 
 type Result<T> = std::result::Result<T, Box<dyn std::error::Error>>;
@@ -31,6 +33,8 @@ pub struct Camera<'a> {
     classifier: &'a Child,
     /// The classifier is killed once so many bytes are written.
     kill_at: Option<usize>,
+    /// In the middle a chunk is announced that is longer than the ring takes.
+    too_long: bool,
     written: usize,
 }
 
@@ -89,13 +93,37 @@ pub struct Classifier {
     copy: Copy,
 }
 
+/// What goes wrong in the middle of the pictures.
+#[derive(Clone, Copy, PartialEq)]
+enum Mishap {
+    Killed,
+    TooLong,
+}
+
+impl Mishap {
+    const ALL: [Self; 2] = [Self::Killed, Self::TooLong];
+
+    /// The word that asks for it.
+    fn word(self) -> &'static str {
+        match self {
+            Self::Killed => "killed",
+            Self::TooLong => "too-long",
+        }
+    }
+
+    fn of(word: &str) -> Option<Self> {
+        Self::ALL.into_iter().find(|mishap| mishap.word() == word)
+    }
+}
+
 struct Asked {
     by_chunks: bool,
     ring_len: usize,
     pictures: usize,
-    killed: bool,
+    mishap: Option<Mishap>,
 }
 
+/// Nothing for words that ask for nothing that can be run: a chunk needs a ring of 9 bytes, and the plain ends have no chunks.
 fn asked() -> Option<Asked> {
     let words: Vec<String> = std::env::args().skip(1).collect();
     let asked = Asked {
@@ -106,14 +134,16 @@ fn asked() -> Option<Asked> {
         },
         ring_len: words.get(1)?.parse().ok()?,
         pictures: words.get(2)?.parse().ok()?,
-        killed: words.get(3).is_some_and(|word| word == "killed"),
+        mishap: match words.get(3) {
+            None => None,
+            Some(word) => Some(Mishap::of(word)?),
+        },
     };
-    let shortest = if asked.by_chunks {
-        chunks::HEADER_LEN + 1
-    } else {
-        1
+    let can_be = match asked.by_chunks {
+        true => asked.ring_len > chunks::HEADER_LEN,
+        false => asked.ring_len > 0 && asked.mishap != Some(Mishap::TooLong),
     };
-    (asked.pictures > 0 && asked.ring_len >= shortest).then_some(asked)
+    (asked.pictures > 0 && can_be).then_some(asked)
 }
 
 /// The classifier's process.
@@ -128,14 +158,40 @@ fn classify(asked: &Asked, classifier: &mut Classifier) -> ! {
     process::exit(done.is_err().into());
 }
 
-/// How the classifier should have ended, and whether the first bytes it read are the first that were written.
-fn as_it_should_be(asked: &Asked, picture: &Picture, copy: &Copy, status: ExitStatus) -> bool {
+/// How the classifier should have ended, and whether the first bytes it read are the first that were written. A chunk that is
+/// too long fails the stream once everything before it is read.
+fn as_it_should_be(
+    asked: &Asked,
+    picture: &Picture,
+    written: usize,
+    copy: &Copy,
+    status: ExitStatus,
+) -> bool {
     let all = picture.bytes.len();
-    let ended = match asked.killed {
-        true => status.signal().is_some() && copy.len() < all,
-        false => status.success() && copy.len() == all,
+    let ended = match asked.mishap {
+        None => status.success() && copy.len() == all,
+        Some(Mishap::Killed) => status.signal().is_some() && copy.len() < all,
+        Some(Mishap::TooLong) => status.code() == Some(1) && copy.len() == written,
     };
     ended && copy.begins(picture)
+}
+
+fn report(asked: &Asked, picture: &Picture, copy: &Copy, right: bool, took: Duration) {
+    println!(
+        "{}{}{}, ring of {} bytes: {} of {} bytes read, {}, {:.1} MB/s",
+        if asked.by_chunks { "receiver" } else { "ends" },
+        if asked.mishap.is_some() { " " } else { "" },
+        asked.mishap.map_or("", Mishap::word),
+        asked.ring_len,
+        copy.len(),
+        picture.bytes.len(),
+        if right {
+            "the first that were written"
+        } else {
+            "WRONG"
+        },
+        copy.len() as f64 / took.as_secs_f64() / 1e6,
+    );
 }
 
 fn run(asked: &Asked) -> Result<bool> {
@@ -165,37 +221,27 @@ fn run(asked: &Asked) -> Result<bool> {
         ring_len,
         socket,
         classifier: &child,
-        kill_at: asked.killed.then_some(picture.bytes.len() / 2),
+        kill_at: (asked.mishap == Some(Mishap::Killed)).then_some(picture.bytes.len() / 2),
+        too_long: asked.mishap == Some(Mishap::TooLong),
         written: 0,
     };
     match asked.by_chunks {
         true => chunks::film(&mut camera)?,
         false => ends::film(&mut camera)?,
     }
+    let written = camera.written;
     drop(camera); // and its socket, which ends the stream
     let status = child.wait()?;
-    let right = as_it_should_be(asked, &picture, &copy, status);
-    println!(
-        "{}{}, ring of {} bytes: {} of {} bytes read, {}, {:.1} MB/s",
-        if asked.by_chunks { "receiver" } else { "ends" },
-        if asked.killed { " killed" } else { "" },
-        asked.ring_len,
-        copy.len(),
-        picture.bytes.len(),
-        if right {
-            "the first that were written"
-        } else {
-            "WRONG"
-        },
-        copy.len() as f64 / start.elapsed().as_secs_f64() / 1e6,
-    );
+    let right = as_it_should_be(asked, &picture, written, &copy, status);
+    report(asked, &picture, &copy, right, start.elapsed());
     Ok(right)
 }
 
 fn main() -> ExitCode {
     let Some(asked) = asked() else {
         eprintln!(
-            "usage: strips ends|receiver RING_LEN PICTURES [killed]; a chunk needs a ring of 9 bytes"
+            "usage: strips ends|receiver RING_LEN PICTURES [killed], or strips receiver RING_LEN PICTURES too-long; \
+             a chunk needs a ring of 9 bytes"
         );
         return ExitCode::from(2);
     };

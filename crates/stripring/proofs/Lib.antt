@@ -21,3 +21,4 @@ pub mod RefusesEnds
 pub mod RefusesReceiver
 pub mod RefusesPlanner
 pub mod PromisedPlanner
+pub mod PromisedOverflow

@@ -5,3 +5,4 @@ pub mod Run
 pub mod Hosted
 pub mod Given
 pub mod GivenRun
+pub mod PromiseOverflow

@@ -115,33 +115,34 @@ module _ (L h : ℕ) (b : Beside) where
   fits-behind : (n : ℕ) (b' : Beside) → Announces L h b (body n b') → h % 2 ^ 48 + 8 ≤ L
   fits-behind _ _ (accepted a c d) = d
 
-  header-by : (k n r : ℕ) (x : Said) → Announces L h b x → x ≡ violates k n r → k ≡ 2 → HeaderOverflows L n r
-  header-by k n r _ (no-room-for-a-header {room} e l) p z = let a : 8 ≡ n = cc in let d : room ≡ r = cc in record { eight = sym a; whole = sym d ∙ e; above = omega (arith, l, a, d) }
-  header-by k n r _ (format-unknown a c) p z = let w : 3 ≡ k = cc in absurd (omega (arith, w, z))
-  header-by k n r _ (length-0 a c d) p z = let w : 4 ≡ k = cc in absurd (omega (arith, w, z))
-  header-by k n r _ (too-long a c d) p z = let w : 5 ≡ k = cc in absurd (omega (arith, w, z))
-  header-by k n r _ (accepted a c d) p z = let w : _≡_ {A = ℕ} 0 1 = cc in absurd (omega arith)
+  -- a violation of this number is an overflow only if one is there
+  by-number : (k n r : ℕ) (x : Said) → Announces L h b x → x ≡ violates k n r → (k ≡ 2 → HeaderOverflows L n r) × (k ≡ 5 → BodyOverflows L h n r)
+  by-number k n r _ (no-room-for-a-header {room} e l) p =
+      let i : 2 ≡ k = cc in
+      let a : 8 ≡ n = cc in
+      let d : room ≡ r = cc in ((λ z. record { eight = sym a; whole = sym d ∙ e; above = omega (arith, l, a, d) }), (λ z. absurd (omega (arith, i, z))))
+  by-number k n r _ (format-unknown a c) p = let i : 3 ≡ k = cc in ((λ z. absurd (omega (arith, i, z))), (λ z. absurd (omega (arith, i, z))))
+  by-number k n r _ (length-0 a c d) p = let i : 4 ≡ k = cc in ((λ z. absurd (omega (arith, i, z))), (λ z. absurd (omega (arith, i, z))))
+  by-number k n r _ (too-long {room} a c d) p =
+      let i : 5 ≡ k = cc in
+      let e : h % 2 ^ 48 ≡ n = cc in
+      let f : room ≡ r = cc in ((λ z. absurd (omega (arith, i, z))), (λ z. record { known = c; length = sym e; behind = omega (arith, f, a); above = omega (arith, d, e, f) }))
+  by-number k n r _ (accepted a c d) p = let z : _≡_ {A = ℕ} 0 1 = cc in absurd (omega arith)
 
-  body-by : (k n r : ℕ) (x : Said) → Announces L h b x → x ≡ violates k n r → k ≡ 5 → BodyOverflows L h n r
-  body-by k n r _ (no-room-for-a-header e l) p z = let w : 2 ≡ k = cc in absurd (omega (arith, w, z))
-  body-by k n r _ (format-unknown a c) p z = let w : 3 ≡ k = cc in absurd (omega (arith, w, z))
-  body-by k n r _ (length-0 a c d) p z = let w : 4 ≡ k = cc in absurd (omega (arith, w, z))
-  body-by k n r _ (too-long {room} a c d) p z = let e : h % 2 ^ 48 ≡ n = cc in let f : room ≡ r = cc in record { known = c; length = sym e; behind = subst (λ (x : ℕ). x + 8 ≡ L) f a; above = omega (arith, d, e, f) }
-  body-by k n r _ (accepted a c d) p z = let w : _≡_ {A = ℕ} 0 1 = cc in absurd (omega arith)
-
-  header-comes : (k n r : ℕ) (x : Said) → Announces L h b x → x ≡ violates k n r → (m l : ℕ) → HeaderOverflows L m l → (k ≡ 2) × (n ≡ m) × (r ≡ l)
-  header-comes k n r _ (no-room-for-a-header {room} e u) p m l o = let a : 2 ≡ k = cc in let d : 8 ≡ n = cc in let w : room ≡ r = cc in (sym a, sym d ∙ sym (o .eight), sym w ∙ e ∙ sym (o .whole))
-  header-comes k n r _ (format-unknown a c) p m l o = absurd (omega (arith, a, o .eight, o .whole, o .above))
-  header-comes k n r _ (length-0 a c d) p m l o = absurd (omega (arith, a, o .eight, o .whole, o .above))
-  header-comes k n r _ (too-long a c d) p m l o = absurd (omega (arith, a, o .eight, o .whole, o .above))
-  header-comes k n r _ (accepted a c d) p m l o = let w : _≡_ {A = ℕ} 0 1 = cc in absurd (omega arith)
-
-  body-comes : (k n r : ℕ) (x : Said) → Announces L h b x → x ≡ violates k n r → (m l : ℕ) → BodyOverflows L h m l → (k ≡ 5) × (n ≡ m) × (r ≡ l)
-  body-comes k n r _ (no-room-for-a-header e u) p m l o = absurd (omega (arith, e, u, o .behind))
-  body-comes k n r _ (format-unknown a c) p m l o = absurd (omega (arith, c, o .known))
-  body-comes k n r _ (length-0 a c d) p m l o = absurd (omega (arith, d, o .length, o .above))
-  body-comes k n r _ (too-long {room} a c d) p m l o = let e : 5 ≡ k = cc in let f : h % 2 ^ 48 ≡ n = cc in let w : room ≡ r = cc in (sym e, sym f ∙ sym (o .length), omega (arith, w, a, o .behind))
-  body-comes k n r _ (accepted a c d) p m l o = let w : _≡_ {A = ℕ} 0 1 = cc in absurd (omega arith)
+  -- and always then
+  comes : (k n r : ℕ) (x : Said) → Announces L h b x → x ≡ violates k n r → (m l : ℕ) →
+      (HeaderOverflows L m l → (k ≡ 2) × (n ≡ m) × (r ≡ l)) × (BodyOverflows L h m l → (k ≡ 5) × (n ≡ m) × (r ≡ l))
+  comes k n r _ (no-room-for-a-header {room} e u) p m l =
+      let a : 2 ≡ k = cc in
+      let d : 8 ≡ n = cc in
+      let w : room ≡ r = cc in ((λ o. (sym a, sym d ∙ sym (o .eight), sym w ∙ e ∙ sym (o .whole))), (λ o. absurd (omega (arith, e, u, o .behind))))
+  comes k n r _ (format-unknown a c) p m l = ((λ o. absurd (omega (arith, a, o .eight, o .whole, o .above))), (λ o. absurd (omega (arith, c, o .known))))
+  comes k n r _ (length-0 a c d) p m l = ((λ o. absurd (omega (arith, a, o .eight, o .whole, o .above))), (λ o. absurd (omega (arith, d, o .length, o .above))))
+  comes k n r _ (too-long {room} a c d) p m l =
+      let e : 5 ≡ k = cc in
+      let f : h % 2 ^ 48 ≡ n = cc in
+      let w : room ≡ r = cc in ((λ o. absurd (omega (arith, a, o .eight, o .whole, o .above))), (λ o. (sym e, sym f ∙ sym (o .length), omega (arith, w, a, o .behind))))
+  comes k n r _ (accepted a c d) p m l = let z : _≡_ {A = ℕ} 0 1 = cc in absurd (omega arith)
 
 -- ---- the two cases
 module _ (c : Call) (ring : List ℕ) (e : Call) where
@@ -183,15 +184,15 @@ module _ (c : Call) (ring : List ℕ) (e : Call) where
         record {
           header-only = λ needed room t.
               let i = numbers _ (told-is _ t) in
-              subst (λ (m : ℕ). HeaderOverflows L m room) (i .1) (subst (λ (m : ℕ). HeaderOverflows L n m) (i .2) (header-by L h b k n r _ a refl (i .0)));
+              subst (λ (m : ℕ). HeaderOverflows L m room) (i .1) (subst (λ (m : ℕ). HeaderOverflows L n m) (i .2) (by-number L h b k n r _ a refl .0 (i .0)));
           header-always = λ needed room x.
-              let y = header-comes L h b k n r _ a refl needed room x in
+              let y = comes L h b k n r _ a refl needed room .0 x in
               let p = number-2 v k n r num (y .0) in let m = y .1 in let l = y .2 in tells-it _ cc;
           body-only = λ needed room t.
               let i = numbers _ (told-is _ t) in
-              subst (λ (m : ℕ). BodyOverflows L h m room) (i .1) (subst (λ (m : ℕ). BodyOverflows L h n m) (i .2) (body-by L h b k n r _ a refl (i .0)));
+              subst (λ (m : ℕ). BodyOverflows L h m room) (i .1) (subst (λ (m : ℕ). BodyOverflows L h n m) (i .2) (by-number L h b k n r _ a refl .1 (i .0)));
           body-always = λ needed room x.
-              let y = body-comes L h b k n r _ a refl needed room x in
+              let y = comes L h b k n r _ a refl needed room .1 x in
               let p = number-5 v k n r num (y .0) in let m = y .1 in let l = y .2 in tells-it _ cc;
           stored = λ w t. subst (λ (x : Violation). Advanced (q .state) (Terminated (Protocol x)) (e .receiver .state)) (told-is w t) (advanced-so (Protocol v) q s e f);
           put-back = λ w t. same-scheduler (Protocol v) q s e f;

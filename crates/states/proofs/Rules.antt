@@ -1,6 +1,6 @@
 -- The rules keep what specs/Promise.antt says of them: batches, the reason rule, advancing a state, the violations' numbers.
 use Prim.Native.Nat.{ℕ, _-_, _/_, min}
-use mathlib.Core.Path.{_≡_, refl, ap, _∙_}
+use mathlib.Core.Path.{_≡_, refl, sym, ap, _∙_}
 use mathlib.Core.Bool.{Bool, cond, true, false}
 use mathlib.Core.Logic.{_≢_}
 use native.Mathlib.Omega.{arith}
@@ -105,28 +105,29 @@ numbers-are _ _ _ _ violation-3 = (refl, refl, refl)
 numbers-are _ _ _ _ violation-4 = (refl, refl, refl)
 numbers-are _ _ _ _ violation-5 = (refl, refl, refl)
 
--- and 2 and 5 are of an overflow
-pub number-2 : (v : Violation) (k needed room : ℕ) → Numbered v k needed room → k ≡ 2 → v ≡ HeaderOverflow (overflowOf needed room)
-number-2 _ _ _ _ violation-1 e = absurd (omega (arith, e))
-number-2 _ _ _ _ violation-2 e = refl
-number-2 _ _ _ _ violation-3 e = absurd (omega (arith, e))
-number-2 _ _ _ _ violation-4 e = absurd (omega (arith, e))
-number-2 _ _ _ _ violation-5 e = absurd (omega (arith, e))
-
-pub number-5 : (v : Violation) (k needed room : ℕ) → Numbered v k needed room → k ≡ 5 → v ≡ BodyOverflow (overflowOf needed room)
-number-5 _ _ _ _ violation-1 e = absurd (omega (arith, e))
-number-5 _ _ _ _ violation-2 e = absurd (omega (arith, e))
-number-5 _ _ _ _ violation-3 e = absurd (omega (arith, e))
-number-5 _ _ _ _ violation-4 e = absurd (omega (arith, e))
-number-5 _ _ _ _ violation-5 e = refl
+-- and is read back from them
+pub number-back : (v : Violation) (k needed room : ℕ) → Numbered v k needed room → violationAt k (overflowOf needed room) ≡ v
+unfolding violationAt
+number-back _ _ _ _ violation-1 = refl
+number-back _ _ _ _ violation-2 = refl
+number-back _ _ _ _ violation-3 = refl
+number-back _ _ _ _ violation-4 = refl
+number-back _ _ _ _ violation-5 = refl
 
 pub violation-back : (v : Violation) → violationAt (violationNumber v) (overflowIn v) ≡ v
-unfolding violationAt
-violation-back InvalidChunkAnnouncement = refl
-violation-back (HeaderOverflow o) = refl
-violation-back UnknownHeader = refl
-violation-back InvalidChunkLength = refl
-violation-back (BodyOverflow o) = refl
+violation-back v = number-back v _ _ _ (numbered v)
+
+module _ (v : Violation) (k needed room : ℕ) (h : Numbered v k needed room) where
+  at-number : (n : ℕ) → k ≡ n → v ≡ violationAt n (overflowOf needed room)
+  at-number n e = sym (number-back v k needed room h) ∙ ap (λ (m : ℕ). violationAt m (overflowOf needed room)) e
+
+  pub number-2 : k ≡ 2 → v ≡ HeaderOverflow (overflowOf needed room)
+  unfolding violationAt
+  number-2 e = at-number 2 e
+
+  pub number-5 : k ≡ 5 → v ≡ BodyOverflow (overflowOf needed room)
+  unfolding violationAt
+  number-5 e = at-number 5 e
 
 -- by the tests of the definition
 pub read-back : (n : ℕ) (o : Overflow) → ReadBack (o .needed) (o .room) n (violationAt n o)

@@ -2,6 +2,7 @@
 -- anew, where the ring is looked at, and what a phase comes to that a host made up.
 use Prim.Native.Nat.{ℕ}
 use mathlib.Core.Path.{_≡_, refl}
+use native.Mathlib.Omega.{arith}
 use mathlib.Core.Bool.{false}
 use mathlib.Core.List.{[]}
 use lib.ListN.{replicate}
@@ -23,6 +24,7 @@ use Rattle.states.specs.declared.state.OperationalState.the-variants.{Normal, D
 use Rattle.states.specs.Answer.{interruptedOf, receivedOf, sentOf, shutOf}
 use Rattle.states.specs.State.{fitsErrno}
 use Rattle.receiver.specs.Receiver.{noneBeside, readOutcome, failedOutcome, doneOutcome, receiver}
+use Rattle.receiver.specs.Overflow.{Hears}
 use Rattle.receiver.specs.Call.{dropping, telling, call, finishedCall, flushCall, wanted, beginReadOf, answeredOf}
 
 abbrev answer : ℕ → ℕ → Answer
@@ -91,3 +93,17 @@ a-made-up-phase :
     Of (finishedCall (receiver (ring 10 0 0) Normal 3 false) (ring 10 0 0) doneOutcome))
 unfolding readyFrom soundOf subMod fitsErrno interruptedOf receivedOf sentOf shutOf
 a-made-up-phase = (refl, refl, refl)
+
+-- a new receiver's read is one of which specs/Overflow.antt speaks
+a-read-hears : Hears (waits (ring 64 0 0) Normal 0 (Receive (wanted 0 9))) byte
+unfolding subMod
+a-read-hears =
+    record {
+      wanted = wanted 0 9;
+      waits = refl;
+      live = λ f e. let z : _≡_ {A = ℕ} 0 1 = cc in omega arith;
+      some = λ e. omega (arith, e);
+      empty = refl;
+      byte = (refl, omega arith, omega arith);
+      zero = refl;
+    }

@@ -11,7 +11,7 @@ pub struct Overflow {
     pub room: u64,
 }
 
-// No byte is behind the header of a ring that is shorter than one.
+// What a header leaves of a ring; nothing of one that is shorter.
 fn behind_header(buf_len: u64) -> u64
     ensures { λ r. ⌜ r ≡ behindHeader «buf_len» ⌝ }
 {
@@ -21,7 +21,7 @@ fn behind_header(buf_len: u64) -> u64
     buf_len - HEADER_LEN
 }
 
-// The Rust has one overflow, of the header and of the body.
+// The other process has broken the protocol. The two overflows are one in the Rust, `ControlOverflow`.
 pub enum Violation {
     InvalidChunkAnnouncement,
     HeaderOverflow(Overflow),

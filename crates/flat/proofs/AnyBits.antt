@@ -35,17 +35,21 @@ pub any-bits : AnyBits
 unfolding typeAt blockTypeAt bitAt diffAt potentialFailureAt failureAt operationsAt stateAt cameAt phaseAt
 any-bits =
     record {
-      types = λ n l. rw (past 0 n l);
-      block-types = λ n l. rw (past 0 n l);
-      bits = λ n l. rw (past 0 n l);
-      bools = λ n l. rw (past 0 n l);
-      differences = λ d l. rw (past 0 (d .different) l);
-      same = λ d z. rw z;
-      potentials = λ n f l. rw (past 0 n l);
-      endings = λ e l. rw (past 0 (e .told) l);
-      lists = λ ops l. rw (far 0 1 (ops .count) (omega arith) l, past 1 (ops .count) l);
-      states = λ s l. rw (far 0 1 (s .kind) (omega arith) l, past 1 (s .kind) l);
-      outcomes = λ o l. rw (far 0 1 (o .kind) (omega arith) l, past 1 (o .kind) l);
-      phases = λ p l. rw (far 0 2 (p .kind) (omega arith) l, far 1 2 (p .kind) (omega arith) l, past 2 (p .kind) l);
+      types = (refl, λ n l. rw (past 0 n l));
+      block-types = (refl, λ n l. rw (past 0 n l));
+      bits = (refl, λ n l. rw (past 0 n l));
+      bools = (refl, λ n l. rw (past 0 n l));
+      potentials = λ f. (refl, λ n l. rw (past 0 n l));
+      differences = λ d. ((λ z. rw z), (λ l. rw (past 0 (d .different) l)));
+      lists = λ ops. ((λ z. rw z), (λ z. rw z), (λ l. rw (far 0 1 (ops .count) (omega arith) l, past 1 (ops .count) l)));
+      states = λ s. ((λ z. rw z), (λ z. rw z), (λ l. rw (far 0 1 (s .kind) (omega arith) l, past 1 (s .kind) l)));
+      outcomes = λ o. ((λ z. rw z), (λ z. rw z), (λ l. rw (far 0 1 (o .kind) (omega arith) l, past 1 (o .kind) l)));
+      phases = λ p.
+          ((λ z. rw z), (λ z. rw z), (λ z. rw z), (λ l. rw (far 0 2 (p .kind) (omega arith) l, far 1 2 (p .kind) (omega arith) l, past 2 (p .kind) l)));
       failures = λ f. by-kind f (eqb (f .kind) 0) refl _ _ (λ z. (z, refl)) (λ s. (s, read-back _ _));
+      operations = λ o. refl;
+      besides = λ o. refl;
+      endings = λ e. refl;
+      receivers = λ r. ((refl, refl, refl), refl, refl, refl);
+      calls = λ c. (refl, (refl, refl, refl), refl);
     }

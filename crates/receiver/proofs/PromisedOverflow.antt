@@ -2,7 +2,7 @@
 -- which a byte 0 leaves two: a chunk is announced, or its header violates.
 use Prim.Native.Nat.{ℕ, _+_, _%_, _^_, _<_, _≤_}
 use mathlib.Core.Path.{_≡_, refl, sym, ap, subst, _∙_}
-use mathlib.Core.Bool.{false}
+use mathlib.Core.Bool.{true, false}
 use mathlib.Core.List.{List}
 use mathlib.Core.Logic.{inl, inr}
 use native.Mathlib.Omega.{arith}
@@ -17,6 +17,7 @@ use Rattle.states.specs.State.{violationNumber, overflowIn}
 use Rattle.states.specs.declared.answer.Answer.{Answer}
 use Rattle.states.specs.declared.answer.Received.{Received}
 use Rattle.states.specs.declared.answer.Received.the-variants as received
+use Rattle.states.specs.declared.answer.Shut.{Shut}
 use Rattle.states.specs.declared.state.Failure.{Failure}
 use Rattle.states.specs.declared.state.Failure.the-variants.{Protocol}
 use Rattle.states.specs.declared.state.OperationalState.the-variants.{Terminated}
@@ -25,7 +26,7 @@ use Rattle.states.specs.declared.state.Violation.{Violation}
 use Rattle.states.specs.declared.state.Violation.the-variants.{HeaderOverflow, BodyOverflow}
 use Rattle.receiver.proofs.CaseSteps.{then-goes}
 use Rattle.receiver.proofs.PromisedMachine.{answered-promised}
-use Rattle.receiver.specs.Cases.{Meets, none-met, is-told, is-dropped, ComesTo, its-own, Closes, is-normal, shut-before, asks, Flushes, none-pending, sends, Serves, failed-before, flushes, HandsOut, a-part, all-of-it, Fails, TakesReceived, announces, header-violates, byte-violates, receive-blocks, receive-fails, BeginsRead, is-terminated, none-asked, awaits, holds-data, ResumesIn, Interrupts, TakesIn, Answered, Goes}
+use Rattle.receiver.specs.Cases.{Meets, none-met, is-told, is-dropped, ComesTo, its-own, Closes, is-normal, shut-before, asks, Flushes, none-pending, sends, Serves, failed-before, flushes, HandsOut, a-part, all-of-it, Fails, TakesReceived, announces, header-violates, byte-violates, receive-blocks, receive-fails, BeginsRead, is-terminated, none-asked, awaits, holds-data, ResumesIn, TakesShut, is-shut, is-not, Interrupts, TakesIn, Answered, Goes}
 use Rattle.receiver.specs.Handed.{comingTo}
 use Rattle.receiver.specs.Overflow.{Hears, HeaderOverflows, BodyOverflows, EndsWith, has-ended, will-end, TellsOverflow}
 use Rattle.receiver.specs.Promise.{nothing-more, Said, violates, Announces, no-room-for-a-header, format-unknown, length-0, too-long, accepted, body}
@@ -109,6 +110,30 @@ module _ (f : Failure) (q : ReceiverState) (s : RingBufferScheduler) (c : Call) 
 
   advanced-so : Advanced (q .state) (Terminated f) (c .receiver .state)
   advanced-so = subst (λ (r : ReceiverState). Advanced (q .state) (Terminated f) (r .state)) (sym (closed-so .1)) (h .advanced)
+
+-- ---- what a call is sure to end with it ends with, whatever is answered
+is-kept : (f g : Failure) (e ending : Ending) → Meets (Some g) e ending → e ≡ dropping f → ending ≡ dropping f
+is-kept f g _ _ is-told p = let d : true ≡ false = ap (λ (x : Ending). x .told) p in let z : _≡_ {A = ℕ} 0 1 = cc in absurd (omega arith)
+is-kept f g _ _ is-dropped p = p
+
+shut-kept : (f : Failure) (q : ReceiverState) (s : RingBufferScheduler) (x : Shut) (e : Call) → TakesShut q s (dropping f) x e → EndsWith f (e .phase)
+shut-kept f q s _ _ (is-shut t) = outcomes f (dropping f) _ refl t
+shut-kept f q s _ _ (is-not m t) = outcomes f _ _ (is-kept f _ _ _ m refl) t
+
+resumed-kept : (f : Failure) (ph : Phase) → EndsWith f ph → (c d : Call) → c .phase ≡ ph → ResumesIn ph c d → EndsWith f (d .phase)
+resumed-kept f _ has-ended c d p r = subst (λ (x : Call). EndsWith f (x .phase)) (sym r) (subst (EndsWith f) (sym p) has-ended)
+resumed-kept f _ will-end c d p r = closing (c .receiver) (c .source) f (dropping f) refl d r .0
+
+taken-kept : (f : Failure) (ring : List ℕ) (a : Answer) (ph : Phase) → EndsWith f ph → (d e : Call) → d .phase ≡ ph → TakesIn ph d ring a e → EndsWith f (e .phase)
+taken-kept f ring a _ has-ended d e p t = subst (λ (x : Call). EndsWith f (x .phase)) (sym t) (subst (EndsWith f) (sym p) has-ended)
+taken-kept f ring a _ will-end d e p (x, says, t) = shut-kept f (d .receiver) (d .source) x e t
+
+answer-kept : (f : Failure) (c : Call) (ring : List ℕ) (a : Answer) (e : Call) → EndsWith f (c .phase) → Answered c ring a e → EndsWith f (e .phase)
+answer-kept f c ring a e h (d, r, t) = taken-kept f ring a (d .phase) (resumed-kept f (c .phase) h c d refl r) d e refl t
+
+pub ends-promised : Keeps 1 answered-kinds.ps answered-kinds.r answered.Learnt (λ κs a z. (f : Failure) → EndsWith f (a .0 .phase) → Goes (λ e. EndsWith f (e .phase)) z)
+ends-promised κs a z p f h =
+    then-goes (Answered (a .0) (a .1 .0 .now) (a .1 .1 .0)) (λ e. EndsWith f (e .phase)) z (λ e k. answer-kept f (a .0) (a .1 .0 .now) (a .1 .1 .0) e h k) (answered-promised κs a z p)
 
 -- ---- what a header's number says, by the violation's number
 module _ (L h : ℕ) (b : Beside) where

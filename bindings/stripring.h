@@ -141,8 +141,9 @@ typedef struct stripring_read_counter {
  *    4  a chunk is empty
  *    5  a chunk's body is too long for the ring          needed: the body's length, room: the ring's length less 8
  *
- * `needed` and `room` are bytes, and a receiver gives 2 and 5 exactly where more are needed than there is room for. A host may store
- * any numbers in them, which are answered as they are. Of an errno and of 1, 3 and 4 they are 0 in answers and not looked at otherwise. */
+ * `needed` and `room` are bytes. A receiver tests the room for a header once the byte is 0, and for a body once the header's format
+ * is known; it gives 2 or 5 exactly where more is needed than there is room for. A host may store any numbers in them, which are
+ * answered as they are. Of an errno and of 1, 3 and 4 they are 0 in answers and not looked at otherwise. */
 typedef struct stripring_failure {
   uint64_t kind;
   uint64_t value;

@@ -8,7 +8,7 @@
 
 enum { HEADER_LEN = 8, RING_LEN = 64, NORMAL = 0, DRAINING = 1, TERMINATED = 2, SHUTDOWN = 2, FAILED = 2 };
 
-static const stripring_answer ANNOUNCED = {.kind = 0}, NOT_ZERO = {.kind = 0, .value = 7};
+static const stripring_answer ANNOUNCED = {.kind = 0, .descriptors = 1}, NOT_ZERO = {.kind = 0, .value = 7};
 static const stripring_answer SENT_ONE = {.kind = 3, .value = 1}, SHUT = {.kind = 4};
 
 static stripring_failure errno_of(uint64_t number) { return (stripring_failure){.kind = 0, .value = number}; }
@@ -41,16 +41,17 @@ static stripring_ended_answer read_of(stripring_receiver r, const uint8_t *ring,
                                       stripring_answer last) {
   uint8_t dst[RING_LEN];
   const stripring_answer answers[] = {first, last};
-  return stripring_receiver_read_with_fds(r, ring, r.scheduler.buf_len, dst, sizeof dst, 0, answers, 2);
+  return stripring_receiver_read_with_fds(r, ring, r.scheduler.buf_len, dst, sizeof dst, 1, answers, 2);
 }
 
-/* The announcement fails the stream, which keeps the failure, and the scheduler is as it was. */
+/* The announcement fails the stream, which keeps the failure; its descriptor is dropped, and the scheduler is as it was. */
 static void is_told(uint64_t ring_len, uint64_t at, uint64_t len, stripring_failure failure) {
   uint8_t ring[RING_LEN];
   stripring_receiver before = receiver(ring, ring_len, at, len);
   stripring_ended_answer read = read_of(before, ring, ANNOUNCED, SHUT);
   CHECK(read.refusal.number == 0 && read.used == 2);
   CHECK(read.outcome.kind == FAILED && same_failure(read.outcome.failure, failure));
+  CHECK(read.outcome.n == 0 && read.outcome.fds == 0);
   CHECK(same_state(read.receiver.state, (stripring_state){TERMINATED, failure}));
   CHECK(same_scheduler(read.receiver.scheduler, before.scheduler));
 }
@@ -58,7 +59,7 @@ static void is_told(uint64_t ring_len, uint64_t at, uint64_t len, stripring_fail
 static void is_read(uint64_t ring_len, uint64_t at, uint64_t len) {
   uint8_t ring[RING_LEN];
   stripring_ended_answer read = read_of(receiver(ring, ring_len, at, len), ring, ANNOUNCED, SENT_ONE);
-  CHECK(read.refusal.number == 0 && read.outcome.kind == 0 && read.outcome.n == len);
+  CHECK(read.refusal.number == 0 && read.outcome.kind == 0 && read.outcome.n == len && read.outcome.fds == 1);
   CHECK(read.receiver.state.kind == NORMAL);
 }
 
@@ -91,7 +92,7 @@ static void other_violations_have_no_numbers(void) {
 static void the_machine_too(void) {
   uint8_t ring[RING_LEN];
   stripring_receiver before = receiver(ring, RING_LEN, 60, 57);
-  stripring_step_answer step = stripring_call_begin_read(before, RING_LEN, 0, RING_LEN);
+  stripring_step_answer step = stripring_call_begin_read(before, RING_LEN, 1, RING_LEN);
   step = stripring_call_answered(step.call, ring, RING_LEN, ANNOUNCED, 1);
   CHECK(step.refusal.number == 0 && step.call.phase.kind == SHUTDOWN);
   CHECK(same_failure(step.call.phase.ending.outcome.failure, violation(5, 57, 56)));
@@ -149,6 +150,7 @@ static void numbers_of_other_failures_are_not_looked_at(void) {
   is_taken_for(violation(0, 57, 56), violation(4, 0, 0));
   is_taken_for(violation(6, 57, 56), violation(4, 0, 0));
   is_taken_for(violation(UINT64_MAX, 57, 56), violation(4, 0, 0));
+  is_taken_for((stripring_failure){7, 5, 57, 56}, violation(5, 57, 56));
 }
 
 static void advances(stripring_failure from, stripring_failure to, stripring_failure reason) {

@@ -16,6 +16,8 @@ const LONG: u64 = 4096;
 const NORMAL: u64 = 0;
 const DRAINING: u64 = 1;
 const TERMINATED: u64 = 2;
+/// Any kind past the last is the last.
+const PAST: u64 = 3;
 
 /// The numbers of a failure.
 type Failure = [u64; FAILURE];
@@ -24,9 +26,9 @@ pub type State = [u64; STATE];
 /// The numbers of a receiver.
 pub type Receiver = [u64; RECEIVER];
 
-/// Errnos that fit, interruption, blocked and the stream's end among them, the five violations, and two numbers that
-/// none has. Of all but the overflows, 2 and 5, the last two numbers are not looked at.
-const FAILURES: [Failure; 21] = [
+/// Errnos that fit, interruption, blocked and the stream's end among them, the five violations, two numbers that
+/// none has, and a kind that none has. Of all but the overflows, 2 and 5, the last two numbers are not looked at.
+const FAILURES: [Failure; 22] = [
     [0, 1, 0, 0],
     [0, 4, 8, 4],
     [0, 5, 0, 0],
@@ -48,6 +50,7 @@ const FAILURES: [Failure; 21] = [
     [1, 5, M, 0],
     [1, 0, 8, 4],
     [1, 6, 57, 56],
+    [7, 5, 57, 56],
 ];
 /// Errnos that do not fit.
 const MISFITS: [Failure; 3] = [[0, 0, 0, 0], [0, 4096, 8, 4], [0, M, M, M]];
@@ -116,6 +119,7 @@ pub fn values(part: Part) -> Vec<Vec<u64>> {
             (NORMAL, &bare),
             (DRAINING, &failures),
             (TERMINATED, &failures),
+            (PAST, &[[0, 5, 57, 56], [7, 5, 57, 56]]),
         ]),
     }
 }

@@ -92,7 +92,7 @@ fn print_head() {
     println!(
         "# failure: 0, an errno and two numbers that are not looked at, in an answer 0; or 1, a"
     );
-    println!("#   violation, the bytes needed and the room");
+    println!("#   violation, the bytes needed and the room; any other kind is taken for 1");
     println!("# violation: 1 InvalidChunkAnnouncement, 2 HeaderOverflow, 3 UnknownHeader,");
     println!(
         "#   4 InvalidChunkLength, 5 BodyOverflow; a number that none has is taken for 4. Of all but"
@@ -108,7 +108,7 @@ fn print_head() {
     println!(
         "# state: 0 Normal and four numbers that are not looked at, in an answer 0; 1 Draining or"
     );
-    println!("#   2 Terminated and a failure");
+    println!("#   2 Terminated and a failure; any other kind is taken for 2");
     println!(
         "# receiver: scheduler, state, pending acknowledgements, 1 if a shutdown has succeeded else 0"
     );

@@ -1,16 +1,12 @@
--- Laws of the scheduler's record: the modulus of its counters, what its tests say, and the bounds of a sound one. The functions' proofs, and
+-- Laws of the scheduler's record: the last counter, what its tests say, and the bounds of a sound one. The functions' proofs, and
 -- callers in other crates, cite them.
-use Prim.Native.Nat.{ℕ, _-_, _*_, _^_, _<_, _≤_}
-use mathlib.Core.Path.{_≡_, refl, sym, ap, _∙_}
-use mathlib.Core.Bool.{Bool, cond, true, false, not}
+use Prim.Native.Nat.{ℕ, _+_, _*_, _^_, _<_, _≤_}
+use mathlib.Core.Path.{_≡_, refl}
+use mathlib.Core.Bool.{Bool, cond, true, false}
 use lib.Dec.{ltb, leb, eqb}
-use borrow.Author.Tests.{eqb-false, ltb-true, ltb-false, leb-false, ne-eqb, le-ltb, lt-leb, le-leb, not-true, not-false}
+use borrow.Author.Tests.{eqb-false, ltb-false, leb-false, ne-eqb, le-ltb, lt-leb, le-leb}
 use native.Mathlib.Nat.{mod-lt}
 use native.Mathlib.Omega.{arith}
-use Rattle.modular.specs.Modulus.{wholeOf, wholeAt, doubleAt}
-use Rattle.modular.specs.declared.Modulus.{Modulus}
-use Rattle.modular.specs.declared.OptionModulus.the-variants as modulus
-use Rattle.modular.proofs.Laws.{whole-pos, double-some, double-whole}
 use Rattle.operations.specs.declared.operation.OperationType.{OperationType}
 use Rattle.operations.specs.declared.operation.OperationType.the-variants.{Read, Write}
 use Rattle.operations.specs.declared.refusal.Refusal.{Refusal}
@@ -19,26 +15,13 @@ use Rattle.sched.specs.declared.scheduler.Checked.the-variants as checke
 use Rattle.sched.specs.declared.scheduler.RingBufferScheduler.{RingBufferScheduler}
 use Rattle.sched.specs.Scheduler.{counterIn, Sized, IsSound, soundOf, dataIn, offsetIn, greatestIn}
 
--- ---- the modulus of the counters
-module _ (l : ℕ) (h : Sized l) (m : Modulus) (e : m ≡ record { 0 = l }) where
-  whole-is : wholeAt 64 (m .0) ≡ l
-  whole-is = rw e (whole-pos 64 l (λ z. omega arith))
+-- ---- a counter beside the last one, 2L - 1
+module _ (l last v : ℕ) (e : last + 1 ≡ 2 * l) where
+  pub beyond : last < v → leb (2 * l) v ≡ true
+  beyond h = le-leb (2 * l) v (omega arith)
 
-  pub double-is : (d : Modulus) → modulus.Some d ≡ doubleAt 64 m → wholeOf d ≡ 2 * l
-  double-is d q = double-whole 64 m d q ∙ ap (λ (x : ℕ). 2 * x) whole-is
-
-  pub double-never-none : modulus.None ≡ doubleAt 64 m → ⊥
-  double-never-none q =
-      let z : _≡_ {A = ℕ} 0 1 = cc (double-some 64 m (omega (arith, whole-is))) in
-      omega arith
-
--- what `contains` of that modulus says of a counter
-module _ (m : Modulus) (l v : ℕ) (b : Bool) (e : wholeOf m ≡ 2 * l) (c : b ≡ ltb v (wholeOf m)) where
-  pub outside : not b ≡ true → leb (2 * l) v ≡ true
-  outside h = le-leb _ _ (rw e at (ltb-false v (wholeOf m) (sym c ∙ not-true b h)))
-
-  pub inside : not b ≡ false → leb (2 * l) v ≡ false
-  inside h = lt-leb _ _ (rw e at (ltb-true v (wholeOf m) (sym c ∙ not-false b h)))
+  pub up-to : v ≤ last → leb (2 * l) v ≡ false
+  up-to h = lt-leb (2 * l) v (omega arith)
 
 -- ---- what the tests say of a scheduler that they take
 never : {A : Type 0} (s : RingBufferScheduler) (e : Refusal) → checked.Sound s ≡ checked.Refused e → A

@@ -1,6 +1,7 @@
 // The scheduler of a ring buffer: the port of rosenpass's sched.rs. It moves no bytes; it says which may be moved, and counts them.
 mod block;
 mod chunk;
+mod counter;
 mod layout;
 mod register;
 mod schedule;

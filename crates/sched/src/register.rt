@@ -1,11 +1,10 @@
 // Registering what was moved, and scheduling and registering at once. A refused call hands no scheduler back.
 ghost use mathlib.Core.Path.{_≡_};
-ghost use Rattle.sched.specs.Counter.{laterOf};
-ghost use Rattle.sched.specs.Scheduler.{Sized, IsSound, advancedIn, registerIn, registerListIn, registerOf, registerListOf, moveIn, moveOf};
+ghost use Prim.Native.Nat.{_≤_};
+ghost use Rattle.sched.specs.Scheduler.{IsSound, advancedIn, registerIn, registerListIn, registerOf, registerListOf, moveIn, moveOf};
+use crate::counter::later_of;
 use crate::scheduler::Checked;
 use crate::scheduler::RingBufferScheduler;
-use crate::scheduler::double_modulus;
-use operations::Counter;
 use operations::Offset;
 use operations::OperationType;
 use operations::OperationsAnswer;
@@ -129,7 +128,7 @@ impl RingBufferScheduler {
     }
 
     fn advanced_in(self, op: OperationType, n: u64) -> RingBufferScheduler
-        requires { ⌜ IsSound self ⌝ }
+        requires { ⌜ IsSound self × (n ≤ self .«buf_len») ⌝ }
         ensures { λ r. ⌜ r ≡ advancedIn self op n ⌝ }
     {
         let buf_len = self.buf_len;
@@ -162,12 +161,4 @@ impl RingBufferScheduler {
             scheduler,
         }
     }
-}
-
-// The counter n items on.
-fn later_of(counter: Counter, buf_len: u64, n: u64) -> Counter
-    requires { ⌜ Sized «buf_len» ⌝ }
-    ensures { λ r. ⌜ r ≡ laterOf «buf_len» counter n ⌝ }
-{
-    Counter(double_modulus(buf_len).add(counter.0, n))
 }

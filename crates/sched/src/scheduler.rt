@@ -1,14 +1,12 @@
 // The scheduler's record, its tests, counters, offsets, data and space. Every public call tests the record that it is given anew, and
 // then works on one that is known to be sound.
 ghost use mathlib.Core.Path.{_≡_};
-ghost use Prim.Native.Nat.{_*_, _<_};
-ghost use Rattle.modular.specs.Modulus.{wholeOf};
-ghost use Rattle.sched.specs.Counter.{offsetOf};
-ghost use Rattle.sched.specs.Scheduler.{schedulerOf, Sized, IsSound, soundOf, dataIn, counterIn, offsetIn, greatestIn, fillStateIn, bufLenOf, counterAnswerOf, offsetAnswerOf, greatestOf, isZeroFrom, isPositiveFrom, fillStateOf};
+ghost use Rattle.sched.specs.Scheduler.{schedulerOf, IsSound, soundOf, dataIn, counterIn, offsetIn, greatestIn, fillStateIn, bufLenOf, counterAnswerOf, offsetAnswerOf, greatestOf, isZeroFrom, isPositiveFrom, fillStateOf};
 use crate::block::BufferFillState;
 use crate::block::FillStateAnswer;
-use modular::Modulus;
-use modular::OptionModulus;
+use crate::counter::data_of;
+use crate::counter::last_counter;
+use crate::counter::offset_of;
 use operations::AmountAnswer;
 use operations::BoolAnswer;
 use operations::Counter;
@@ -64,20 +62,20 @@ impl RingBufferScheduler {
         if buf_len > RingBufferScheduler::MAX_BUF_LEN {
             return Checked::Refused(Refusal::BufferTooLarge { buf_len });
         }
-        let bm2 = double_modulus(buf_len);
-        if !bm2.contains(items_written.0) {
+        let last = last_counter(buf_len);
+        if items_written.0 > last {
             return Checked::Refused(Refusal::ItemsWrittenOutOfBounds {
                 buf_len,
                 items_written,
             });
         }
-        if !bm2.contains(items_read.0) {
+        if items_read.0 > last {
             return Checked::Refused(Refusal::ItemsReadOutofBounds {
                 buf_len,
                 items_read,
             });
         }
-        if bm2.sub(items_written.0, items_read.0) > buf_len {
+        if data_of(items_written, items_read, buf_len) > buf_len {
             return Checked::Refused(Refusal::DataAvailOutOfBounds {
                 buf_len,
                 items_written,
@@ -225,7 +223,9 @@ impl RingBufferScheduler {
         requires { ⌜ IsSound self ⌝ }
         ensures { λ r. ⌜ r ≡ dataIn self ⌝ }
     {
-        double_modulus(self.buf_len).sub(self.items_written.0, self.items_read.0)
+        let items_written = self.items_written;
+        let items_read = self.items_read;
+        data_of(items_written, items_read, self.buf_len)
     }
 
     pub(crate) fn greatest_in(self, op: OperationType) -> u64
@@ -251,28 +251,6 @@ impl RingBufferScheduler {
         }
         BufferFillState::Partial
     }
-}
-
-// The modulus of the counters. At 2^63 it is the full range.
-pub(crate) fn double_modulus(buf_len: u64) -> Modulus
-    requires { ⌜ Sized «buf_len» ⌝ }
-    ensures { λ r. ⌜ wholeOf r ≡ 2 * «buf_len» ⌝ }
-{
-    match Modulus(buf_len).double() {
-        OptionModulus::Some(m) => m,
-        OptionModulus::None => Modulus::new_full_range(),
-    }
-}
-
-// The only way from a counter to an offset. A counter is below 2L, so a compare does for the remainder.
-fn offset_of(counter: Counter, buf_len: u64) -> Offset
-    requires { ⌜ counter .0 < 2 * «buf_len» ⌝ }
-    ensures { λ r. ⌜ r ≡ offsetOf «buf_len» counter ⌝ }
-{
-    if counter.0 < buf_len {
-        return Offset(counter.0);
-    }
-    Offset(counter.0 - buf_len)
 }
 
 fn is_zero_from(a: AmountAnswer) -> BoolAnswer

@@ -2,7 +2,7 @@
 use native.Mathlib.Omega.{arith}
 use Prim.Native.Nat.{_^_}
 use borrow.Author.Tests.{eq-eqb, ne-eqb, lt-ltb, le-ltb}
-use Rattle.sched.proofs.Laws.{outside, inside}
+use Rattle.sched.proofs.Laws.{beyond, up-to}
 use Rattle.sched.specs.Scheduler.{soundOf}
 use borrow.Author.Needs.{needs}
 use Rattle.sched.proofs.scheduler.RingBufferScheduler.demand_soundness.Statement.{statement}
@@ -22,46 +22,47 @@ returns-2 c =
 returns-3 : tie.Need-returns-3
 unfolding soundOf
 returns-3 c =
-    let at-double-modulus = c .before .before in
-    let at-if2 = at-double-modulus .before in
+    let at-last = c .before .before in
+    let at-if2 = at-last .before in
     let at-if1 = at-if2 .before in
-    simp (ne-eqb _ _ (at-if1 .if1 .left), le-ltb _ _ (at-if2 .if2 .left), outside _ _ _ _ (at-double-modulus .double-modulus .ensures) (c .before .contains .ensures) (c .if3 .taken))
+    simp (ne-eqb _ _ (at-if1 .if1 .left), le-ltb _ _ (at-if2 .if2 .left), beyond _ _ _ (at-last .last-counter .ensures) (c .if3 .taken))
 
 returns-4 : tie.Need-returns-4
 unfolding soundOf
 returns-4 c =
     let at-if3 = c .before .before in
-    let at-contains = at-if3 .before in
-    let at-double-modulus = at-contains .before in
-    let at-if2 = at-double-modulus .before in
+    let at-last = at-if3 .before .before in
+    let at-if2 = at-last .before in
     let at-if1 = at-if2 .before in
-    simp (ne-eqb _ _ (at-if1 .if1 .left), le-ltb _ _ (at-if2 .if2 .left), inside _ _ _ _ (at-double-modulus .double-modulus .ensures) (at-contains .contains .ensures) (at-if3 .if3 .left), outside _ _ _ _ (at-double-modulus .double-modulus .ensures) (c .before .contains2 .ensures) (c .if4 .taken))
+    simp (ne-eqb _ _ (at-if1 .if1 .left), le-ltb _ _ (at-if2 .if2 .left), up-to _ _ _ (at-last .last-counter .ensures) (at-if3 .if3 .left), beyond _ _ _ (at-last .last-counter .ensures) (c .if4 .taken))
+
+data-of-requires : tie.Need-data-of-requires
+data-of-requires c κs =
+    let at-if3 = c .before .before in
+    let at-last = at-if3 .before .before in
+    let e = at-last .last-counter .ensures in
+    (record { some = omega arith; fits = omega arith }, omega arith, omega arith)
 
 returns-5 : tie.Need-returns-5
 unfolding soundOf
 returns-5 c =
     let at-if4 = c .before .before in
-    let at-contains2 = at-if4 .before in
-    let at-if3 = at-contains2 .before in
-    let at-contains = at-if3 .before in
-    let at-double-modulus = at-contains .before in
-    let at-if2 = at-double-modulus .before in
+    let at-if3 = at-if4 .before .before in
+    let at-last = at-if3 .before .before in
+    let at-if2 = at-last .before in
     let at-if1 = at-if2 .before in
-    simp (ne-eqb _ _ (at-if1 .if1 .left), le-ltb _ _ (at-if2 .if2 .left), inside _ _ _ _ (at-double-modulus .double-modulus .ensures) (at-contains .contains .ensures) (at-if3 .if3 .left), inside _ _ _ _ (at-double-modulus .double-modulus .ensures) (at-contains2 .contains2 .ensures) (at-if4 .if4 .left), ← at-double-modulus .double-modulus .ensures, ← c .before .sub .ensures, lt-ltb _ _ (c .if5 .taken))
+    simp (ne-eqb _ _ (at-if1 .if1 .left), le-ltb _ _ (at-if2 .if2 .left), up-to _ _ _ (at-last .last-counter .ensures) (at-if3 .if3 .left), up-to _ _ _ (at-last .last-counter .ensures) (at-if4 .if4 .left), ← c .before .data-of .ensures, lt-ltb _ _ (c .if5 .taken))
 
 returns-6 : tie.Need-returns-6
 unfolding soundOf
 returns-6 c =
     let at-if4 = c .before .before in
-    let at-contains2 = at-if4 .before in
-    let at-if3 = at-contains2 .before in
-    let at-contains = at-if3 .before in
-    let at-double-modulus = at-contains .before in
-    let at-if2 = at-double-modulus .before in
+    let at-if3 = at-if4 .before .before in
+    let at-last = at-if3 .before .before in
+    let at-if2 = at-last .before in
     let at-if1 = at-if2 .before in
-    simp (ne-eqb _ _ (at-if1 .if1 .left), le-ltb _ _ (at-if2 .if2 .left), inside _ _ _ _ (at-double-modulus .double-modulus .ensures) (at-contains .contains .ensures) (at-if3 .if3 .left), inside _ _ _ _ (at-double-modulus .double-modulus .ensures) (at-contains2 .contains2 .ensures) (at-if4 .if4 .left), ← at-double-modulus .double-modulus .ensures, ← c .before .sub .ensures, le-ltb _ _ (c .if5 .left))
+    simp (ne-eqb _ _ (at-if1 .if1 .left), le-ltb _ _ (at-if2 .if2 .left), up-to _ _ _ (at-last .last-counter .ensures) (at-if3 .if3 .left), up-to _ _ _ (at-last .last-counter .ensures) (at-if4 .if4 .left), ← c .before .data-of .ensures, le-ltb _ _ (c .if5 .left))
 
 pub demand-soundness-spec : {M : Type 1} → statement M
 demand-soundness-spec =
-    tie.close (tie.spec returns returns-2 (search needs) (search needs) returns-3 (search needs) returns-4 (search needs) returns-5
-    returns-6)
+    tie.close (tie.spec returns returns-2 (search needs) returns-3 returns-4 data-of-requires returns-5 returns-6)

@@ -1,7 +1,17 @@
 -- The offset, the portion and the scheduler after it, each as its own function has it.
+use mathlib.Core.Path.{ap}
+use native.Mathlib.Omega.{arith}
+use Rattle.operations.specs.declared.portion.Portion.{Portion}
+use Rattle.sched.proofs.Laws.{greatest-most}
 use borrow.Author.Needs.{needs}
 use Rattle.sched.proofs.scheduler.RingBufferScheduler.move_in.Statement.{statement}
 use Rattle.sched.proofs.scheduler.RingBufferScheduler.move_in.Tie as tie
+
+-- a portion of the greatest length is at most L
+advanced-in-requires : tie.Need-advanced-in-requires
+advanced-in-requires c κs =
+    let start = c .before .before .before in
+    (start .pre, omega (arith, greatest-most _ (start .pre) (start .args .op), c .before .greatest-in .ensures, ap (λ (p : Portion). p .len) (c .portion-of .ensures)))
 
 returns : tie.Need-returns
 returns c =
@@ -9,4 +19,4 @@ returns c =
     rw (c .advanced-in .ensures, at-portion-of .portion-of .ensures, at-portion-of .before .greatest-in .ensures, at-portion-of .before .before .offset-in .ensures)
 
 pub move-in-spec : {M : Type 1} → statement M
-move-in-spec = tie.close (tie.spec (search needs) (search needs) (search needs) (search needs) returns)
+move-in-spec = tie.close (tie.spec (search needs) (search needs) (search needs) advanced-in-requires returns)

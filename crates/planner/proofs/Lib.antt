@@ -1,4 +1,5 @@
 pub mod SizeLaws
+pub mod QuotientLaws
 pub mod StripLaws
 pub mod PlanLaws
 pub mod CheckLaws

@@ -1,10 +1,13 @@
 -- Strips of one height: where each begins, how many there are, and how many rows fit.
-use Prim.Native.Nat.{ℕ, suc, _+_, _-_, _*_, _/_, _%_, _≤_, _<_, min}
+use Prim.Native.Nat.{ℕ, suc, _+_, _-_, _*_, _/_, _%_, _^_, _≤_, _<_, min}
 use mathlib.Core.Path.{_≡_, refl, sym, ap, _∙_}
+use mathlib.Core.Bool.{true, false}
 use mathlib.Core.Logic.{⊎-elim}
 use native.Mathlib.Nat.{le-div-iff-mul-le, div-add-mod', mod-lt, mul-le-mul-right, suc-mul, add-mul}
 use native.Mathlib.Omega.{arith}
 use Rattle.modular.proofs.Laws.{lt-or-le}
+use Rattle.sched.specs.Chunk.{bodyFits}
+use Rattle.sched.proofs.ChunkLaws.{fits, fits-not}
 use Rattle.planner.specs.declared.sizes.Sizes.{Sizes}
 use Rattle.planner.specs.declared.strips.Outlined.the-variants as outlined
 use Rattle.planner.specs.declared.strips.Strips.{Strips}
@@ -44,6 +47,19 @@ module _ (rows bytes L : ℕ) (f : Fitting rows bytes L) where
 
   pub tallest-some : 1 ≤ tallest
   tallest-some = fits-tallest 1 (omega (arith, f .row))
+
+  -- where 2^16 rows fit, all rows of an image do
+  pub all-fit : bytes ≤ (L - 8) / 2 ^ 16 → rows ≡ heightOf rows bytes L
+  all-fit l =
+      let h : rows * bytes ≤ 2 ^ 16 * bytes = mul-le-mul-right bytes (omega (arith, f .bounded .most-rows)) in
+      omega (arith, le-div-iff-mul-le {k = bytes} {x = rows} {y = L - 8} (f .bounded .some-bytes) .1 (omega (arith, l, h)))
+
+  -- of an image's rows, as many as the height and no more have room
+  pub height-fits : (n : ℕ) → n ≤ heightOf rows bytes L → bodyFits L (n * bytes) ≡ true
+  height-fits n l = fits L (n * bytes) (tallest-fits n (omega (arith, l)))
+
+  pub height-fits-not : (n : ℕ) → n ≤ rows → heightOf rows bytes L < n → bodyFits L (n * bytes) ≡ false
+  height-fits-not n most l = ⊎-elim (fits-not L (n * bytes)) (λ k. absurd (omega (arith, l, fits-tallest n k))) (lt-or-le L (n * bytes + 8))
 
   pub height-some : 1 ≤ heightOf rows bytes L
   height-some = omega (arith, tallest-some, f .bounded .some-rows)

@@ -3,6 +3,8 @@ ghost use mathlib.Core.Path.{_≡_};
 ghost use Prim.Native.Nat.{_≤_, min};
 ghost use Rattle.planner.specs.Promise.{Fitting};
 ghost use Rattle.planner.specs.Strips.{heightOf, outlineIn, outlineOf};
+use crate::quotient::RANGE;
+use crate::quotient::divided;
 use crate::refusal::Refusal;
 use crate::sizes::Sizes;
 use crate::sizes::demand_sizes;
@@ -30,12 +32,16 @@ pub fn outline(rows: u64, row_bytes: u64, buf_len: u64) -> Outlined
     }
 }
 
-// As tall as fits, and no taller than the image.
-fn height_of(rows: u64, row_bytes: u64, buf_len: u64) -> u64
+// As tall as fits, and no taller than the image: all its rows where RANGE would fit, which are more than it has.
+pub(crate) fn height_of(rows: u64, row_bytes: u64, buf_len: u64) -> u64
     requires { ⌜ Fitting rows «row_bytes» «buf_len» ⌝ }
     ensures { λ r. ⌜ r ≡ heightOf rows «row_bytes» «buf_len» ⌝ }
 {
-    least(rows, (buf_len - HEADER_LEN) / row_bytes)
+    let room = buf_len - HEADER_LEN;
+    if room / RANGE >= row_bytes {
+        return rows;
+    }
+    least(rows, divided(room, row_bytes).quotient)
 }
 
 pub(crate) fn least(a: u64, b: u64) -> u64
@@ -47,11 +53,13 @@ pub(crate) fn least(a: u64, b: u64) -> u64
 fn outline_in(rows: u64, height: u64) -> Strips
     requires some { ⌜ 1 ≤ height ⌝ }
     requires within { ⌜ height ≤ rows ⌝ }
+    requires most { ⌜ rows ≤ 65535 ⌝ }
     ensures { λ r. ⌜ r ≡ outlineIn rows height ⌝ }
 {
+    let before_last = divided(rows - 1, height);
     Strips {
-        count: (rows - 1) / height + 1,
+        count: before_last.quotient + 1,
         height,
-        last: (rows - 1) % height + 1,
+        last: before_last.remainder + 1,
     }
 }

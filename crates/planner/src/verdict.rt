@@ -1,12 +1,13 @@
 // Whether a plan from anywhere is one, and if not, which run is the first that is wrong.
 ghost use mathlib.Core.Path.{_≡_};
-ghost use Prim.Native.Nat.{_≤_};
+ghost use Prim.Native.Nat.{ℕ, _≤_};
 ghost use Rattle.planner.specs.Check.{runOf, checkIn, checkOf};
 ghost use Rattle.planner.specs.Promise.{Fitting};
+ghost use Rattle.planner.specs.Strips.{heightOf};
 use crate::refusal::Refusal;
 use crate::sizes::Sizes;
 use crate::sizes::demand_sizes;
-use sched::body_fits;
+use crate::strips::height_of;
 
 pub enum Verdict {
     Accepted,
@@ -27,12 +28,13 @@ fn check_runs(rows: u64, row_bytes: u64, buf_len: u64, plan: &[u64]) -> Verdict
     requires { ⌜ Fitting rows «row_bytes» «buf_len» ⌝ }
     ensures { λ r. ⌜ r ≡ checkIn rows «row_bytes» «buf_len» (now (plan .entry)) ⌝ }
 {
+    let height = height_of(rows, row_bytes, buf_len);
     let mut at = 0;
     let mut run = 0;
     while run < plan.len() / 2 {
         let i = 2 * run;
         let count = plan[i + 1];
-        match check_run(rows, row_bytes, buf_len, at, run as u64, plan[i], count) {
+        match check_run(rows, height, at, run as u64, plan[i], count) {
             Verdict::Accepted => at += count,
             Verdict::Refused(e) => return Verdict::Refused(e),
         }
@@ -44,19 +46,12 @@ fn check_runs(rows: u64, row_bytes: u64, buf_len: u64, plan: &[u64]) -> Verdict
     Verdict::Accepted
 }
 
-// The run that is to go on from row `at`. No sum of numbers that a proposal holds: a compare before the sum.
-fn check_run(
-    rows: u64,
-    row_bytes: u64,
-    buf_len: u64,
-    at: u64,
-    run: u64,
-    first: u64,
-    count: u64,
-) -> Verdict
-    requires sizes { ⌜ Fitting rows «row_bytes» «buf_len» ⌝ }
-    requires within { ⌜ at ≤ rows ⌝ }
-    ensures { λ r. ⌜ r ≡ runOf rows «row_bytes» «buf_len» at run first count ⌝ }
+// The run that is to go on from row `at`, for every image and ring of which `height` is the height. No sum of numbers
+// that a proposal holds: a compare before the sum.
+fn check_run(rows: u64, height: u64, at: u64, run: u64, first: u64, count: u64) -> Verdict
+    requires { ⌜ at ≤ rows ⌝ }
+    ensures { λ r. ⌜ ((bytes L : ℕ) → Fitting rows bytes L → height ≡ heightOf rows bytes L →
+        r ≡ runOf rows bytes L at run first count) ⌝ }
 {
     if count == 0 {
         return Verdict::Refused(Refusal::EmptyRun { run });
@@ -67,7 +62,7 @@ fn check_run(
     if count > rows - at {
         return Verdict::Refused(Refusal::RunOutOfPlace { run });
     }
-    if !body_fits(buf_len, count * row_bytes) {
+    if count > height {
         return Verdict::Refused(Refusal::RunTooLong { run });
     }
     Verdict::Accepted

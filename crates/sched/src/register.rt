@@ -82,10 +82,11 @@ impl RingBufferScheduler {
     pub fn schedule_and_register(self, op: OperationType, max_len: u64) -> MoveAnswer
         ensures { λ r. ⌜ r ≡ moveOf self op «max_len» ⌝ }
     {
-        match self.demand_soundness() {
-            Checked::Sound(s) => MoveAnswer::Of(s.move_in(op, max_len)),
-            Checked::Refused(e) => MoveAnswer::Refused(e),
-        }
+        let s = match self.demand_soundness() {
+            Checked::Sound(s) => s,
+            Checked::Refused(e) => return MoveAnswer::Refused(e),
+        };
+        MoveAnswer::Of(s.move_in(op, max_len))
     }
 
     // ---- of a sound scheduler

@@ -5,17 +5,18 @@ use borrow.Author.Needs.{needs}
 use Rattle.sched.proofs.scheduler.RingBufferScheduler.schedule_and_register.Statement.{statement}
 use Rattle.sched.proofs.scheduler.RingBufferScheduler.schedule_and_register.Tie as tie
 
-move-in-requires : tie.Need-move-in-requires
-move-in-requires c κs = sound _ _ (sym (c .before .s .given .1) ∙ c .before .before .before .demand-soundness .ensures)
-
 returns : tie.Need-returns
-returns c =
-    let at-s = c .before .before in
-    let at-demand-soundness = at-s .before .before in
-    rw (← (sym (at-s .s .given .1) ∙ at-demand-soundness .demand-soundness .ensures), c .move-in .ensures)
+returns c = rw (← (sym (c .before .e .given .1) ∙ c .before .before .before .demand-soundness .ensures))
+
+move-in-requires : tie.Need-move-in-requires
+move-in-requires c κs =
+    let at-s = c .before in
+    sound _ _ (sym (at-s .s .given .1) ∙ at-s .before .before .demand-soundness .ensures)
 
 returns-2 : tie.Need-returns-2
-returns-2 c = rw (← (sym (c .before .e .given .1) ∙ c .before .before .before .demand-soundness .ensures))
+returns-2 c =
+    let at-s = c .before .before in
+    rw (← (sym (at-s .s .given .1) ∙ at-s .before .before .demand-soundness .ensures), c .move-in .ensures)
 
 pub schedule-and-register-spec : {M : Type 1} → statement M
-schedule-and-register-spec = tie.close (tie.spec (search needs) (search needs) move-in-requires (search needs) returns returns-2)
+schedule-and-register-spec = tie.close (tie.spec (search needs) (search needs) (search needs) returns move-in-requires returns-2)

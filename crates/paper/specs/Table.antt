@@ -17,6 +17,7 @@ use Rattle.sched.specs.declared.block.FillStateAnswer.the-variants as fill
 use Rattle.sched.specs.declared.block.LayoutAnswer.the-variants as layout
 use Rattle.operations.specs.declared.counter.AmountAnswer.the-variants as amount
 use Rattle.operations.specs.declared.counter.Counter.{Counter}
+use Rattle.operations.specs.declared.counter.OffsetAnswer.the-variants as offset
 use Rattle.operations.specs.declared.list.ScheduledOperations.{ScheduledOperations}
 use Rattle.operations.specs.declared.list.ScheduledOperations.the-variants as list
 use Rattle.operations.specs.declared.operation.OperationType.{OperationType}
@@ -45,6 +46,8 @@ use Rattle.sched.proofs.scheduler.RingBufferScheduler.fill_state.Kinds as fill-
 use Rattle.sched.proofs.scheduler.RingBufferScheduler.fill_state.Reads as fill-state
 use Rattle.sched.proofs.scheduler.RingBufferScheduler.layout.Kinds as layout-kinds
 use Rattle.sched.proofs.scheduler.RingBufferScheduler.layout.Reads as layout-call
+use Rattle.sched.proofs.scheduler.RingBufferScheduler.operation_offset.Kinds as offset-kinds
+use Rattle.sched.proofs.scheduler.RingBufferScheduler.operation_offset.Reads as operation-offset
 use Rattle.sched.proofs.scheduler.RingBufferScheduler.try_register_write.Kinds as register-kinds
 use Rattle.sched.proofs.scheduler.RingBufferScheduler.try_register_write.Reads as register
 use Rattle.states.specs.declared.state.Failure.the-variants.{Io}
@@ -85,6 +88,10 @@ refusedWith (checked.Refused e) = numberOf e
 abbrev Refuses : ℕ → ℕ → ℕ → ℕ → Type 0
 Refuses l w r k = Answers made-kinds.ps made-kinds.r made.Learnt (l, (counter w, (counter r, tt))) (λ z. refusedWith z ≡ k)
 
+-- the offset of an operation is a
+abbrev OffsetIs : RingBufferScheduler → OperationType → ℕ → Type 0
+OffsetIs s t a = Answers offset-kinds.ps offset-kinds.r operation-offset.Learnt (s, (t, tt)) (λ z. z ≡ offset.Of (record { 0 = a }))
+
 -- of m items asked, this operation is the next, or this is the list, and so many are left over
 abbrev Next : RingBufferScheduler → OperationType → ℕ → NextOperation → ℕ → Type 0
 Next s t m o left = Answers next-kinds.ps next-kinds.r schedule-next.Learnt (s, (t, (m, tt))) (λ z. z ≡ nexts.Of (record { operation = o; remainder = left }))
@@ -108,6 +115,11 @@ pub record Table : Type 0 where
   pub full-layout : Answers layout-kinds.ps layout-kinds.r layout-call.Learnt (ring 10 10 0, tt) (λ z. z ≡ layout.Of DataFreeData)
   pub overfull : Refuses 10 11 0 5
   pub wrapped-data : Answers data-kinds.ps data-kinds.r data-avail.Learnt (ring 10 0 11, tt) (λ z. z ≡ amount.Of 9)
+  pub offset-at-the-length : OffsetIs (ring 10 10 3) Write 0
+  pub offset-at-the-top : OffsetIs (ring (2 ^ 63) (2 ^ 63 - 1) (2 ^ 64 - 1)) Read (2 ^ 63 - 1)
+  pub sum-above-64-bits :
+      Answers register-kinds.ps register-kinds.r register.Learnt (ring (2 ^ 63 - 1) (2 ^ 64 - 3) (2 ^ 64 - 3), (2 ^ 63 - 1, tt))
+      (λ z. z ≡ registered.Advanced (ring (2 ^ 63 - 1) (2 ^ 63 - 2) (2 ^ 64 - 3)))
   pub next-of-9 : Next (ring 10 7 3) Write 9 (next.Some (writeAt 7 3)) 6
   pub list-of-9 : Schedules (ring 10 7 3) Write 9 (list.Two (writeAt 7 3) (writeAt 0 3)) 3
   pub next-of-none : Next (ring 10 3 3) Read 4 next.None 4

@@ -78,7 +78,7 @@ impl RingBufferScheduler {
     // ---- scheduling and registering at once
 
     // What `schedule_contiguous_operations` answers, uncut, and what `try_register_operations` of that answers, from one test of the
-    // record.
+    // record. A refusal returns at once: that keeps the two answers apart in the machine code, and a copy fast (docs/SPEED.md).
     pub fn schedule_and_register(self, op: OperationType, max_len: u64) -> MoveAnswer
         ensures { λ r. ⌜ r ≡ moveOf self op «max_len» ⌝ }
     {

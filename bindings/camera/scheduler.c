@@ -1,5 +1,5 @@
 /* The scheduler alone, on a camera core that neither divides nor multiplies. `run` gives 0, or which check was the first that
- * failed; tools/camera-core links this with nothing but the library and start.c, and runs it. */
+ * failed, 255 for a later one; tools/camera-core links this with nothing but the library and start.c, and runs it. */
 #include "stripring.h"
 
 static const uint64_t HALF = (uint64_t)1 << 63;
@@ -84,5 +84,5 @@ unsigned run(void) {
   long_one();
   at_the_length();
   rounds();
-  return failed == 0 && checks > 0 ? 0 : failed < 255 ? failed : 255;
+  return failed < 255 ? failed : 255;
 }

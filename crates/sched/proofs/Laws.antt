@@ -13,7 +13,7 @@ use Rattle.operations.specs.declared.refusal.Refusal.{Refusal}
 use Rattle.operations.specs.declared.refusal.Refusal.the-variants.{ZeroBufferLength, BufferTooLarge, ItemsWrittenOutOfBounds, ItemsReadOutofBounds, DataAvailOutOfBounds}
 use Rattle.sched.specs.declared.scheduler.Checked.the-variants as checked
 use Rattle.sched.specs.declared.scheduler.RingBufferScheduler.{RingBufferScheduler}
-use Rattle.sched.specs.Scheduler.{counterIn, Sized, IsSound, soundOf, dataIn, offsetIn, greatestIn}
+use Rattle.sched.specs.Scheduler.{counterIn, IsSound, soundOf, dataIn, offsetIn, greatestIn}
 
 -- ---- a counter beside the last one, 2L - 1
 module _ (l last v : ℕ) (e : last + 1 ≡ 2 * l) where

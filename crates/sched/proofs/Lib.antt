@@ -1,4 +1,5 @@
 pub mod Laws
+pub mod CounterLaws
 pub mod LayoutLaws
 pub mod RegisterLaws
 pub mod ScheduleLaws

@@ -1,24 +1,22 @@
--- The difference, or where the read counter is the greater one 2L less what it is greater by.
-use Prim.Native.Nat.{_*_}
-use mathlib.Core.Path.{refl, sym}
+-- The difference, wrapped, or where the read counter is the greater one 2L more.
 use native.Mathlib.Omega.{arith}
-use native.Mathlib.Nat.{mod-eq-of-lt}
 use borrow.Author.Needs.{needs}
-use Rattle.modular.proofs.Laws.{sub-not-below, sub-below}
+use Rattle.sched.proofs.CounterLaws.{not-below, below}
 use Rattle.sched.proofs.counter.data_of.Statement.{statement}
 use Rattle.sched.proofs.counter.data_of.Tie as tie
 
 returns : tie.Need-returns
 returns c =
-    let start = c .before in
-    let a = start .args in
-    sub-not-below (2 * a .buf-len) _ _ (a .items-written .0) (a .items-read .0) (omega (arith, start .pre)) (sym (mod-eq-of-lt (start .pre .1))) (sym (mod-eq-of-lt (start .pre .2))) (omega arith)
+    let at-ahead = c .before in
+    let h = at-ahead .before .pre in
+    not-below _ _ _ _ (h .0) (h .1) (h .2) (omega arith) (at-ahead .wrapping-sub-u64 .ensures) (c .if1 .taken)
 
 returns-2 : tie.Need-returns-2
 returns-2 c =
-    let start = c .before .before in
-    let a = start .args in
-    omega (arith, c .last-counter .ensures, sub-below (2 * a .buf-len) _ _ (a .items-written .0) (a .items-read .0) (omega (arith, start .pre)) (sym (mod-eq-of-lt (start .pre .1))) (sym (mod-eq-of-lt (start .pre .2))) (2 * a .buf-len) refl (omega arith))
+    let at-if1 = c .before .before in
+    let at-ahead = at-if1 .before in
+    let h = at-ahead .before .pre in
+    below _ _ _ _ (h .0) (h .1) (h .2) (omega arith) (at-ahead .wrapping-sub-u64 .ensures) _ _ (at-if1 .if1 .left) (c .before .doubled .ensures) (c .wrapping-add-u64 .ensures)
 
 pub data-of-spec : {M : Type 1} → statement M
-data-of-spec = tie.close (tie.spec returns (search needs) (search needs) (search needs) (search needs) returns-2)
+data-of-spec = tie.close (tie.spec (search needs) returns (search needs) (search needs) returns-2)

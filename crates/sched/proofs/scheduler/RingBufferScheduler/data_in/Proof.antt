@@ -1,5 +1,4 @@
 -- Of counters that a sound scheduler has.
-use borrow.Author.Needs.{needs}
 use Rattle.sched.proofs.scheduler.RingBufferScheduler.data_in.Statement.{statement}
 use Rattle.sched.proofs.scheduler.RingBufferScheduler.data_in.Tie as tie
 

@@ -46,8 +46,8 @@ fn check_runs(rows: u64, row_bytes: u64, buf_len: u64, plan: &[u64]) -> Verdict
     Verdict::Accepted
 }
 
-// The run that is to go on from row `at`, for every image and ring of which `height` is the height. No sum of numbers
-// that a proposal holds: a compare before the sum.
+// The run that is to go on from row `at`, for every image and ring of which `height` is the height. A plan from anywhere holds any numbers:
+// they are compared, and never added.
 fn check_run(rows: u64, height: u64, at: u64, run: u64, first: u64, count: u64) -> Verdict
     requires { ⌜ at ≤ rows ⌝ }
     ensures { λ r. ⌜ ((bytes L : ℕ) → Fitting rows bytes L → height ≡ heightOf rows bytes L →

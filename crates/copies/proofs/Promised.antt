@@ -26,7 +26,7 @@ use Rattle.modular.proofs.Saying.{Keeps}
 use Rattle.sched.specs.Given.{Given, taken}
 use Rattle.operations.proofs.Given.{number-some}
 use Rattle.sched.proofs.Given.{record-exactly}
-use Rattle.sched.proofs.Promises.{registers}
+use Rattle.sched.proofs.Counting.{moved}
 use Rattle.operations.specs.Refusal.{numberOf, valuesOf}
 use Rattle.copies.specs.declared.Copied.{Copied}
 use Rattle.copies.specs.declared.Copied.the-variants as copied
@@ -163,7 +163,7 @@ module _ (s : RingBufferScheduler) (ring : List ℕ) where
   writes src z (right h e) =
       let n : ℕ = min (length src) (greatestIn s Write) in
       let t : length (take n src) ≡ n = length-take-le n src (omega arith) in
-      promise.moves (portionOf (length src) (greatestIn s Write)) _ _ refl (left-over (length src) (greatestIn s Write)) (registers s h Write n (omega arith))
+      promise.moves (portionOf (length src) (greatestIn s Write)) _ _ refl (left-over (length src) (greatestIn s Write)) (moved s h n Write (omega arith))
       (rw t at (get-put (s .«buf_len») ring (offsetIn s Write .0) (take n src) e (omega (arith, greatest-most s h Write))))
       (rw t at (put-own (s .«buf_len») ring (offsetIn s Write .0) (take n src)))
   writes src z (wrong h ne) = promise.refuses RingMemory
@@ -173,7 +173,7 @@ module _ (s : RingBufferScheduler) (ring : List ℕ) where
       Reads s ring dst (toldOf (readFrom ring dst z .answer)) (recordAfter s (readFrom ring dst z .answer)) (readFrom ring dst z .memory)
   reads dst z (right h e) =
       let n : ℕ = min (length dst) (greatestIn s Read) in
-      promise.moves (portionOf (length dst) (greatestIn s Read)) _ _ refl (left-over (length dst) (greatestIn s Read)) (registers s h Read n (omega arith))
+      promise.moves (portionOf (length dst) (greatestIn s Read)) _ _ refl (left-over (length dst) (greatestIn s Read)) (moved s h n Read (omega arith))
       (take-at (get (s .«buf_len») ring (offsetIn s Read .0) n) (drop n dst) n (length-get (s .«buf_len») ring (offsetIn s Read .0) n))
       (get-own (s .«buf_len») ring (offsetIn s Read .0) n dst (omega arith))
   reads dst z (wrong h ne) = promise.refuses RingMemory

@@ -7,9 +7,9 @@ use lib.ListN.{length, getD, take, drop}
 use Rattle.operations.specs.declared.operation.OperationType.the-variants.{Read, Write}
 use Rattle.operations.specs.declared.portion.Portion.{Portion}
 use Rattle.operations.specs.Promise.{LeftOver}
-use Rattle.sched.specs.declared.register.Registered.the-variants as registered
 use Rattle.sched.specs.declared.scheduler.RingBufferScheduler.{RingBufferScheduler}
-use Rattle.sched.specs.Scheduler.{greatestIn, offsetIn, registerOf}
+use Rattle.sched.specs.Promise.{MovedBy}
+use Rattle.sched.specs.Scheduler.{greatestIn, offsetIn}
 use Rattle.copies.specs.declared.refusal.Refusal.{Refusal}
 use Rattle.copies.specs.declared.Copied.{Copied}
 use Rattle.copies.specs.declared.Copied.the-variants as copied
@@ -50,7 +50,7 @@ module _ (s : RingBufferScheduler) (ring : List ℕ) where
     moves : (n : Portion) (after : RingBufferScheduler) (memory : List ℕ) →
         n .len ≡ min (length src) (greatestIn s Write) →
         LeftOver (length src) (greatestIn s Write) (n .len) (n .remainder) →
-        registerOf s Write (n .len) ≡ registered.Advanced after →
+        MovedBy s Write (n .len) after →
         get (s .«buf_len») memory (offsetIn s Write .0) (n .len) ≡ take (n .len) src →
         OnlyCells (s .«buf_len») (offsetIn s Write .0) (n .len) ring memory →
         Writes src (told.Moved n) after memory
@@ -61,7 +61,7 @@ module _ (s : RingBufferScheduler) (ring : List ℕ) where
     moves : (n : Portion) (after : RingBufferScheduler) (memory : List ℕ) →
         n .len ≡ min (length dst) (greatestIn s Read) →
         LeftOver (length dst) (greatestIn s Read) (n .len) (n .remainder) →
-        registerOf s Read (n .len) ≡ registered.Advanced after →
+        MovedBy s Read (n .len) after →
         take (n .len) memory ≡ get (s .«buf_len») ring (offsetIn s Read .0) (n .len) →
         OnlyFront (n .len) dst memory →
         Reads dst (told.Moved n) after memory

@@ -8,7 +8,8 @@ use native.Mathlib.Omega.{arith}
 use Rattle.operations.specs.declared.counter.Counter.{Counter}
 use Rattle.sched.specs.declared.scheduler.RingBufferScheduler.{RingBufferScheduler}
 use Rattle.sched.specs.Scheduler.{IsSound}
-use Rattle.sched.proofs.Laws.{sound, sound-is}
+use Rattle.sched.proofs.Counting.{taken-sound}
+use Rattle.sched.proofs.Laws.{sound-is}
 use Rattle.ends.specs.declared.writing_end.WritingEnd.{WritingEnd}
 use Rattle.ends.specs.declared.reading_end.ReadingEnd.{ReadingEnd}
 use Rattle.ends.specs.Ends.{writingEnd, readingEnd}
@@ -59,6 +60,6 @@ begins s h e =
 pub demand3-plain : Demand3-of definitions
 unfolding laws
 demand3-plain s ring t e q =
-    let h = sound s s (sym t) in
+    let h = taken-sound s t in
     let is = begins s h e in
     shared plain (s .«buf_len») (s .«items_read» .0) (laws (s .«buf_len») (s .«items_read» .0)) (writingEnd s) (readingEnd s) ring (ap writingEnd is) (ap readingEnd is) (omega arith) (h .sized .fits) q

@@ -6,6 +6,7 @@ use mathlib.Core.List.{List, [], _∷_, _++_, List·Memᴰ·head as here, List·
 use native.Mathlib.Omega.{arith}
 use Rattle.modular.specs.Modulus.{subMod, addMod}
 use Rattle.sched.specs.declared.scheduler.RingBufferScheduler.{RingBufferScheduler}
+use Rattle.sched.specs.Promise.{Taken}
 use Rattle.sched.specs.Scheduler.{schedulerOf, soundOf}
 use Rattle.copies.specs.Copies.{readyFrom}
 use Rattle.ends.specs.Ends.{writingEnd, readingEnd, takenFrom}
@@ -123,9 +124,17 @@ allowed =
     can-then s₀ e₁ (e₂ ++ (e₃ ++ e₄)) can₁
     (rw goes₁ (can-then s₁ e₂ (e₃ ++ e₄) can₂ (rw goes₂ (can-then s₂ e₃ e₄ can₃ (rw goes₃ can₄)))))
 
+taken : Taken (ring 3 5 5)
+taken =
+    record {
+      sized = record { some = omega arith; fits = omega arith };
+      read = omega arith;
+      held = (0, record { at-most = omega arith; ahead = refl });
+    }
+
 promised : Demand3 plain s₄
-unfolding s₀ soundOf subMod
-promised = rw computed at (demand3-of-calls definitions some-calls (ring 3 5 5) (0 ∷ 0 ∷ 0 ∷ []) refl refl refl es allowed)
+unfolding s₀
+promised = rw computed at (demand3-of-calls definitions some-calls (ring 3 5 5) (0 ∷ 0 ∷ 0 ∷ []) taken refl refl es allowed)
 
 -- a write of three bytes here, where there is space for one, moves one, into the place 0, and touches no other
 moves-one : (writing plain s₄ (7 ∷ 8 ∷ 9 ∷ []) .answer ≡ done 1) × (writing plain s₄ (7 ∷ 8 ∷ 9 ∷ []) .memory ≡ 7 ∷ 9 ∷ 10 ∷ [])

@@ -3,9 +3,8 @@ use Prim.Native.Nat.{ℕ, _≤_, _<_}
 use mathlib.Core.Path.{_≡_}
 use mathlib.Core.List.{List}
 use lib.ListN.{length}
-use Rattle.sched.specs.declared.scheduler.Checked.the-variants.{Sound}
 use Rattle.sched.specs.declared.scheduler.RingBufferScheduler.{RingBufferScheduler}
-use Rattle.sched.specs.Scheduler.{soundOf}
+use Rattle.sched.specs.Promise as promise
 use Rattle.ends.specs.declared.writing_end.WrittenCounter.{WrittenCounter}
 use Rattle.ends.specs.declared.writing_end.WrittenCounterAnswer.{WrittenCounterAnswer}
 use Rattle.ends.specs.declared.writing_end.WrittenCounterAnswer.the-variants as writtenCounter
@@ -101,5 +100,5 @@ plain = kindOf definitions
 -- counters, over memory of that length
 abbrev pub Demand3-of : Calls → Type 0
 Demand3-of c =
-    (s : RingBufferScheduler) (ring : List ℕ) → soundOf s ≡ Sound s → s .«items_written» ≡ s .«items_read» → length ring ≡ s .«buf_len» →
+    (s : RingBufferScheduler) (ring : List ℕ) → promise.Taken s → s .«items_written» ≡ s .«items_read» → length ring ≡ s .«buf_len» →
     HoldsFrom (kindOf c) (writingEnd s) (readingEnd s) ring

@@ -27,7 +27,7 @@ use Rattle.operations.specs.Operation.{operationOf}
 use Rattle.sched.specs.Promise.{MovedByList, by-none, by-one, by-two, NextIs, Between, Taken, MovedBy}
 use Rattle.sched.specs.Scheduler.{Sized, IsSound, soundOf, dataIn, greatestIn, offsetIn, someOf, nextIn, advancedIn, registerOf, registerListOf, thenRegister}
 use Rattle.sched.proofs.Laws.{sound-is, sound-both, offset-lt}
-use Rattle.sched.proofs.RegisterLaws.{registered-sound, advanced-sound}
+use Rattle.sched.proofs.RegisterLaws.{registered-sound, moved}
 use Rattle.sched.proofs.ScheduleLaws.{next-is, some-none, some-some}
 use Rattle.operations.proofs.Given.{list-kept}
 use Rattle.sched.proofs.GivenLists.{tests-list, registers-one, registers-two}
@@ -65,26 +65,6 @@ module _ (s : RingBufferScheduler) where
   sound-taken h = record { sized = h .sized; read = h .read; held = (dataIn s, between h) }
 
 -- ---- registering
-module _ (s : RingBufferScheduler) (h : IsSound s) (n : ℕ) where
-  pub moved : (t : OperationType) → n ≤ greatestIn s t → MovedBy s t n (advancedIn s t n)
-  moved Read l =
-      let e : dataIn (advancedIn s Read n) ≡ dataIn s - n = sub-to-sum (2 * s .«buf_len») (s .«items_written» .0) (s .«items_read» .0) n (omega arith) l in
-      record {
-        sound = advanced-sound s h n Read l;
-        length = refl;
-        written = refl;
-        read = add-is (2 * s .«buf_len») (s .«items_read» .0) n;
-        fill = omega arith;
-      }
-  moved Write l =
-      record {
-        sound = advanced-sound s h n Write l;
-        length = refl;
-        read = refl;
-        written = add-is (2 * s .«buf_len») (s .«items_written» .0) n;
-        fill = sub-of-sum (2 * s .«buf_len») (s .«items_written» .0) (s .«items_read» .0) n (omega arith) (omega arith);
-      }
-
 never : {A : Type 0} (u : RingBufferScheduler) (e : Refusal) → registered.Refused e ≡ registered.Advanced u → A
 never u e p = let z : _≡_ {A = ℕ} 0 1 = cc in absurd (omega arith)
 

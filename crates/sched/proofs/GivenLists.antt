@@ -22,9 +22,10 @@ use Rattle.sched.specs.declared.scheduler.RingBufferScheduler.{RingBuffe
 use Rattle.operations.specs.Given.{Verdict, accepted, refused, numberIn, valuesIn, Exactly, GivenList, ofOperations}
 use Rattle.sched.specs.Given.{Given, GivenRegister, given-6, GivenOperations, the-record, the-list, nothing, alone, at-first, at-second, ofChecked, ofRegistered}
 use Rattle.operations.specs.List.{listed, soundListOf}
+use Rattle.sched.specs.Promise.{MovedBy}
 use Rattle.sched.specs.Scheduler.{registerIn, IsSound, soundOf, greatestIn, advancedIn, registerOf, registerListIn, registerListOf, thenRegister}
 use Rattle.sched.proofs.Laws.{sound-is, sound-both}
-use Rattle.sched.proofs.RegisterLaws.{advanced-sound}
+use Rattle.sched.proofs.RegisterLaws.{advanced-sound, moved, moved-is}
 use Rattle.sched.proofs.Promises.{too-large, registers}
 use Rattle.sched.proofs.Given.{record-exactly, register-exactly}
 
@@ -67,7 +68,7 @@ module _ (s : RingBufferScheduler) where
         both l g =
             ⊎-elim
             (λ f. rw (first-refused a b l (OperationTooLarge (a .typ) (a .len) (greatestIn s (a .typ))) (too-large s h (a .typ) (a .len) f)) (at-first {k = 6} h g (omega arith) (given-6 h (type-number (a .typ)) f)))
-            (λ f. rw (ap ofRegistered (second-asked a b l f)) (at-second h g f (register-exactly (advancedIn s (a .typ) (a .len)) (b .typ) (b .len) .only)))
+            (λ f. rw (ap ofRegistered (second-asked a b l f)) (at-second h g f (advancedIn s (a .typ) (a .len)) (moved s h (a .len) (a .typ) f) (register-exactly (advancedIn s (a .typ) (a .len)) (b .typ) (b .len) .only)))
             (lt-or-le (greatestIn s (a .typ)) (a .len))
 
         go : (x : OperationsAnswer) → soundListOf (list.Two a b) ≡ x → GivenList (list.Two a b) (numberIn (ofList (list.Two a b))) (valuesIn (ofList (list.Two a b))) → GivenOperations s (list.Two a b) (numberIn (ofOps (list.Two a b))) (valuesIn (ofOps (list.Two a b)))
@@ -92,8 +93,8 @@ module _ (s : RingBufferScheduler) where
           go (registered.Advanced u) q d = absurd (omega (arith, ap (λ (c : Registered). numberIn (ofRegistered c)) q, d .0))
           go (registered.Refused e) q d = rw (first-refused a b l e q) (rw q at d)
 
-      second-always : a .len ≤ greatestIn s (a .typ) → GivenRegister (advancedIn s (a .typ) (a .len)) (b .typ) (b .len) k vs → Told (ofOps (list.Two a b)) k vs
-      second-always f g = rw (ap ofRegistered (second-asked a b l f)) (register-exactly (advancedIn s (a .typ) (a .len)) (b .typ) (b .len) .always k vs g)
+      second-always : a .len ≤ greatestIn s (a .typ) → (u : RingBufferScheduler) → MovedBy s (a .typ) (a .len) u → GivenRegister u (b .typ) (b .len) k vs → Told (ofOps (list.Two a b)) k vs
+      second-always f u m g = rw (ap ofRegistered (second-asked a b l f), ← moved-is s u (a .typ) (a .len) m) (register-exactly u (b .typ) (b .len) .always k vs g)
 
   operations-only : (ops : ScheduledOperations) → GivenOperations s ops (numberIn (ofOps ops)) (valuesIn (ofOps ops))
   operations-only ops = go (soundOf s) refl
@@ -115,7 +116,7 @@ module _ (s : RingBufferScheduler) where
   operations-always (nothing h) = told (ofOps list.None) accepted (ap ofRegistered (tests-list h list.None))
   operations-always (alone {a} {k} {vs} h g) = alone-always h a k vs g
   operations-always (at-first {a} {b} {k} {vs} h l p g) = first-always h a b (list-passed a b l) k vs p g
-  operations-always (at-second {a} {b} {k} {vs} h l f g) = second-always h a b (list-passed a b l) k vs f g
+  operations-always (at-second {a} {b} {k} {vs} h l f u m g) = second-always h a b (list-passed a b l) k vs f u m g
 
   pub operations-exactly : (ops : ScheduledOperations) → Exactly (GivenOperations s ops) (ofRegistered (registerListOf s ops))
   operations-exactly ops = record { only = operations-only ops; always = λ k vs g. operations-always g }

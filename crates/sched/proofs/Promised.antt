@@ -23,9 +23,9 @@ use Rattle.sched.specs.declared.register.Registered.the-variants as regi
 use Rattle.sched.specs.declared.scheduler.RingBufferScheduler.{RingBufferScheduler}
 use Rattle.sched.specs.Promise.{Schedules, Asks, Moves, NextPromise, Between, Taken, WrittenBy, MovedBy, MovedByList}
 use Rattle.sched.specs.Scheduler.{IsSound, soundOf, dataIn, spaceIn, greatestIn, nextIn, bothOf, joined, byBlocks, scheduleIn, advancedIn, nextOf, scheduleOf, registerOf, registerListOf}
-use Rattle.sched.proofs.Counting.{between, taken-sound, sound-taken, moved, registered-moved, list-moved, next-promised}
+use Rattle.sched.proofs.Counting.{between, taken-sound, sound-taken, registered-moved, list-moved, next-promised}
 use Rattle.sched.proofs.Laws.{sound-is, sound-both}
-use Rattle.sched.proofs.RegisterLaws.{advanced-sound}
+use Rattle.sched.proofs.RegisterLaws.{advanced-sound, moved}
 use Rattle.sched.proofs.Promises.{scheduling, registers}
 use Rattle.sched.proofs.Remainder.{next-leaves, list-leaves}
 use Rattle.sched.proofs.Says.{demand-soundness-says, data-avail-says, space-avail-says, max-operation-len-says, schedule-contiguous-operations-says, schedule-reads-says, schedule-writes-says, schedule-next-contiguous-operation-says, schedule-next-read-says, schedule-next-write-says, try-register-read-says, try-register-write-says, try-register-operation-manually-says, try-register-operation-says, try-register-operations-says}

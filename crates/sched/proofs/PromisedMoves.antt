@@ -20,9 +20,8 @@ use Rattle.sched.specs.declared.schedule.ScheduledAnswer.the-variants as
 use Rattle.sched.specs.declared.scheduler.RingBufferScheduler.{RingBufferScheduler}
 use Rattle.sched.specs.Promise.{cutOf, MovePromise, MovesAtOnce}
 use Rattle.sched.specs.Scheduler.{IsSound, greatestIn, scheduledOf, scheduleIn, registerListOf, moveIn}
-use Rattle.sched.proofs.Counting.{moved}
 use Rattle.sched.proofs.Laws.{sound-is}
-use Rattle.sched.proofs.RegisterLaws.{move-of, move-refused}
+use Rattle.sched.proofs.RegisterLaws.{move-of, move-refused, moved}
 use Rattle.sched.proofs.ScheduleLaws.{schedule-is}
 use Rattle.sched.proofs.Promises.{scheduling}
 use Rattle.sched.proofs.Promised.{Schedule, scheduled, schedule-of}

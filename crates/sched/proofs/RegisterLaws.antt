@@ -5,7 +5,9 @@ use mathlib.Core.Bool.{Bool, cond, true, false}
 use lib.Dec.{ltb}
 use borrow.Author.Tests.{ltb-false}
 use native.Mathlib.Omega.{arith}
-use Rattle.modular.proofs.Laws.{add-lt, sub-of-sum, sub-to-sum, add-halved, add-add, add-nothing}
+use Rattle.modular.specs.Modulus.{addMod}
+use Rattle.modular.proofs.Laws.{add-is, add-lt, sub-of-sum, sub-to-sum, add-halved, add-add, add-nothing}
+use Rattle.operations.specs.declared.counter.Counter.{Counter}
 use Rattle.operations.specs.declared.operation.OperationType.{OperationType}
 use Rattle.operations.specs.declared.operation.OperationType.the-variants.{Read, Write}
 use Rattle.operations.specs.declared.refusal.Refusal.{Refusal}
@@ -16,6 +18,7 @@ use Rattle.sched.specs.declared.scheduler.RingBufferScheduler.{RingBuffe
 use Rattle.sched.specs.declared.register.Move.{Move}
 use Rattle.sched.specs.declared.register.MoveAnswer.the-variants as moves
 use Rattle.sched.specs.declared.register.Registered.the-variants as registered
+use Rattle.sched.specs.Promise.{MovedBy}
 use Rattle.sched.specs.Scheduler.{IsSound, soundOf, dataIn, offsetIn, greatestIn, advancedIn, registerIn, moveIn, moveOf}
 use Rattle.sched.proofs.Laws.{sound-both, sound-is}
 
@@ -59,6 +62,39 @@ advanced-nothing s h Write = rw (add-nothing (2 * s .«buf_len») (s .«items_wr
 pub advanced-length : (s : RingBufferScheduler) (n : ℕ) (t : OperationType) → advancedIn s t n .«buf_len» ≡ s .«buf_len»
 advanced-length s n Read = refl
 advanced-length s n Write = refl
+
+-- ---- what registering does, in the words of `Promise`
+module _ (s : RingBufferScheduler) (h : IsSound s) (n : ℕ) where
+  pub moved : (t : OperationType) → n ≤ greatestIn s t → MovedBy s t n (advancedIn s t n)
+  moved Read l =
+      let e : dataIn (advancedIn s Read n) ≡ dataIn s - n = sub-to-sum (2 * s .«buf_len») (s .«items_written» .0) (s .«items_read» .0) n (omega arith) l in
+      record {
+        sound = advanced-sound s h n Read l;
+        length = refl;
+        written = refl;
+        read = add-is (2 * s .«buf_len») (s .«items_read» .0) n;
+        fill = omega arith;
+      }
+  moved Write l =
+      record {
+        sound = advanced-sound s h n Write l;
+        length = refl;
+        read = refl;
+        written = add-is (2 * s .«buf_len») (s .«items_written» .0) n;
+        fill = sub-of-sum (2 * s .«buf_len») (s .«items_written» .0) (s .«items_read» .0) n (omega arith) (omega arith);
+      }
+
+-- and what was so moved is the advanced one
+abbrev counterAt : ℕ → Counter
+counterAt n = record { 0 = n }
+
+pub moved-is : (s u : RingBufferScheduler) (t : OperationType) (n : ℕ) → MovedBy s t n u → u ≡ advancedIn s t n
+moved-is s u Read n m =
+    let q : u .«items_read» ≡ counterAt (addMod (2 * s .«buf_len») (s .«items_read» .0) n) = ap counterAt (m .read ∙ sym (add-is (2 * s .«buf_len») (s .«items_read» .0) n)) in
+    λ i. record { «buf_len» = m .length i; «items_read» = q i; «items_written» = m .written i }
+moved-is s u Write n m =
+    let q : u .«items_written» ≡ counterAt (addMod (2 * s .«buf_len») (s .«items_written» .0) n) = ap counterAt (m .written ∙ sym (add-is (2 * s .«buf_len») (s .«items_written» .0) n)) in
+    λ i. record { «buf_len» = m .length i; «items_read» = m .read i; «items_written» = q i }
 
 -- a scheduler that registering hands back is sound
 pub registered-sound : (s : RingBufferScheduler) → IsSound s → (t : OperationType) (n : ℕ) (u : RingBufferScheduler) → registered.Advanced u ≡ registerIn s t n → IsSound u

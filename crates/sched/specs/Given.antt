@@ -32,7 +32,8 @@ use Rattle.sched.specs.declared.register.MoveAnswer.the-variants as move
 use Rattle.sched.specs.declared.register.Registered.{Registered}
 use Rattle.sched.specs.declared.register.Registered.the-variants as registered
 use Rattle.sched.specs.declared.scheduler.RingBufferScheduler.{RingBufferScheduler}
-use Rattle.sched.specs.Scheduler.{Sized, IsSound, dataIn, greatestIn, advancedIn}
+use Rattle.sched.specs.Promise.{MovedBy}
+use Rattle.sched.specs.Scheduler.{Sized, IsSound, dataIn, greatestIn}
 
 -- ---- 1 to 5: a record, tested in this order; 0 where it is taken
 module _ (s : RingBufferScheduler) where
@@ -69,7 +70,7 @@ module _ (s : RingBufferScheduler) where
     nothing : IsSound s → GivenOperations list.None 0 []
     alone : {a : ScheduledOperation} {k : ℕ} {vs : List ℕ} → IsSound s → GivenRegister s (a .typ) (a .len) k vs → GivenOperations (list.One a) k vs
     at-first : {a b : ScheduledOperation} {k : ℕ} {vs : List ℕ} → IsSound s → GivenList (list.Two a b) 0 [] → 0 < k → GivenRegister s (a .typ) (a .len) k vs → GivenOperations (list.Two a b) k vs
-    at-second : {a b : ScheduledOperation} {k : ℕ} {vs : List ℕ} → IsSound s → GivenList (list.Two a b) 0 [] → a .len ≤ greatestIn s (a .typ) → GivenRegister (advancedIn s (a .typ) (a .len)) (b .typ) (b .len) k vs → GivenOperations (list.Two a b) k vs
+    at-second : {a b : ScheduledOperation} {k : ℕ} {vs : List ℕ} → IsSound s → GivenList (list.Two a b) 0 [] → a .len ≤ greatestIn s (a .typ) → (u : RingBufferScheduler) → MovedBy s (a .typ) (a .len) u → GivenRegister u (b .typ) (b .len) k vs → GivenOperations (list.Two a b) k vs
 
 -- ---- the verdict in each kind of answer
 abbrev pub ofChecked : Checked → Verdict

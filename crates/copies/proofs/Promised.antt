@@ -26,7 +26,7 @@ use Rattle.modular.proofs.Saying.{Keeps}
 use Rattle.sched.specs.Given.{Given, taken}
 use Rattle.operations.proofs.Given.{number-some}
 use Rattle.sched.proofs.Given.{record-exactly}
-use Rattle.sched.proofs.Counting.{moved}
+use Rattle.sched.proofs.RegisterLaws.{moved}
 use Rattle.operations.specs.Refusal.{numberOf, valuesOf}
 use Rattle.copies.specs.declared.Copied.{Copied}
 use Rattle.copies.specs.declared.Copied.the-variants as copied

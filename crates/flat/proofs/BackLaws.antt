@@ -35,7 +35,7 @@ use Rattle.ends.specs.declared.writing_end.WritingEnd.{WritingEnd}
 use Rattle.operations.specs.declared.operation.OperationType.{OperationType}
 use Rattle.operations.specs.declared.operation.OperationType.the-variants.{Read, Write}
 use Rattle.operations.specs.declared.refusal.Refusal as sched
-use Rattle.operations.specs.declared.refusal.Refusal.the-variants.{ZeroBufferLength, BufferTooLarge, ItemsWrittenOutOfBounds, ItemsReadOutofBounds, DataAvailOutOfBounds, OperationTooLarge, OperationTooLong, InconsistentOperationType}
+use Rattle.operations.specs.declared.refusal.Refusal.the-variants.{ZeroBufferLength, BufferTooLarge, ItemsWrittenOutOfBounds, ItemsReadOutofBounds, DataAvailOutOfBounds, OperationTooLarge, OperationTooLong, InconsistentOperationType, HeldFillWrong}
 use Rattle.copies.specs.declared.refusal.Refusal.the-variants.{Scheduler, RingMemory}
 use Rattle.receiver.specs.Call.{answeredOf}
 use Rattle.states.specs.declared.answer.Answer.{Answer}
@@ -166,6 +166,7 @@ scheduler-refusal-back (DataAvailOutOfBounds n w r) = refl
 scheduler-refusal-back (OperationTooLarge t n top) = ap (λ (x : OperationType). OperationTooLarge x n top) (type-back t)
 scheduler-refusal-back (OperationTooLong n) = refl
 scheduler-refusal-back InconsistentOperationType = refl
+scheduler-refusal-back HeldFillWrong = refl
 
 -- none of the scheduler's is a number of another's
 by-scheduler : (e : sched.Refusal) → receiverRefusalAt (flatRefusal e) ≡ Copy (Scheduler (schedulerRefusalAt (flatRefusal e)))
@@ -178,6 +179,7 @@ by-scheduler (DataAvailOutOfBounds n w r) = refl
 by-scheduler (OperationTooLarge t n top) = refl
 by-scheduler (OperationTooLong n) = refl
 by-scheduler InconsistentOperationType = refl
+by-scheduler HeldFillWrong = refl
 
 pub refusal-back : (e : Refusal) → receiverRefusalAt (flatReceiverRefusal e) ≡ e
 unfolding receiverRefusalAt

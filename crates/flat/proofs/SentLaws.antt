@@ -38,7 +38,7 @@ use Rattle.sched.specs.declared.schedule.NextOperationAnswer.the-variants as ne
 use Rattle.sched.specs.declared.schedule.ScheduledAnswer.{ScheduledAnswer}
 use Rattle.sched.specs.declared.schedule.ScheduledAnswer.the-variants as schedules
 use Rattle.operations.specs.declared.refusal.Refusal as sched
-use Rattle.operations.specs.declared.refusal.Refusal.the-variants.{ZeroBufferLength, BufferTooLarge, ItemsWrittenOutOfBounds, ItemsReadOutofBounds, DataAvailOutOfBounds, OperationTooLarge, OperationTooLong, InconsistentOperationType}
+use Rattle.operations.specs.declared.refusal.Refusal.the-variants.{ZeroBufferLength, BufferTooLarge, ItemsWrittenOutOfBounds, ItemsReadOutofBounds, DataAvailOutOfBounds, OperationTooLarge, OperationTooLong, InconsistentOperationType, HeldFillWrong}
 use Rattle.sched.specs.declared.scheduler.Checked.{Checked}
 use Rattle.sched.specs.declared.scheduler.Checked.the-variants as checked
 use Rattle.sched.specs.declared.register.Registered.{Registered}
@@ -114,6 +114,7 @@ scheduler-refusal (DataAvailOutOfBounds n w r) = (refl, refl, refl, refl)
 scheduler-refusal (OperationTooLarge t n top) = (refl, refl, refl, refl)
 scheduler-refusal (OperationTooLong n) = (refl, refl, refl, refl)
 scheduler-refusal InconsistentOperationType = (refl, refl, refl, refl)
+scheduler-refusal HeldFillWrong = (refl, refl, refl, refl)
 
 pub copy-refusal : (e : copies.Refusal) → RefusalStands (flatCopyRefusal e) (of-copies.numberOf e) (of-copies.valuesOf e)
 copy-refusal (Scheduler e) = scheduler-refusal e

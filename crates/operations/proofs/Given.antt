@@ -9,7 +9,7 @@ use Rattle.modular.proofs.Laws.{lt-or-le}
 use Rattle.operations.specs.declared.operation.OperationType.{OperationType}
 use Rattle.operations.specs.declared.operation.OperationType.the-variants.{Read, Write}
 use Rattle.operations.specs.declared.refusal.Refusal.{Refusal}
-use Rattle.operations.specs.declared.refusal.Refusal.the-variants.{ZeroBufferLength, BufferTooLarge, ItemsWrittenOutOfBounds, ItemsReadOutofBounds, DataAvailOutOfBounds, OperationTooLarge, OperationTooLong, InconsistentOperationType}
+use Rattle.operations.specs.declared.refusal.Refusal.the-variants.{ZeroBufferLength, BufferTooLarge, ItemsWrittenOutOfBounds, ItemsReadOutofBounds, DataAvailOutOfBounds, OperationTooLarge, OperationTooLong, InconsistentOperationType, HeldFillWrong}
 use Rattle.operations.specs.Given.{Verdict, accepted, refused, numberIn, valuesIn, Exactly, TypeNumber, a-read, a-write, GivenList, list-none, list-one, list-two, given-7, given-8, ofOperations}
 use Rattle.operations.specs.Refusal.{numberOf, typeNumber}
 use Rattle.operations.specs.declared.list.ScheduledOperations.{ScheduledOperations}
@@ -36,6 +36,7 @@ number-some (DataAvailOutOfBounds l w r) = omega arith
 number-some (OperationTooLarge t n greatest) = omega arith
 number-some (OperationTooLong excess) = omega arith
 number-some InconsistentOperationType = omega arith
+number-some HeldFillWrong = omega arith
 
 pub type-number : (t : OperationType) → TypeNumber t (typeNumber t)
 type-number Read = a-read

@@ -4,7 +4,7 @@ use mathlib.Core.Path.{_≡_, refl}
 use mathlib.Core.List.{[], _∷_}
 use Rattle.modular.proofs.Saying.{Keeps}
 use Rattle.operations.specs.declared.refusal.Refusal.{Refusal}
-use Rattle.operations.specs.declared.refusal.Refusal.the-variants.{ZeroBufferLength, BufferTooLarge, ItemsWrittenOutOfBounds, ItemsReadOutofBounds, DataAvailOutOfBounds, OperationTooLarge, OperationTooLong, InconsistentOperationType}
+use Rattle.operations.specs.declared.refusal.Refusal.the-variants.{ZeroBufferLength, BufferTooLarge, ItemsWrittenOutOfBounds, ItemsReadOutofBounds, DataAvailOutOfBounds, OperationTooLarge, OperationTooLong, InconsistentOperationType, HeldFillWrong}
 use Rattle.operations.specs.Given.{TypeNumber}
 use Rattle.operations.specs.Refusal.{numberOf, valuesOf, packed, unpacked}
 use Rattle.operations.proofs.Given.{number-some, type-number}
@@ -34,6 +34,7 @@ values-back (DataAvailOutOfBounds l w r) = refl
 values-back (OperationTooLarge t n greatest) = refl
 values-back (OperationTooLong excess) = refl
 values-back InconsistentOperationType = refl
+values-back HeldFillWrong = refl
 
 pub number-promised : Keeps 0 Refusal-number-kinds.ps Refusal-number-kinds.r Refusal-number.Learnt (λ κs a z. (z ≡ numberOf (a .0)) × (0 < z))
 number-promised κs a z q = rw (Refusal-number-says κs a z (q .0) (q .1)) (refl, number-some (a .0))

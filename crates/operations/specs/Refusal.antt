@@ -5,7 +5,7 @@ use lib.ListN.{length, getD, take}
 use Rattle.operations.specs.declared.operation.OperationType.{OperationType}
 use Rattle.operations.specs.declared.operation.OperationType.the-variants.{Read, Write}
 use Rattle.operations.specs.declared.refusal.Refusal.{Refusal}
-use Rattle.operations.specs.declared.refusal.Refusal.the-variants.{ZeroBufferLength, BufferTooLarge, ItemsWrittenOutOfBounds, ItemsReadOutofBounds, DataAvailOutOfBounds, OperationTooLarge, OperationTooLong, InconsistentOperationType}
+use Rattle.operations.specs.declared.refusal.Refusal.the-variants.{ZeroBufferLength, BufferTooLarge, ItemsWrittenOutOfBounds, ItemsReadOutofBounds, DataAvailOutOfBounds, OperationTooLarge, OperationTooLong, InconsistentOperationType, HeldFillWrong}
 use Rattle.operations.specs.declared.values.Values.{Values}
 
 abbrev pub typeNumber : OperationType → ℕ
@@ -21,6 +21,7 @@ numberOf (DataAvailOutOfBounds l w r) = 5
 numberOf (OperationTooLarge t n greatest) = 6
 numberOf (OperationTooLong excess) = 7
 numberOf InconsistentOperationType = 8
+numberOf HeldFillWrong = 20
 
 abbrev pub valuesOf : Refusal → List ℕ
 valuesOf ZeroBufferLength = []
@@ -31,6 +32,7 @@ valuesOf (DataAvailOutOfBounds l w r) = l ∷ w .0 ∷ r .0 ∷ []
 valuesOf (OperationTooLarge t n greatest) = typeNumber t ∷ n ∷ greatest ∷ []
 valuesOf (OperationTooLong excess) = excess ∷ []
 valuesOf InconsistentOperationType = []
+valuesOf HeldFillWrong = []
 
 -- ---- a list of at most three numbers as a struct, and back
 abbrev pub packed : List ℕ → Values

@@ -40,6 +40,8 @@ pub enum Refusal {
     },
     // 8
     InconsistentOperationType,
+    // 20
+    HeldFillWrong,
 }
 
 impl Refusal {
@@ -55,6 +57,7 @@ impl Refusal {
             Refusal::OperationTooLarge { .. } => 6,
             Refusal::OperationTooLong { .. } => 7,
             Refusal::InconsistentOperationType => 8,
+            Refusal::HeldFillWrong => 20,
         }
     }
 
@@ -84,6 +87,7 @@ impl Refusal {
             } => Values::three(op_type.number(), op_len, max_len),
             Refusal::OperationTooLong { excess } => Values::one(excess),
             Refusal::InconsistentOperationType => Values::none(),
+            Refusal::HeldFillWrong => Values::none(),
         }
     }
 }

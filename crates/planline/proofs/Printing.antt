@@ -15,7 +15,7 @@ use Rattle.operations.specs.declared.list.ScheduledOperations.the-variants as l
 use Rattle.operations.specs.declared.operation.OperationType.{OperationType}
 use Rattle.operations.specs.declared.operation.ScheduledOperation.{ScheduledOperation}
 use Rattle.operations.specs.declared.refusal.Refusal.{Refusal}
-use Rattle.operations.specs.declared.refusal.Refusal.the-variants.{ZeroBufferLength, BufferTooLarge, ItemsWrittenOutOfBounds, ItemsReadOutofBounds, DataAvailOutOfBounds, OperationTooLarge, OperationTooLong, InconsistentOperationType}
+use Rattle.operations.specs.declared.refusal.Refusal.the-variants.{ZeroBufferLength, BufferTooLarge, ItemsWrittenOutOfBounds, ItemsReadOutofBounds, DataAvailOutOfBounds, OperationTooLarge, OperationTooLong, InconsistentOperationType, HeldFillWrong}
 use Rattle.sched.specs.declared.scheduler.Checked.{Checked}
 use Rattle.sched.specs.declared.scheduler.Checked.the-variants as checked
 use Rattle.sched.specs.declared.scheduler.RingBufferScheduler.{RingBufferScheduler}
@@ -120,6 +120,7 @@ number-small (DataAvailOutOfBounds l w r) = omega arith
 number-small (OperationTooLarge t n greatest) = omega arith
 number-small (OperationTooLong excess) = omega arith
 number-small InconsistentOperationType = omega arith
+number-small HeldFillWrong = omega arith
 
 -- each operation lies inside a buffer of at most 2^63
 inside-small : (l : ℕ) (ops : ScheduledOperations) → l ≤ 2 ^ 63 → Each (λ a. a .off .0 + a .len ≤ l) ops → Small (plan.Operations ops)

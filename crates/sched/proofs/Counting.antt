@@ -1,6 +1,6 @@
 -- What the tests take, and what registering does, in the words of `Promise`: counters with some data between them.
 use Prim.Native.Nat.{ℕ, _+_, _-_, _*_, _%_, _<_, _≤_, min}
-use mathlib.Core.Path.{_≡_, refl, sym, ap, _∙_}
+use mathlib.Core.Path.{_≡_, refl, sym, ap, subst, _∙_}
 use mathlib.Core.Logic.{⊎-elim}
 use native.Mathlib.Nat.{mod-eq-of-lt, mod-lt, mod-mod}
 use native.Mathlib.Omega.{arith}
@@ -45,7 +45,7 @@ module _ (s : RingBufferScheduler) where
   r = s .«items_read» .0
 
   pub between : IsSound s → Between s (dataIn s)
-  between h = record { at-most = h .fill; ahead = sub-back (2 * L) w r (omega arith) ∙ mod-eq-of-lt (h .written) }
+  between h = record { at-most = h .within; ahead = sub-back (2 * L) w r (omega arith) ∙ mod-eq-of-lt (h .written) }
 
   pub between-is : Sized L → (d : ℕ) → Between s d → dataIn s ≡ d
   between-is l d b =
@@ -56,13 +56,14 @@ module _ (s : RingBufferScheduler) where
   taken-sound t =
       record {
         sized = t .sized;
-        written = let l : (r + t .held .0) % (2 * L) < 2 * L = mod-lt (r + t .held .0) (omega (arith, t .sized .some)) in rw (t .held .1 .ahead) at l;
+        written = let l : (r + s .fill) % (2 * L) < 2 * L = mod-lt (r + s .fill) (omega (arith, t .sized .some)) in rw (t .held .ahead) at l;
         read = t .read;
-        fill = rw (between-is (t .sized) (t .held .0) (t .held .1)) (t .held .1 .at-most);
+        within = rw (between-is (t .sized) (s .fill) (t .held)) (t .held .at-most);
+        held = sym (between-is (t .sized) (s .fill) (t .held));
       }
 
   pub sound-taken : IsSound s → Taken s
-  sound-taken h = record { sized = h .sized; read = h .read; held = (dataIn s, between h) }
+  sound-taken h = record { sized = h .sized; read = h .read; held = subst (Between s) (sym (h .held)) (between h) }
 
 -- ---- registering
 never : {A : Type 0} (u : RingBufferScheduler) (e : Refusal) → registered.Refused e ≡ registered.Advanced u → A

@@ -15,3 +15,4 @@ pub mod Promised
 pub mod PromisedMoves
 pub mod Parts
 pub mod PromisedParts
+pub mod PromisedFill

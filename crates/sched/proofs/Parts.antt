@@ -81,7 +81,7 @@ module _ (s : RingBufferScheduler) (h : IsSound s) where
       go false e false f =
           let k : dataIn s ≡ 0 → ⊥ = eqb-false _ _ e in
           let l : dataIn s ≡ s .«buf_len» → ⊥ = eqb-false _ _ f in
-          (omega (arith, k), omega (arith, l, h .fill))
+          (omega (arith, k), omega (arith, l, h .within))
 
   pub layout-is : LayoutOf s (layoutIn s)
   layout-is = ⊎-elim (λ a. rw (a .0) (a .1)) (λ a. rw (a .0) (a .1)) (arranged s h)
@@ -117,11 +117,11 @@ module _ (s : RingBufferScheduler) (h : IsSound s) where
         second = refl;
         third = omega arith;
         whole = omega (arith, offset-lt s h Read, offset-lt s h Write);
-        cut = inr (ap place (omega (arith, a .1, h .fill)), ap place (omega (arith, a .1, h .fill)));
-        held = omega (arith, a .1, offset-lt s h Read, offset-lt s h Write, h .fill);
+        cut = inr (ap place (omega (arith, a .1, h .within)), ap place (omega (arith, a .1, h .within)));
+        held = omega (arith, a .1, offset-lt s h Read, offset-lt s h Write, h .within);
         outer = refl;
         inner = free-data;
-        ahead = λ x. absurd (⊎-elim (λ l. omega (arith, a .1, h .fill)) (λ e. omega (arith, a .1, e .0, e .1, h .sized .some)) x);
+        ahead = λ x. absurd (⊎-elim (λ l. omega (arith, a .1, h .within)) (λ e. omega (arith, a .1, e .0, e .1, h .sized .some)) x);
         round = λ x. (refl, refl, refl);
         numbers = (refl, refl, refl);
       }))
@@ -146,7 +146,7 @@ module _ (s : RingBufferScheduler) (h : IsSound s) where
     types =
         ⊎-elim
         (λ a. rw (a .0) (p .ahead (⊎-elim (λ l. inl l) (λ l. inr (omega (arith, a .1), omega (arith, a .1))) (lt-or-le (offsetIn s Read .0) (offsetIn s Write .0)))))
-        (λ a. rw (a .0) (p .round (⊎-elim (λ l. inl l) (λ l. inr (omega (arith, a .1, h .fill), omega (arith, a .1, h .sized .some))) (lt-or-le (offsetIn s Write .0) (offsetIn s Read .0)))))
+        (λ a. rw (a .0) (p .round (⊎-elim (λ l. inl l) (λ l. inr (omega (arith, a .1, h .within), omega (arith, a .1, h .sized .some))) (lt-or-le (offsetIn s Write .0) (offsetIn s Read .0)))))
         (arranged s h)
 
     blocks-are-these : b ≡ blocksIn s

@@ -72,7 +72,7 @@ same-next o p q = cc
 advanced-by : (s : RingBufferScheduler) → IsSound s → (t : OperationType) (f : ScheduledOperation) (u : RingBufferScheduler) → f .typ ≡ t → f .len ≤ greatestIn s t → registerOf s (f .typ) (f .len) ≡ registered.Advanced u → u ≡ advancedIn s t (f .len)
 advanced-by s h t f u e l p = let q : registered.Advanced u ≡ registered.Advanced (advancedIn s t (f .len)) = sym p ∙ ap (λ (x : OperationType). registerOf s x (f .len)) e ∙ registers s h t (f .len) l in cc
 
--- ---- what is taken: counters with some data between them, at most L
+-- ---- what is taken: counters with the held fill between them, at most L
 pub taken-exactly :
     Keeps 0 demand-soundness-kinds.ps demand-soundness-kinds.r demand-soundness.Learnt
     (λ κs a z. (Taken (a .0) → z ≡ checked.Sound (a .0)) × ((s : RingBufferScheduler) → z ≡ checked.Sound s → (s ≡ a .0) × Taken (a .0)))
@@ -143,7 +143,7 @@ pub data-after-write : (s u : RingBufferScheduler) (n d : ℕ) (z : AmountAnswer
 data-after-write s u n d z p q r =
     let m : IsSound s × WrittenBy s n u = write-registered tt (s, (n, tt)) (registered.Advanced u) p u refl in
     let e : d ≡ dataIn s = same-amount d (dataIn s) (data-is s (m .0) (amount.Of d) q) in
-    data-is u (m .1 .sound) z r ∙ ap amount.Of (m .1 .fill ∙ ap (λ (x : ℕ). x + n) (sym e))
+    data-is u (m .1 .sound) z r ∙ ap amount.Of (m .1 .more ∙ ap (λ (x : ℕ). x + n) (sym e))
 
 -- ---- scheduling
 scheduled-all : (s : RingBufferScheduler) (t : OperationType) (m : ℕ) (z : ScheduledAnswer) → z ≡ scheduleOf s t m → Schedules s t m z

@@ -38,7 +38,7 @@ ScheduleAndRegister s t m z = Allows 0 schedule-and-register-kinds.ps schedule-a
 all-of-one : (m g : ℕ) → (min m g ≡ m) ⊎ (min m g ≡ g)
 all-of-one m g = ⊎-elim (λ l. inl (omega arith)) (λ l. inr (omega arith)) (lt-or-le m g)
 
-move-keeps : (s : RingBufferScheduler) → IsSound s → (t : OperationType) (m : ℕ) → MovePromise s t m (moveIn s t m)
+pub move-keeps : (s : RingBufferScheduler) → IsSound s → (t : OperationType) (m : ℕ) → MovePromise s t m (moveIn s t m)
 move-keeps s h t m =
     record {
       starts = refl;

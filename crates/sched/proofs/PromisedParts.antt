@@ -28,13 +28,13 @@ use Rattle.sched.specs.declared.scheduler.Checked.{Checked}
 use Rattle.sched.specs.declared.scheduler.Checked.the-variants as checked
 use Rattle.sched.specs.declared.scheduler.RingBufferScheduler.{RingBufferScheduler}
 use Rattle.sched.specs.Parts.{CounterOf, OffsetOf, FillOf, None, Some, LayoutOf, BlocksOf, NextBlockOf}
-use Rattle.sched.specs.Scheduler.{IsSound, soundOf, dataIn, spaceIn, counterIn, offsetIn, fillStateIn, layoutIn, blocksIn, nextBlockIn, offsetAnswerOf, schedulerOf}
+use Rattle.sched.specs.Scheduler.{IsSound, soundOf, dataIn, spaceIn, counterIn, offsetIn, fillStateIn, layoutIn, blocksIn, nextBlockIn, offsetAnswerOf}
 use Rattle.sched.proofs.Laws.{sound-is, sound-both}
 use Rattle.sched.proofs.Parts.{counter-is, offset-is, none-is, some-is, fill-is, layout-is, blocks-are, next-block-is}
 use Rattle.sched.proofs.ChunkLaws.{fits, fits-by}
 use Rattle.sched.proofs.chunk.body_fits.Kinds as body-fits-kinds
 use Rattle.sched.proofs.chunk.body_fits.Reads as body-fits
-use Rattle.sched.proofs.Says.{body-fits-says, buf-len-says, is-zero-sized-says, items-read-says, items-written-says, operation-counter-says, read-off-says, write-off-says, operation-offset-says, fill-state-says, is-empty-says, is-full-says, is-nonempty-says, is-nonfull-says, layout-says, blocks-says, block-0-says, block-1-says, block-2-says, block-0-off-says, block-1-off-says, block-2-off-says, block-0-len-says, block-1-len-says, block-2-len-says, next-operation-block-says, next-read-block-says, next-write-block-says, Block-new-says, try-new-says, try-from-counters-says}
+use Rattle.sched.proofs.Says.{body-fits-says, buf-len-says, is-zero-sized-says, items-read-says, items-written-says, operation-counter-says, read-off-says, write-off-says, operation-offset-says, fill-state-says, is-empty-says, is-full-says, is-nonempty-says, is-nonfull-says, layout-says, blocks-says, block-0-says, block-1-says, block-2-says, block-0-off-says, block-1-off-says, block-2-off-says, block-0-len-says, block-1-len-says, block-2-len-says, next-operation-block-says, next-read-block-says, next-write-block-says, Block-new-says}
 use Rattle.sched.proofs.scheduler.RingBufferScheduler.buf_len.Kinds as buf-len-kinds
 use Rattle.sched.proofs.scheduler.RingBufferScheduler.buf_len.Reads as buf-len
 use Rattle.sched.proofs.scheduler.RingBufferScheduler.is_zero_sized.Kinds as is-zero-sized-kinds
@@ -91,10 +91,6 @@ use Rattle.sched.proofs.scheduler.RingBufferScheduler.next_write_block.
 use Rattle.sched.proofs.scheduler.RingBufferScheduler.next_write_block.Reads as next-write-block
 use Rattle.sched.proofs.block.Block.new.Kinds as Block-new-kinds
 use Rattle.sched.proofs.block.Block.new.Reads as Block-new
-use Rattle.sched.proofs.scheduler.RingBufferScheduler.try_new.Kinds as try-new-kinds
-use Rattle.sched.proofs.scheduler.RingBufferScheduler.try_new.Reads as try-new
-use Rattle.sched.proofs.scheduler.RingBufferScheduler.try_from_counters.Kinds as try-from-counters-kinds
-use Rattle.sched.proofs.scheduler.RingBufferScheduler.try_from_counters.Reads as try-from-counters
 
 -- ---- the length
 pub buf-len-promised : Keeps 0 buf-len-kinds.ps buf-len-kinds.r buf-len.Learnt (λ κs a z. IsSound (a .0) → z ≡ amount-answer.Of (a .0 .«buf_len»))
@@ -213,9 +209,3 @@ body-fits-promised κs a z q =
 -- ---- what is put together
 pub block-new-promised : Keeps 0 Block-new-kinds.ps Block-new-kinds.r Block-new.Learnt (λ κs a z. (z .typ ≡ a .0) × (z .no ≡ a .1 .0) × (z .off ≡ a .1 .1 .0) × (z .len ≡ a .1 .1 .1 .0))
 block-new-promised κs a z q = rw (Block-new-says κs a z (q .0) (q .1)) (refl, refl, refl, refl)
-
-pub try-new-promised : Keeps 0 try-new-kinds.ps try-new-kinds.r try-new.Learnt (λ κs a z. (s : RingBufferScheduler) → z ≡ checked.Sound s → (s .«buf_len» ≡ a .0) × (s .«items_written» .0 ≡ 0) × (s .«items_read» .0 ≡ 0))
-try-new-promised κs a z q s e = rw (sound-both s (schedulerOf (a .0) (record { 0 = 0 }) (record { 0 = 0 })) (sym e ∙ try-new-says κs a z (q .0) (q .1)) .1) (refl, refl, refl)
-
-pub try-from-counters-promised : Keeps 0 try-from-counters-kinds.ps try-from-counters-kinds.r try-from-counters.Learnt (λ κs a z. (s : RingBufferScheduler) → z ≡ checked.Sound s → (s .«buf_len» ≡ a .0) × (s .«items_written» ≡ a .1 .0) × (s .«items_read» ≡ a .1 .1 .0))
-try-from-counters-promised κs a z q s e = rw (sound-both s (schedulerOf (a .0) (a .1 .0) (a .1 .1 .0)) (sym e ∙ try-from-counters-says κs a z (q .0) (q .1)) .1) (refl, refl, refl)

@@ -3,15 +3,16 @@
 use Rattle.modular.proofs.Saying.{Keeps}
 use Rattle.operations.specs.declared.operation.OperationType.the-variants.{Read, Write}
 use Rattle.operations.specs.Given.{Exactly, ofAmount}
-use Rattle.sched.specs.Given.{Given, GivenRegister, GivenOperations, ofChecked, ofRegistered, ofMove, ofBool, ofCounter, ofOffset, ofFillState, ofLayout, ofBlock, ofBlocks, ofNext, ofScheduled}
-use Rattle.sched.specs.Scheduler.{schedulerOf}
-use Rattle.sched.proofs.Given.{record-exactly, tested-exactly, register-exactly}
+use Rattle.sched.specs.Given.{GivenCounters, Given, GivenWith, GivenRegister, GivenOperations, ofChecked, ofRegistered, ofMove, ofBool, ofCounter, ofOffset, ofFillState, ofLayout, ofBlock, ofBlocks, ofNext, ofScheduled}
+use Rattle.sched.proofs.Given.{counters-exactly, record-exactly, with-exactly, tested-exactly, register-exactly}
 use Rattle.sched.proofs.GivenLists.{operations-exactly}
-use Rattle.sched.proofs.Says.{try-new-says, try-from-counters-says, demand-soundness-says, buf-len-says, is-zero-sized-says, items-read-says, items-written-says, operation-counter-says, read-off-says, write-off-says, operation-offset-says, data-avail-says, space-avail-says, max-operation-len-says, fill-state-says, is-empty-says, is-full-says, is-nonempty-says, is-nonfull-says, layout-says, blocks-says, block-0-says, block-1-says, block-2-says, block-0-off-says, block-1-off-says, block-2-off-says, block-0-len-says, block-1-len-says, block-2-len-says, next-operation-block-says, next-read-block-says, next-write-block-says, schedule-next-contiguous-operation-says, schedule-next-read-says, schedule-next-write-says, schedule-contiguous-operations-says, schedule-reads-says, schedule-writes-says, try-register-read-says, try-register-write-says, try-register-operation-manually-says, try-register-operation-says, try-register-operations-says, schedule-and-register-says}
+use Rattle.sched.proofs.Says.{try-new-says, try-from-counters-says, try-with-counter-says, demand-soundness-says, buf-len-says, is-zero-sized-says, items-read-says, items-written-says, operation-counter-says, read-off-says, write-off-says, operation-offset-says, data-avail-says, space-avail-says, max-operation-len-says, fill-state-says, is-empty-says, is-full-says, is-nonempty-says, is-nonfull-says, layout-says, blocks-says, block-0-says, block-1-says, block-2-says, block-0-off-says, block-1-off-says, block-2-off-says, block-0-len-says, block-1-len-says, block-2-len-says, next-operation-block-says, next-read-block-says, next-write-block-says, schedule-next-contiguous-operation-says, schedule-next-read-says, schedule-next-write-says, schedule-contiguous-operations-says, schedule-reads-says, schedule-writes-says, try-register-read-says, try-register-write-says, try-register-operation-manually-says, try-register-operation-says, try-register-operations-says, schedule-and-register-says}
 use Rattle.sched.proofs.scheduler.RingBufferScheduler.try_new.Kinds as try-new-kinds
 use Rattle.sched.proofs.scheduler.RingBufferScheduler.try_new.Reads as try-new
 use Rattle.sched.proofs.scheduler.RingBufferScheduler.try_from_counters.Kinds as try-from-counters-kinds
 use Rattle.sched.proofs.scheduler.RingBufferScheduler.try_from_counters.Reads as try-from-counters
+use Rattle.sched.proofs.scheduler.RingBufferScheduler.try_with_counter.Kinds as try-with-counter-kinds
+use Rattle.sched.proofs.scheduler.RingBufferScheduler.try_with_counter.Reads as try-with-counter
 use Rattle.sched.proofs.scheduler.RingBufferScheduler.demand_soundness.Kinds as demand-soundness-kinds
 use Rattle.sched.proofs.scheduler.RingBufferScheduler.demand_soundness.Reads as demand-soundness
 use Rattle.sched.proofs.scheduler.RingBufferScheduler.buf_len.Kinds as buf-len-kinds
@@ -99,15 +100,19 @@ use Rattle.sched.proofs.scheduler.RingBufferScheduler.try_register_oper
 use Rattle.sched.proofs.scheduler.RingBufferScheduler.schedule_and_register.Kinds as schedule-and-register-kinds
 use Rattle.sched.proofs.scheduler.RingBufferScheduler.schedule_and_register.Reads as schedule-and-register
 
--- ---- a record: 1 to 5
-pub try-new-refuses : Keeps 0 try-new-kinds.ps try-new-kinds.r try-new.Learnt (λ κs a z. Exactly (Given (schedulerOf (a .0) (record { 0 = 0 }) (record { 0 = 0 }))) (ofChecked z))
-try-new-refuses κs a z q = rw (try-new-says κs a z (q .0) (q .1)) (record-exactly (schedulerOf (a .0) (record { 0 = 0 }) (record { 0 = 0 })))
+-- ---- a length and counters: 1 to 5
+pub try-new-refuses : Keeps 0 try-new-kinds.ps try-new-kinds.r try-new.Learnt (λ κs a z. Exactly (GivenCounters (a .0) (record { 0 = 0 }) (record { 0 = 0 })) (ofChecked z))
+try-new-refuses κs a z q = rw (try-new-says κs a z (q .0) (q .1)) (counters-exactly (a .0) (record { 0 = 0 }) (record { 0 = 0 }))
 
-pub try-from-counters-refuses : Keeps 0 try-from-counters-kinds.ps try-from-counters-kinds.r try-from-counters.Learnt (λ κs a z. Exactly (Given (schedulerOf (a .0) (a .1 .0) (a .1 .1 .0))) (ofChecked z))
-try-from-counters-refuses κs a z q = rw (try-from-counters-says κs a z (q .0) (q .1)) (record-exactly (schedulerOf (a .0) (a .1 .0) (a .1 .1 .0)))
+pub try-from-counters-refuses : Keeps 0 try-from-counters-kinds.ps try-from-counters-kinds.r try-from-counters.Learnt (λ κs a z. Exactly (GivenCounters (a .0) (a .1 .0) (a .1 .1 .0)) (ofChecked z))
+try-from-counters-refuses κs a z q = rw (try-from-counters-says κs a z (q .0) (q .1)) (counters-exactly (a .0) (a .1 .0) (a .1 .1 .0))
 
+-- ---- a record: then 20
 pub demand-soundness-refuses : Keeps 0 demand-soundness-kinds.ps demand-soundness-kinds.r demand-soundness.Learnt (λ κs a z. Exactly (Given (a .0)) (ofChecked z))
 demand-soundness-refuses κs a z q = rw (demand-soundness-says κs a z (q .0) (q .1)) (record-exactly (a .0))
+
+pub try-with-counter-refuses : Keeps 0 try-with-counter-kinds.ps try-with-counter-kinds.r try-with-counter.Learnt (λ κs a z. Exactly (GivenWith (a .0) (a .1 .0) (a .1 .1 .0)) (ofChecked z))
+try-with-counter-refuses κs a z q = rw (try-with-counter-says κs a z (q .0) (q .1)) (with-exactly (a .0) (a .1 .1 .0) (a .1 .0))
 
 -- ---- every call that asks something of a record: the same
 pub buf-len-refuses : Keeps 0 buf-len-kinds.ps buf-len-kinds.r buf-len.Learnt (λ κs a z. Exactly (Given (a .0)) (ofAmount z))

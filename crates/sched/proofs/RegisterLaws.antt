@@ -1,5 +1,5 @@
 -- Laws of registering: what a scheduler is after an operation, and a move.
-use Prim.Native.Nat.{ℕ, _+_, _-_, _*_, _%_, _≤_}
+use Prim.Native.Nat.{ℕ, _+_, _-_, _*_, _%_, _^_, _<_, _≤_}
 use mathlib.Core.Path.{_≡_, refl, sym, ap, _∙_}
 use mathlib.Core.Bool.{Bool, cond, true, false}
 use lib.Dec.{ltb}
@@ -19,8 +19,9 @@ use Rattle.sched.specs.declared.register.Move.{Move}
 use Rattle.sched.specs.declared.register.MoveAnswer.the-variants as moves
 use Rattle.sched.specs.declared.register.Registered.the-variants as registered
 use Rattle.sched.specs.Promise.{MovedBy}
-use Rattle.sched.specs.Scheduler.{IsSound, soundOf, dataIn, offsetIn, greatestIn, advancedIn, registerIn, moveIn, moveOf}
-use Rattle.sched.proofs.Laws.{sound-both, sound-is}
+use Rattle.sched.specs.Counter.{dataOf}
+use Rattle.sched.specs.Scheduler.{recordOf, schedulerOf, IsSound, soundOf, dataIn, offsetIn, greatestIn, advancedIn, registerIn, moveIn, moveOf}
+use Rattle.sched.proofs.Laws.{greatest-most, sound-both, sound-is}
 
 -- ---- what registering does
 module _ (s : RingBufferScheduler) (h : IsSound s) (n : ℕ) where
@@ -36,28 +37,50 @@ module _ (s : RingBufferScheduler) (h : IsSound s) (n : ℕ) where
         sized = h .sized;
         written = h .written;
         read = add-lt (2 * s .«buf_len») (s .«items_read» .0) n (omega arith);
-        fill = omega (arith, advanced-greatest Read l);
+        within = omega (arith, advanced-greatest Read l);
+        held = refl;
       }
   advanced-sound Write l =
       record {
         sized = h .sized;
         written = add-lt (2 * s .«buf_len») (s .«items_written» .0) n (omega arith);
         read = h .read;
-        fill = let e : dataIn (advancedIn s Write n) ≡ dataIn s + n = sub-of-sum (2 * s .«buf_len») (s .«items_written» .0) (s .«items_read» .0) n (omega arith) (omega arith) in omega arith;
+        within = let e : dataIn (advancedIn s Write n) ≡ dataIn s + n = sub-of-sum (2 * s .«buf_len») (s .«items_written» .0) (s .«items_read» .0) n (omega arith) (omega arith) in omega arith;
+        held = refl;
       }
 
   pub advanced-offset : (t : OperationType) → offsetIn (advancedIn s t n) t .0 ≡ (offsetIn s t .0 + n) % s .«buf_len»
   advanced-offset Read = add-halved (s .«buf_len») (s .«items_read» .0) n
   advanced-offset Write = add-halved (s .«buf_len») (s .«items_written» .0) n
 
+-- ---- the fill: n less after a read, n more after a write
+module _ (s : RingBufferScheduler) (h : IsSound s) (n : ℕ) (t : OperationType) (l : n ≤ greatestIn s t) where
+  pub below-round : n < 2 * s .«buf_len»
+  below-round = omega (arith, greatest-most s h t)
+
+  pub read-takes : t ≡ Read → n ≤ s .fill
+  read-takes e = rw (h .held) (rw e at l)
+
+  pub read-fill : t ≡ Read → s .fill - n ≡ dataIn (advancedIn s Read n)
+  read-fill e = rw (h .held) (sym (advanced-greatest s h n Read (rw e at l)))
+
+  pub write-fits : t ≡ Write → s .fill + n < 2 ^ 64
+  write-fits e = let k : n ≤ greatestIn s Write = rw e at l in omega (arith, h .held, k, h .within, h .sized .fits)
+
+  pub write-fill : t ≡ Write → s .fill + n ≡ dataIn (advancedIn s Write n)
+  write-fill e = let k : n ≤ greatestIn s Write = rw e at l in rw (h .held) (sym (sub-of-sum (2 * s .«buf_len») (s .«items_written» .0) (s .«items_read» .0) n (omega arith) (omega arith)))
+
 -- twice, and by nothing
 pub advanced-twice : (s : RingBufferScheduler) (n k : ℕ) (t : OperationType) → advancedIn (advancedIn s t n) t k ≡ advancedIn s t (n + k)
 advanced-twice s n k Read = rw (add-add (2 * s .«buf_len») (s .«items_read» .0) n k)
 advanced-twice s n k Write = rw (add-add (2 * s .«buf_len») (s .«items_written» .0) n k)
 
+held-is : (s : RingBufferScheduler) → IsSound s → schedulerOf (s .«buf_len») (s .«items_written») (s .«items_read») ≡ s
+held-is s h = ap (recordOf (s .«buf_len») (s .«items_written») (s .«items_read»)) (sym (h .held))
+
 pub advanced-nothing : (s : RingBufferScheduler) → IsSound s → (t : OperationType) → advancedIn s t 0 ≡ s
-advanced-nothing s h Read = rw (add-nothing (2 * s .«buf_len») (s .«items_read» .0) (h .read))
-advanced-nothing s h Write = rw (add-nothing (2 * s .«buf_len») (s .«items_written» .0) (h .written))
+advanced-nothing s h Read = rw (add-nothing (2 * s .«buf_len») (s .«items_read» .0) (h .read)) (held-is s h)
+advanced-nothing s h Write = rw (add-nothing (2 * s .«buf_len») (s .«items_written» .0) (h .written)) (held-is s h)
 
 pub advanced-length : (s : RingBufferScheduler) (n : ℕ) (t : OperationType) → advancedIn s t n .«buf_len» ≡ s .«buf_len»
 advanced-length s n Read = refl
@@ -73,7 +96,7 @@ module _ (s : RingBufferScheduler) (h : IsSound s) (n : ℕ) where
         length = refl;
         written = refl;
         read = add-is (2 * s .«buf_len») (s .«items_read» .0) n;
-        fill = omega arith;
+        less = omega arith;
       }
   moved Write l =
       record {
@@ -81,7 +104,7 @@ module _ (s : RingBufferScheduler) (h : IsSound s) (n : ℕ) where
         length = refl;
         read = refl;
         written = add-is (2 * s .«buf_len») (s .«items_written» .0) n;
-        fill = sub-of-sum (2 * s .«buf_len») (s .«items_written» .0) (s .«items_read» .0) n (omega arith) (omega arith);
+        more = sub-of-sum (2 * s .«buf_len») (s .«items_written» .0) (s .«items_read» .0) n (omega arith) (omega arith);
       }
 
 -- and what was so moved is the advanced one
@@ -91,10 +114,14 @@ counterAt n = record { 0 = n }
 pub moved-is : (s u : RingBufferScheduler) (t : OperationType) (n : ℕ) → MovedBy s t n u → u ≡ advancedIn s t n
 moved-is s u Read n m =
     let q : u .«items_read» ≡ counterAt (addMod (2 * s .«buf_len») (s .«items_read» .0) n) = ap counterAt (m .read ∙ sym (add-is (2 * s .«buf_len») (s .«items_read» .0) n)) in
-    λ i. record { «buf_len» = m .length i; «items_read» = q i; «items_written» = m .written i }
+    let d : dataIn u ≡ dataIn (advancedIn s Read n) = λ i. dataOf (m .length i) (m .written i) (q i) in
+    let f : u .fill ≡ dataIn (advancedIn s Read n) = m .sound .held ∙ d in
+    λ i. recordOf (m .length i) (m .written i) (q i) (f i)
 moved-is s u Write n m =
     let q : u .«items_written» ≡ counterAt (addMod (2 * s .«buf_len») (s .«items_written» .0) n) = ap counterAt (m .written ∙ sym (add-is (2 * s .«buf_len») (s .«items_written» .0) n)) in
-    λ i. record { «buf_len» = m .length i; «items_read» = m .read i; «items_written» = q i }
+    let d : dataIn u ≡ dataIn (advancedIn s Write n) = λ i. dataOf (m .length i) (q i) (m .read i) in
+    let f : u .fill ≡ dataIn (advancedIn s Write n) = m .sound .held ∙ d in
+    λ i. recordOf (m .length i) (q i) (m .read i) (f i)
 
 -- a scheduler that registering hands back is sound
 pub registered-sound : (s : RingBufferScheduler) → IsSound s → (t : OperationType) (n : ℕ) (u : RingBufferScheduler) → registered.Advanced u ≡ registerIn s t n → IsSound u

@@ -4,11 +4,15 @@ use mathlib.Core.Path.{refl}
 use Rattle.modular.proofs.Saying.{Says, Decides, says-decides}
 use Rattle.operations.specs.declared.operation.OperationType.the-variants.{Read, Write}
 use Rattle.sched.specs.Block.{blockOf}
-use Rattle.sched.specs.Scheduler.{schedulerOf, soundOf, bufLenOf, counterAnswerOf, offsetAnswerOf, greatestOf, isZeroFrom, isPositiveFrom, fillStateOf, layoutOf, blocksOf, block0From, block1From, block2From, offFrom, lenFrom, nextBlockOf, nextOf, scheduleOf, registerOf, registerListOf, moveOf}
+use Rattle.sched.specs.Scheduler.{recordOf, schedulerOf, soundOf, withCounterOf, bufLenOf, counterAnswerOf, offsetAnswerOf, greatestOf, isZeroFrom, isPositiveFrom, fillStateOf, layoutOf, blocksOf, block0From, block1From, block2From, offFrom, lenFrom, nextBlockOf, nextOf, scheduleOf, registerOf, registerListOf, moveOf}
 use Rattle.sched.proofs.scheduler.RingBufferScheduler.try_new.Kinds as try-new-kinds
 use Rattle.sched.proofs.scheduler.RingBufferScheduler.try_new.Reads as try-new
 use Rattle.sched.proofs.scheduler.RingBufferScheduler.try_from_counters.Kinds as try-from-counters-kinds
 use Rattle.sched.proofs.scheduler.RingBufferScheduler.try_from_counters.Reads as try-from-counters
+use Rattle.sched.proofs.scheduler.RingBufferScheduler.try_with_counter.Kinds as try-with-counter-kinds
+use Rattle.sched.proofs.scheduler.RingBufferScheduler.try_with_counter.Reads as try-with-counter
+use Rattle.sched.proofs.scheduler.RingBufferScheduler.from_numbers.Kinds as from-numbers-kinds
+use Rattle.sched.proofs.scheduler.RingBufferScheduler.from_numbers.Reads as from-numbers
 use Rattle.sched.proofs.scheduler.RingBufferScheduler.demand_soundness.Kinds as demand-soundness-kinds
 use Rattle.sched.proofs.scheduler.RingBufferScheduler.demand_soundness.Reads as demand-soundness
 use Rattle.sched.proofs.scheduler.RingBufferScheduler.buf_len.Kinds as buf-len-kinds
@@ -107,6 +111,12 @@ try-new-says κs a z ws p = p
 
 pub try-from-counters-says : Says 0 try-from-counters-kinds.ps try-from-counters-kinds.r try-from-counters.Learnt (λ κs a. soundOf (schedulerOf (a .0) (a .1 .0) (a .1 .1 .0)))
 try-from-counters-says κs a z ws p = p
+
+pub from-numbers-says : Says 0 from-numbers-kinds.ps from-numbers-kinds.r from-numbers.Learnt (λ κs a. recordOf (a .0) (a .1 .0) (a .1 .1 .0) (a .1 .1 .1 .0))
+from-numbers-says κs a z ws p = p
+
+pub try-with-counter-says : Says 0 try-with-counter-kinds.ps try-with-counter-kinds.r try-with-counter.Learnt (λ κs a. withCounterOf (a .0) (a .1 .0) (a .1 .1 .0))
+try-with-counter-says κs a z ws p = p
 
 pub demand-soundness-says : Says 0 demand-soundness-kinds.ps demand-soundness-kinds.r demand-soundness.Learnt (λ κs a. soundOf (a .0))
 demand-soundness-says κs a z ws p = p

@@ -1,4 +1,4 @@
--- The paper's table of the numbers that refuse, 1 to 8: when each is given, and with which values. docs/PAPER.md, "The numbers".
+-- The paper's table of the numbers that refuse, 1 to 8 and 20: when each is given, and with which values. docs/PAPER.md, "The numbers".
 use Prim.Native.Nat.{ℕ, _-_, _*_, _^_, _<_, _≤_}
 use mathlib.Core.Path.{_≡_}
 use mathlib.Core.List.{List, [], _∷_}
@@ -13,6 +13,7 @@ use Rattle.sched.specs.declared.block.LayoutAnswer.{LayoutAnswer}
 use Rattle.sched.specs.declared.block.LayoutAnswer.the-variants as layout
 use Rattle.operations.specs.declared.counter.BoolAnswer.{BoolAnswer}
 use Rattle.operations.specs.declared.counter.BoolAnswer.the-variants as bool
+use Rattle.operations.specs.declared.counter.Counter.{Counter}
 use Rattle.operations.specs.declared.counter.CounterAnswer.{CounterAnswer}
 use Rattle.operations.specs.declared.counter.CounterAnswer.the-variants as counter
 use Rattle.operations.specs.declared.counter.OffsetAnswer.{OffsetAnswer}
@@ -32,27 +33,44 @@ use Rattle.sched.specs.declared.register.MoveAnswer.the-variants as move
 use Rattle.sched.specs.declared.register.Registered.{Registered}
 use Rattle.sched.specs.declared.register.Registered.the-variants as registered
 use Rattle.sched.specs.declared.scheduler.RingBufferScheduler.{RingBufferScheduler}
-use Rattle.sched.specs.Promise.{MovedBy}
-use Rattle.sched.specs.Scheduler.{Sized, IsSound, dataIn, greatestIn}
+use Rattle.sched.specs.Counter.{dataOf}
+use Rattle.sched.specs.Promise.{Taken, writtenWith, readWith, MovedBy}
+use Rattle.sched.specs.Scheduler.{Sized, Counted, IsSound, dataIn, greatestIn}
 
--- ---- 1 to 5: a record, tested in this order; 0 where it is taken
-module _ (s : RingBufferScheduler) where
-  abbrev L : ℕ
-  L = s .«buf_len»
-
+-- ---- 1 to 5: a length and two counters, tested in this order; 0 where they are taken
+module _ (L : ℕ) (written read : Counter) where
   abbrev w : ℕ
-  w = s .«items_written» .0
+  w = written .0
 
   abbrev r : ℕ
-  r = s .«items_read» .0
+  r = read .0
 
+  pub data GivenCounters : ℕ → List ℕ → Type 0 where
+    counted : Counted L written read → GivenCounters 0 []
+    given-1 : L ≡ 0 → GivenCounters 1 []
+    given-2 : 2 ^ 63 < L → GivenCounters 2 (L ∷ [])
+    given-3 : Sized L → 2 * L ≤ w → GivenCounters 3 (L ∷ w ∷ [])
+    given-4 : Sized L → w < 2 * L → 2 * L ≤ r → GivenCounters 4 (L ∷ r ∷ [])
+    given-5 : Sized L → w < 2 * L → r < 2 * L → L < dataOf L written read → GivenCounters 5 (L ∷ w ∷ r ∷ [])
+
+-- ---- a record: the same of its numbers, then 20, where another fill is held than the data between the counters
+module _ (s : RingBufferScheduler) where
   pub data Given : ℕ → List ℕ → Type 0 where
     taken : IsSound s → Given 0 []
-    given-1 : L ≡ 0 → Given 1 []
-    given-2 : 2 ^ 63 < L → Given 2 (L ∷ [])
-    given-3 : Sized L → 2 * L ≤ w → Given 3 (L ∷ w ∷ [])
-    given-4 : Sized L → w < 2 * L → 2 * L ≤ r → Given 4 (L ∷ r ∷ [])
-    given-5 : Sized L → w < 2 * L → r < 2 * L → L < dataIn s → Given 5 (L ∷ w ∷ r ∷ [])
+    by-counters : {k : ℕ} {vs : List ℕ} → 0 < k → GivenCounters (s .«buf_len») (s .«items_written») (s .«items_read») k vs → Given k vs
+    given-20 : Counted (s .«buf_len») (s .«items_written») (s .«items_read») → (s .fill ≡ dataIn s → ⊥) → Given 20 []
+
+  -- another counter in the place of an operation's: the record's numbers, then those of the length and the counters
+  module _ (t : OperationType) (c : Counter) where
+    pub data GivenWith : ℕ → List ℕ → Type 0 where
+      own : {k : ℕ} {vs : List ℕ} → 0 < k → Given k vs → GivenWith k vs
+      new : {k : ℕ} {vs : List ℕ} → IsSound s → GivenCounters (s .«buf_len») (writtenWith s t c) (readWith s t c) k vs → GivenWith k vs
+
+  -- what every accepted call answers: a record that holds its data, and is refused by none of these
+  pub record Passes : Type 0 where
+    pub held : s .fill ≡ dataIn s
+    pub taken : Taken s
+    pub never : (k : ℕ) (vs : List ℕ) → Given k vs → k ≡ 0
 
   -- ---- 6: a registered length above the greatest, of a record that is taken
   module _ (t : OperationType) (n : ℕ) where

@@ -5,6 +5,7 @@ use mathlib.Core.Path.{_≡_}
 use mathlib.Core.List.{List, [], _∷_, _++_}
 use mathlib.Core.Logic.{_⊎_}
 use lib.Dec.{eqb, leb}
+use Rattle.operations.specs.declared.counter.Counter.{Counter}
 use Rattle.operations.specs.declared.counter.Offset.{Offset}
 use Rattle.operations.specs.declared.list.ScheduledOperations.{ScheduledOperations}
 use Rattle.operations.specs.declared.list.ScheduledOperations.the-variants as list
@@ -120,11 +121,30 @@ pub record Between (s : RingBufferScheduler) (d : ℕ) : Type 0 where
   pub at-most : d ≤ s .«buf_len»
   pub ahead : (s .«items_read» .0 + d) % (2 * s .«buf_len») ≡ s .«items_written» .0
 
--- what is taken: a length, and counters with some data between them
+-- what is taken: a length, and counters with as many items between them as are held
 pub record Taken (s : RingBufferScheduler) : Type 0 where
   pub sized : Sized (s .«buf_len»)
   pub read : s .«items_read» .0 < 2 * s .«buf_len»
-  pub held : (d : ℕ) × Between s d
+  pub held : Between s (s .fill)
+
+-- so what is built of a length and two counters
+pub record Built (l : ℕ) (w r : Counter) (s : RingBufferScheduler) : Type 0 where
+  pub length : s .«buf_len» ≡ l
+  pub written : s .«items_written» ≡ w
+  pub read : s .«items_read» ≡ r
+  pub taken : Taken s
+
+-- and of the length and the counters of a record, with this one in the place of an operation's
+abbrev pub writtenWith : RingBufferScheduler → OperationType → Counter → Counter
+writtenWith s Read c = s .«items_written»
+writtenWith s Write c = c
+
+abbrev pub readWith : RingBufferScheduler → OperationType → Counter → Counter
+readWith s Read c = c
+readWith s Write c = s .«items_read»
+
+abbrev pub Replaced : RingBufferScheduler → OperationType → Counter → RingBufferScheduler → Type 0
+Replaced s t c u = Built (s .«buf_len») (writtenWith s t c) (readWith s t c) u
 
 -- n items registered: the counter of the type runs on by n round 2L, the other counter and the length stay, and the data is n
 -- less after a read, n more after a write
@@ -133,14 +153,14 @@ pub record ReadBy (s : RingBufferScheduler) (n : ℕ) (u : RingBufferScheduler) 
   pub length : u .«buf_len» ≡ s .«buf_len»
   pub written : u .«items_written» ≡ s .«items_written»
   pub read : u .«items_read» .0 ≡ (s .«items_read» .0 + n) % (2 * s .«buf_len»)
-  pub fill : dataIn u + n ≡ dataIn s
+  pub less : dataIn u + n ≡ dataIn s
 
 pub record WrittenBy (s : RingBufferScheduler) (n : ℕ) (u : RingBufferScheduler) : Type 0 where
   pub sound : IsSound u
   pub length : u .«buf_len» ≡ s .«buf_len»
   pub read : u .«items_read» ≡ s .«items_read»
   pub written : u .«items_written» .0 ≡ (s .«items_written» .0 + n) % (2 * s .«buf_len»)
-  pub fill : dataIn u ≡ dataIn s + n
+  pub more : dataIn u ≡ dataIn s + n
 
 abbrev pub MovedBy : RingBufferScheduler → OperationType → ℕ → RingBufferScheduler → Type 0
 MovedBy s Read n u = ReadBy s n u

@@ -2,6 +2,7 @@
 -- `buf_len`. A name that ends in `In` is of a sound scheduler; one that ends in `Of` tests the record first.
 use Prim.Native.Nat.{ℕ, _+_, _-_, _*_, _^_, _≤_, _<_, min, max}
 use mathlib.Core.Bool.{cond}
+use mathlib.Core.Path.{_≡_}
 use lib.Dec.{ltb, leb, eqb}
 use Rattle.operations.specs.declared.counter.Counter.{Counter}
 use Rattle.operations.specs.declared.counter.Offset.{Offset}
@@ -43,7 +44,7 @@ use Rattle.operations.specs.declared.operation.OperationType.{OperationType}
 use Rattle.operations.specs.declared.operation.OperationType.the-variants.{Read, Write}
 use Rattle.operations.specs.declared.operation.ScheduledOperation.{ScheduledOperation}
 use Rattle.operations.specs.declared.refusal.Refusal.{Refusal}
-use Rattle.operations.specs.declared.refusal.Refusal.the-variants.{ZeroBufferLength, BufferTooLarge, ItemsWrittenOutOfBounds, ItemsReadOutofBounds, DataAvailOutOfBounds, OperationTooLarge}
+use Rattle.operations.specs.declared.refusal.Refusal.the-variants.{ZeroBufferLength, BufferTooLarge, ItemsWrittenOutOfBounds, ItemsReadOutofBounds, DataAvailOutOfBounds, OperationTooLarge, HeldFillWrong}
 use Rattle.sched.specs.declared.scheduler.Checked.{Checked}
 use Rattle.sched.specs.declared.scheduler.Checked.the-variants as checked
 use Rattle.sched.specs.declared.register.Move.{Move}
@@ -59,8 +60,12 @@ use Rattle.sched.specs.Block.{blockOf, outerOf, innerOf}
 use Rattle.operations.specs.List.{soundListOf, listed}
 
 -- ---- soundness
+-- a record of any four numbers; one that is built of a length and two counters holds their data
+abbrev pub recordOf : ℕ → Counter → Counter → ℕ → RingBufferScheduler
+recordOf l w r n = record { «buf_len» = l; «items_written» = w; «items_read» = r; fill = n }
+
 abbrev pub schedulerOf : ℕ → Counter → Counter → RingBufferScheduler
-schedulerOf l w r = record { «buf_len» = l; «items_read» = r; «items_written» = w }
+schedulerOf l w r = recordOf l w r (dataOf l w r)
 
 -- a buffer's length
 pub record Sized (l : ℕ) : Type 0 where
@@ -70,21 +75,37 @@ pub record Sized (l : ℕ) : Type 0 where
 abbrev pub dataIn : RingBufferScheduler → ℕ
 dataIn s = dataOf (s .«buf_len») (s .«items_written») (s .«items_read»)
 
+-- a length and two counters, with at most that much data between them
+pub record Counted (l : ℕ) (w r : Counter) : Type 0 where
+  pub sized : Sized l
+  pub written : w .0 < 2 * l
+  pub read : r .0 < 2 * l
+  pub within : dataOf l w r ≤ l
+
 pub record IsSound (s : RingBufferScheduler) : Type 0 where
   pub sized : Sized (s .«buf_len»)
   pub written : s .«items_written» .0 < 2 * s .«buf_len»
   pub read : s .«items_read» .0 < 2 * s .«buf_len»
-  pub fill : dataIn s ≤ s .«buf_len»
+  pub within : dataIn s ≤ s .«buf_len»
+  pub held : s .fill ≡ dataIn s
 
--- the first of the refusals 1 to 5, or the scheduler
+-- the first of the refusals 1 to 5, or the data
+unfoldable pub countedOf : ℕ → Counter → Counter → AmountAnswer
+countedOf l w r =
+    cond (eqb l 0) (amount.Refused ZeroBufferLength)
+    (cond (ltb (2 ^ 63) l) (amount.Refused (BufferTooLarge l))
+    (cond (leb (2 * l) (w .0)) (amount.Refused (ItemsWrittenOutOfBounds l w))
+    (cond (leb (2 * l) (r .0)) (amount.Refused (ItemsReadOutofBounds l r))
+    (cond (ltb l (dataOf l w r)) (amount.Refused (DataAvailOutOfBounds l w r))
+    (amount.Of (dataOf l w r))))))
+
+-- then 20, where another fill is held, or the scheduler
+unfoldable pub heldOf : RingBufferScheduler → AmountAnswer → Checked
+heldOf s (amount.Of d) = cond (eqb (s .fill) d) (checked.Sound s) (checked.Refused HeldFillWrong)
+heldOf s (amount.Refused e) = checked.Refused e
+
 unfoldable pub soundOf : RingBufferScheduler → Checked
-soundOf s =
-    cond (eqb (s .«buf_len») 0) (checked.Refused ZeroBufferLength)
-    (cond (ltb (2 ^ 63) (s .«buf_len»)) (checked.Refused (BufferTooLarge (s .«buf_len»)))
-    (cond (leb (2 * s .«buf_len») (s .«items_written» .0)) (checked.Refused (ItemsWrittenOutOfBounds (s .«buf_len») (s .«items_written»)))
-    (cond (leb (2 * s .«buf_len») (s .«items_read» .0)) (checked.Refused (ItemsReadOutofBounds (s .«buf_len») (s .«items_read»)))
-    (cond (ltb (s .«buf_len») (dataIn s)) (checked.Refused (DataAvailOutOfBounds (s .«buf_len») (s .«items_written») (s .«items_read»)))
-    (checked.Sound s)))))
+soundOf s = heldOf s (countedOf (s .«buf_len») (s .«items_written») (s .«items_read»))
 
 -- ---- counters, offsets, data and space
 abbrev pub counterIn : RingBufferScheduler → OperationType → Counter
@@ -102,10 +123,14 @@ abbrev pub greatestIn : RingBufferScheduler → OperationType → ℕ
 greatestIn s Read = dataIn s
 greatestIn s Write = spaceIn s
 
+-- the scheduler with another counter of an operation
+abbrev pub withCounter : RingBufferScheduler → OperationType → Counter → RingBufferScheduler
+withCounter s Read c = schedulerOf (s .«buf_len») (s .«items_written») c
+withCounter s Write c = schedulerOf (s .«buf_len») c (s .«items_read»)
+
 -- the scheduler after n items have been read or written
 abbrev pub advancedIn : RingBufferScheduler → OperationType → ℕ → RingBufferScheduler
-advancedIn s Read n = schedulerOf (s .«buf_len») (s .«items_written») (laterOf (s .«buf_len») (s .«items_read») n)
-advancedIn s Write n = schedulerOf (s .«buf_len») (laterOf (s .«buf_len») (s .«items_written») n) (s .«items_read»)
+advancedIn s t n = withCounter s t (laterOf (s .«buf_len») (counterIn s t) n)
 
 unfoldable pub fillStateIn : RingBufferScheduler → BufferFillState
 fillStateIn s = cond (eqb (dataIn s) 0) Empty (cond (eqb (dataIn s) (s .«buf_len»)) Full Partial)
@@ -199,6 +224,10 @@ moveIn s t m = record { off = offsetIn s t; portion = portionOf m (greatestIn s 
 abbrev pub tested : {A : Type 0} → Checked → (RingBufferScheduler → A) → (Refusal → A) → A
 tested (checked.Sound s) f g = f s
 tested (checked.Refused e) f g = g e
+
+-- the record, and then the one with the other counter
+abbrev pub withCounterOf : RingBufferScheduler → OperationType → Counter → Checked
+withCounterOf s t c = tested (soundOf s) (λ u. soundOf (withCounter u t c)) checked.Refused
 
 abbrev pub bufLenOf : RingBufferScheduler → AmountAnswer
 bufLenOf s = tested (soundOf s) (λ u. amount.Of (u .«buf_len»)) amount.Refused

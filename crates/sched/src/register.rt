@@ -1,7 +1,7 @@
 // Registering what was moved, and scheduling and registering at once. A refused call hands no scheduler back.
 ghost use mathlib.Core.Path.{_≡_};
 ghost use Prim.Native.Nat.{_≤_};
-ghost use Rattle.sched.specs.Scheduler.{IsSound, advancedIn, registerIn, registerListIn, registerOf, registerListOf, moveIn, moveOf};
+ghost use Rattle.sched.specs.Scheduler.{IsSound, greatestIn, advancedIn, registerIn, registerListIn, registerOf, registerListOf, moveIn, moveOf};
 use crate::counter::later_of;
 use crate::scheduler::Checked;
 use crate::scheduler::RingBufferScheduler;
@@ -129,23 +129,22 @@ impl RingBufferScheduler {
     }
 
     fn advanced_in(self, op: OperationType, n: u64) -> RingBufferScheduler
-        requires { ⌜ IsSound self × (n ≤ self .«buf_len») ⌝ }
+        requires { ⌜ IsSound self × (n ≤ greatestIn self op) ⌝ }
         ensures { λ r. ⌜ r ≡ advancedIn self op n ⌝ }
     {
         let buf_len = self.buf_len;
         let items_written = self.items_written;
         let items_read = self.items_read;
+        let fill = self.fill;
         match op {
-            OperationType::Read => RingBufferScheduler {
-                buf_len,
-                items_read: later_of(items_read, buf_len, n),
-                items_written,
-            },
-            OperationType::Write => RingBufferScheduler {
-                buf_len,
-                items_read,
-                items_written: later_of(items_written, buf_len, n),
-            },
+            OperationType::Read => {
+                let later = later_of(items_read, buf_len, n);
+                RingBufferScheduler::from_numbers(buf_len, items_written, later, fill - n)
+            }
+            OperationType::Write => {
+                let later = later_of(items_written, buf_len, n);
+                RingBufferScheduler::from_numbers(buf_len, later, items_read, fill + n)
+            }
         }
     }
 

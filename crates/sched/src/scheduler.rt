@@ -1,7 +1,7 @@
 // The scheduler's record, its tests, counters, offsets, data and space. Every public call tests the record that it is given anew, and
 // then works on one that is known to be sound.
 ghost use mathlib.Core.Path.{_≡_};
-ghost use Rattle.sched.specs.Scheduler.{schedulerOf, IsSound, soundOf, dataIn, counterIn, offsetIn, greatestIn, fillStateIn, bufLenOf, counterAnswerOf, offsetAnswerOf, greatestOf, isZeroFrom, isPositiveFrom, fillStateOf};
+ghost use Rattle.sched.specs.Scheduler.{recordOf, schedulerOf, IsSound, countedOf, soundOf, withCounter, withCounterOf, dataIn, counterIn, offsetIn, greatestIn, fillStateIn, bufLenOf, counterAnswerOf, offsetAnswerOf, greatestOf, isZeroFrom, isPositiveFrom, fillStateOf};
 use crate::block::BufferFillState;
 use crate::block::FillStateAnswer;
 use crate::counter::data_of;
@@ -20,6 +20,8 @@ pub struct RingBufferScheduler {
     pub buf_len: u64,
     pub items_written: Counter,
     pub items_read: Counter,
+    // The data between the counters. Who only hands on what calls have answered never has to work it out.
+    pub fill: u64,
 }
 
 // A sound scheduler, or why it is none.
@@ -42,47 +44,59 @@ impl RingBufferScheduler {
     pub fn try_from_counters(buf_len: u64, items_written: Counter, items_read: Counter) -> Checked
         ensures { λ r. ⌜ r ≡ soundOf (schedulerOf «buf_len» «items_written» «items_read») ⌝ }
     {
-        RingBufferScheduler {
-            buf_len,
-            items_read,
-            items_written,
-        }.demand_soundness()
+        match counted(buf_len, items_written, items_read) {
+            AmountAnswer::Of(fill) => Checked::Sound(RingBufferScheduler::from_numbers(
+                buf_len,
+                items_written,
+                items_read,
+                fill,
+            )),
+            AmountAnswer::Refused(e) => Checked::Refused(e),
+        }
     }
 
-    // The first of the refusals 1 to 5, or the scheduler.
+    // A record of any four numbers, not tested yet. No other place builds one.
+    pub fn from_numbers(
+        buf_len: u64,
+        items_written: Counter,
+        items_read: Counter,
+        fill: u64,
+    ) -> RingBufferScheduler
+        ensures { λ r. ⌜ r ≡ recordOf «buf_len» «items_written» «items_read» fill ⌝ }
+    {
+        RingBufferScheduler {
+            buf_len,
+            items_written,
+            items_read,
+            fill,
+        }
+    }
+
+    // The first of the refusals 1 to 5 and 20, or the scheduler.
     pub fn demand_soundness(self) -> Checked
         ensures { λ r. ⌜ r ≡ soundOf self ⌝ }
     {
-        let buf_len = self.buf_len;
         let items_written = self.items_written;
         let items_read = self.items_read;
-        if buf_len == 0 {
-            return Checked::Refused(Refusal::ZeroBufferLength);
+        match counted(self.buf_len, items_written, items_read) {
+            AmountAnswer::Of(data) => {
+                if self.fill == data {
+                    return Checked::Sound(self);
+                }
+                Checked::Refused(Refusal::HeldFillWrong)
+            }
+            AmountAnswer::Refused(e) => Checked::Refused(e),
         }
-        if buf_len > RingBufferScheduler::MAX_BUF_LEN {
-            return Checked::Refused(Refusal::BufferTooLarge { buf_len });
+    }
+
+    // The scheduler with this counter in the place of that of the operation.
+    pub fn try_with_counter(self, op: OperationType, counter: Counter) -> Checked
+        ensures { λ r. ⌜ r ≡ withCounterOf self op counter ⌝ }
+    {
+        match self.demand_soundness() {
+            Checked::Sound(s) => s.with_counter_in(op, counter),
+            Checked::Refused(e) => Checked::Refused(e),
         }
-        let last = last_counter(buf_len);
-        if items_written.0 > last {
-            return Checked::Refused(Refusal::ItemsWrittenOutOfBounds {
-                buf_len,
-                items_written,
-            });
-        }
-        if items_read.0 > last {
-            return Checked::Refused(Refusal::ItemsReadOutofBounds {
-                buf_len,
-                items_read,
-            });
-        }
-        if data_of(items_written, items_read, buf_len) > buf_len {
-            return Checked::Refused(Refusal::DataAvailOutOfBounds {
-                buf_len,
-                items_written,
-                items_read,
-            });
-        }
-        Checked::Sound(self)
     }
 
     // ---- counters and offsets
@@ -203,6 +217,25 @@ impl RingBufferScheduler {
 
     // ---- of a sound scheduler
 
+    fn with_counter_in(self, op: OperationType, counter: Counter) -> Checked
+        ensures { λ r. ⌜ r ≡ soundOf (withCounter self op counter) ⌝ }
+    {
+        let items_written = self.items_written;
+        let items_read = self.items_read;
+        match op {
+            OperationType::Read => RingBufferScheduler::try_from_counters(
+                self.buf_len,
+                items_written,
+                counter,
+            ),
+            OperationType::Write => RingBufferScheduler::try_from_counters(
+                self.buf_len,
+                counter,
+                items_read,
+            ),
+        }
+    }
+
     fn counter_in(self, op: OperationType) -> Counter
         ensures { λ r. ⌜ r ≡ counterIn self op ⌝ }
     {
@@ -223,9 +256,7 @@ impl RingBufferScheduler {
         requires { ⌜ IsSound self ⌝ }
         ensures { λ r. ⌜ r ≡ dataIn self ⌝ }
     {
-        let items_written = self.items_written;
-        let items_read = self.items_read;
-        data_of(items_written, items_read, self.buf_len)
+        self.fill
     }
 
     pub(crate) fn greatest_in(self, op: OperationType) -> u64
@@ -251,6 +282,40 @@ impl RingBufferScheduler {
         }
         BufferFillState::Partial
     }
+}
+
+// The first of the refusals 1 to 5, or the data between the counters.
+fn counted(buf_len: u64, items_written: Counter, items_read: Counter) -> AmountAnswer
+    ensures { λ r. ⌜ r ≡ countedOf «buf_len» «items_written» «items_read» ⌝ }
+{
+    if buf_len == 0 {
+        return AmountAnswer::Refused(Refusal::ZeroBufferLength);
+    }
+    if buf_len > RingBufferScheduler::MAX_BUF_LEN {
+        return AmountAnswer::Refused(Refusal::BufferTooLarge { buf_len });
+    }
+    let last = last_counter(buf_len);
+    if items_written.0 > last {
+        return AmountAnswer::Refused(Refusal::ItemsWrittenOutOfBounds {
+            buf_len,
+            items_written,
+        });
+    }
+    if items_read.0 > last {
+        return AmountAnswer::Refused(Refusal::ItemsReadOutofBounds {
+            buf_len,
+            items_read,
+        });
+    }
+    let data = data_of(items_written, items_read, buf_len);
+    if data > buf_len {
+        return AmountAnswer::Refused(Refusal::DataAvailOutOfBounds {
+            buf_len,
+            items_written,
+            items_read,
+        });
+    }
+    AmountAnswer::Of(data)
 }
 
 fn is_zero_from(a: AmountAnswer) -> BoolAnswer

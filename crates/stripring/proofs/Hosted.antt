@@ -11,7 +11,7 @@ use denote.Triple.Clauses.{atExit}
 use borrow.Fn.Kinds.{endedOf}
 use Rattle.modular.proofs.Saying.{Says, Leaves}
 use Rattle.operations.specs.declared.refusal.Refusal as sched
-use Rattle.operations.specs.declared.refusal.Refusal.the-variants.{ZeroBufferLength, BufferTooLarge, ItemsWrittenOutOfBounds, ItemsReadOutofBounds, DataAvailOutOfBounds, OperationTooLarge, OperationTooLong, InconsistentOperationType}
+use Rattle.operations.specs.declared.refusal.Refusal.the-variants.{ZeroBufferLength, BufferTooLarge, ItemsWrittenOutOfBounds, ItemsReadOutofBounds, DataAvailOutOfBounds, OperationTooLarge, OperationTooLong, InconsistentOperationType, HeldFillWrong}
 use Rattle.copies.specs.declared.refusal.Refusal.the-variants.{Scheduler, RingMemory}
 use Rattle.ends.specs.Refusal.{numberOf}
 use Rattle.ends.specs.Ends.{WroteLeft, wroteLeft, GotLeft, gotLeft}
@@ -97,6 +97,7 @@ by-scheduler (DataAvailOutOfBounds n w r) = refl
 by-scheduler (OperationTooLarge t n top) = refl
 by-scheduler (OperationTooLong n) = refl
 by-scheduler InconsistentOperationType = refl
+by-scheduler HeldFillWrong = refl
 
 end-refusal-back : (e : ends.Refusal) → endRefusalAt (flatEndRefusal e) ≡ e
 unfolding endRefusalAt

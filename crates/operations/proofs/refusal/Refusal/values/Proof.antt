@@ -1,4 +1,4 @@
--- The eight cases, each with its values in their order.
+-- The nine cases, each with its values in their order.
 use borrow.Author.Needs.{needs}
 use Rattle.operations.proofs.refusal.Refusal.values.Statement.{statement}
 use Rattle.operations.proofs.refusal.Refusal.values.Tie as tie
@@ -27,8 +27,11 @@ returns-7 c = rw (c .before .before .self6 .given .1, c .one2 .ensures)
 returns-8 : tie.Need-returns-8
 returns-8 c = rw (c .before .enum-told2 .given .1, c .none2 .ensures)
 
+returns-9 : tie.Need-returns-9
+returns-9 c = rw (c .before .enum-told3 .given .1, c .none3 .ensures)
+
 pub values-spec : {M : Type 1} → statement M
 values-spec =
     tie.close (tie.spec (search needs) (search needs) (search needs) (search needs) (search needs) (search needs) (search needs)
     (search needs) (search needs) (search needs) (search needs) (search needs) (search needs) (search needs) (search needs) (search needs)
-    (search needs) returns returns-2 returns-3 returns-4 returns-5 returns-6 returns-7 returns-8)
+    (search needs) (search needs) (search needs) returns returns-2 returns-3 returns-4 returns-5 returns-6 returns-7 returns-8 returns-9)

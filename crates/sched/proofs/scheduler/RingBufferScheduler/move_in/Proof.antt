@@ -2,16 +2,15 @@
 use mathlib.Core.Path.{ap}
 use native.Mathlib.Omega.{arith}
 use Rattle.operations.specs.declared.portion.Portion.{Portion}
-use Rattle.sched.proofs.Laws.{greatest-most}
 use borrow.Author.Needs.{needs}
 use Rattle.sched.proofs.scheduler.RingBufferScheduler.move_in.Statement.{statement}
 use Rattle.sched.proofs.scheduler.RingBufferScheduler.move_in.Tie as tie
 
--- a portion of the greatest length is at most L
+-- a portion of the greatest length is at most that
 advanced-in-requires : tie.Need-advanced-in-requires
 advanced-in-requires c κs =
     let start = c .before .before .before in
-    (start .pre, omega (arith, greatest-most _ (start .pre) (start .args .op), c .before .greatest-in .ensures, ap (λ (p : Portion). p .len) (c .portion-of .ensures)))
+    (start .pre, omega (arith, c .before .greatest-in .ensures, ap (λ (p : Portion). p .len) (c .portion-of .ensures)))
 
 returns : tie.Need-returns
 returns c =

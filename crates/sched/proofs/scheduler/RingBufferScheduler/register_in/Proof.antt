@@ -1,8 +1,6 @@
 -- 6 above the greatest length; else the scheduler after it.
 use borrow.Author.Tests.{lt-ltb, le-ltb}
-use native.Mathlib.Omega.{arith}
 use Rattle.sched.specs.Scheduler.{registerIn}
-use Rattle.sched.proofs.Laws.{greatest-most}
 use borrow.Author.Needs.{needs}
 use Rattle.sched.proofs.scheduler.RingBufferScheduler.register_in.Statement.{statement}
 use Rattle.sched.proofs.scheduler.RingBufferScheduler.register_in.Tie as tie
@@ -14,7 +12,7 @@ returns c = rw (← c .before .greatest-in .ensures, lt-ltb _ _ (c .if1 .taken))
 advanced-in-requires : tie.Need-advanced-in-requires
 advanced-in-requires c κs =
     let start = c .before .before in
-    (start .pre, omega (arith, greatest-most _ (start .pre) (start .args .op), c .before .greatest-in .ensures))
+    (start .pre, rw (← c .before .greatest-in .ensures) (c .if1 .left))
 
 returns-2 : tie.Need-returns-2
 unfolding registerIn

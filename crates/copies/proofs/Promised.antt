@@ -23,7 +23,9 @@ use Rattle.sched.specs.declared.scheduler.RingBufferScheduler.{RingBufferSchedu
 use Rattle.sched.specs.Scheduler.{IsSound, soundOf, greatestIn, offsetIn}
 use Rattle.sched.proofs.Laws.{sound-both, sound-is, greatest-most}
 use Rattle.modular.proofs.Saying.{Keeps}
+use Rattle.operations.specs.Given as operations
 use Rattle.sched.specs.Given.{Given, taken}
+use Rattle.sched.specs.Given as sched-given
 use Rattle.operations.proofs.Given.{number-some}
 use Rattle.sched.proofs.Given.{record-exactly}
 use Rattle.sched.proofs.RegisterLaws.{moved}
@@ -109,6 +111,11 @@ module _ (s : RingBufferScheduler) where
 
   pub sound-given : IsSound s → (k : ℕ) (vs : List ℕ) → Given s k vs → k ≡ 0
   sound-given h k vs g = sym (ap (λ (v : Verdict). v .number) (given-sound h k vs g))
+
+-- what is exact of an answer of the scheduler's tests is so as a verdict of a copy
+pub as-checked : {G : ℕ → List ℕ → Type 0} (c : Checked) → operations.Exactly G (sched-given.ofChecked c) → Exactly G (ofChecked c)
+as-checked (checked.Sound s) x = record { only = x .only; always = λ k vs g. let t = x .always k vs g in λ i. verdict (t .0 i) (t .1 i) }
+as-checked (checked.Refused e) x = record { only = x .only; always = λ k vs g. let t = x .always k vs g in λ i. verdict (t .0 i) (t .1 i) }
 
 -- so its tests are refused exactly by its table
 pub checked-given : (s : RingBufferScheduler) (c : Checked) → Checks s c → Exactly (Given s) (ofChecked c)

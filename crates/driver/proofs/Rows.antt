@@ -7,7 +7,7 @@ use mathlib.Core.List.{List, [], _∷_, _++_}
 use lib.ListN.{replicate}
 use Rattle.modular.specs.Modulus.{subMod, addMod}
 use Rattle.sched.specs.declared.scheduler.RingBufferScheduler.{RingBufferScheduler}
-use Rattle.sched.specs.Scheduler.{schedulerOf, soundOf}
+use Rattle.sched.specs.Scheduler.{schedulerOf, countedOf, soundOf}
 use Rattle.copies.specs.Copies.{readyFrom}
 use Rattle.states.specs.declared.answer.Answer.{Answer}
 use Rattle.receiver.specs.declared.receiver.Ended.{Ended}
@@ -80,7 +80,7 @@ an-errno-is-1-to-4095 :
     (service Normal 1 false (fails 0 ∷ []) ≡ Refused (Misfit 1)) ×
     (service Normal 1 true (fails 4095 ∷ []) ≡ Accepted (receiver empty (Draining (Io 4095)) 1 true) (failedOutcome (Io 4095)) 1) ×
     (service Normal 1 false (fails 4096 ∷ []) ≡ Refused (Misfit 1))
-unfolding flushCall soundOf subMod fitsErrno normalizeIn towardsErrorIn interruptedOf sentOf
+unfolding flushCall countedOf soundOf subMod fitsErrno normalizeIn towardsErrorIn interruptedOf sentOf
 an-errno-is-1-to-4095 = (refl, refl, refl)
 
 an-answer-fits-its-place :
@@ -90,7 +90,7 @@ an-answer-fits-its-place :
     (reads empty Normal 0 false zeros 2 (done ∷ []) ≡ Refused (Misfit 1)) ×
     (shuts Normal false (sends 0 ∷ []) ≡ Refused (Misfit 1)) ×
     (shuts Normal false (closed ∷ []) ≡ Refused (Misfit 1))
-unfolding flushCall readyFrom soundOf subMod fitsErrno normalizeIn towardsErrorIn interruptedOf receivedOf sentOf shutOf
+unfolding flushCall readyFrom countedOf soundOf subMod fitsErrno normalizeIn towardsErrorIn interruptedOf receivedOf sentOf shutOf
 an-answer-fits-its-place = (refl, refl, refl, refl, refl, refl)
 
 -- ---- acknowledgements
@@ -102,46 +102,46 @@ batches-are-sent-until-nothing-is-pending :
     (service Normal 130 false (sends 100 ∷ sends 31 ∷ []) ≡ Refused (Misfit 2)) ×
     (service Normal 1 false [] ≡ Refused AnswerMissing) ×
     (service (Terminated (Io 0)) 3 false [] ≡ Refused (Misfit 0))
-unfolding flushCall soundOf subMod fitsErrno interruptedOf sentOf
+unfolding flushCall countedOf soundOf subMod fitsErrno interruptedOf sentOf
 batches-are-sent-until-nothing-is-pending = (refl, refl, refl, refl, refl, refl, refl)
 
 a-failed-send-drains :
     (service Normal 300 false (sends 128 ∷ fails 104 ∷ done ∷ []) ≡ Accepted (receiver empty (Draining (Io 104)) 172 true) (failedOutcome (Io 104)) 3) ×
     (service Normal 1 false (sends 0 ∷ fails 4 ∷ []) ≡ Accepted (receiver empty (Draining (Io 5)) 1 false) (failedOutcome (Io 4)) 2)
-unfolding flushCall soundOf subMod fitsErrno normalizeIn towardsErrorIn interruptedOf sentOf shutOf
+unfolding flushCall countedOf soundOf subMod fitsErrno normalizeIn towardsErrorIn interruptedOf sentOf shutOf
 a-failed-send-drains = (refl, refl)
 
 an-interruption-is-waited-out-but-not-by-a-shutdown :
     (service Normal 5 false (fails 4 ∷ sends 5 ∷ []) ≡ Accepted (receiver empty Normal 0 false) doneOutcome 2) ×
     (reads empty Normal 0 false zeros 2 (fails 4 ∷ fails 4 ∷ fails 11 ∷ []) ≡ Accepted (receiver empty Normal 0 false) (failedOutcome (Io 11)) 3) ×
     (shuts Normal false (fails 4 ∷ []) ≡ Accepted (receiver empty (Draining (Io 32)) 0 false) (failedOutcome (Io 4)) 1)
-unfolding flushCall readyFrom soundOf subMod fitsErrno normalizeIn towardsErrorIn interruptedOf receivedOf sentOf shutOf
+unfolding flushCall readyFrom countedOf soundOf subMod fitsErrno normalizeIn towardsErrorIn interruptedOf receivedOf sentOf shutOf
 an-interruption-is-waited-out-but-not-by-a-shutdown = (refl, refl, refl)
 
 nothing-is-sent-while-draining :
     (service (Draining (Io 5)) 3 true (sends 3 ∷ []) ≡ Accepted (receiver empty (Draining (Io 5)) 3 true) (failedOutcome (Io 5)) 0) ×
     (reads (ring 64 3 0) (Draining (Io 5)) 0 true zeros 9 [] ≡ Accepted (receiver (ring 64 3 3) (Draining (Io 5)) 1 true) (bytes 3 0) 0)
-unfolding readyFrom soundOf subMod addMod fitsErrno
+unfolding readyFrom countedOf soundOf subMod addMod fitsErrno
 nothing-is-sent-while-draining = (refl, refl)
 
 -- ---- errno 11
 a-stored-11-is-taken-as-it-stands :
     (service (Draining (Io 11)) 3 false [] ≡ Accepted (receiver empty (Draining (Io 11)) 3 false) (failedOutcome (Io 11)) 0) ×
     (reads empty (Terminated (Io 11)) 0 false zeros 2 [] ≡ Accepted (receiver empty (Terminated (Io 11)) 0 false) (failedOutcome (Io 11)) 0)
-unfolding readyFrom soundOf subMod fitsErrno
+unfolding readyFrom countedOf soundOf subMod fitsErrno
 a-stored-11-is-taken-as-it-stands = (refl, refl)
 
 advancing-normalises-11 :
     (shuts (Terminated (Io 11)) true [] ≡ Accepted (receiver empty (Draining (Io 32)) 0 true) doneOutcome 0) ×
     (reads empty (Draining (Io 11)) 0 false zeros 2 (fails 11 ∷ []) ≡ Accepted (receiver empty Normal 0 false) (failedOutcome (Io 11)) 1)
-unfolding readyFrom soundOf subMod fitsErrno normalizeIn towardsErrorIn interruptedOf receivedOf shutOf
+unfolding readyFrom countedOf soundOf subMod fitsErrno normalizeIn towardsErrorIn interruptedOf receivedOf shutOf
 advancing-normalises-11 = (refl, refl)
 
 refusal-11-is-not-failure-11 :
     (reads empty Normal 0 false zeros 2 [] ≡ Refused AnswerMissing) ×
     (numberOf AnswerMissing ≡ 11) ×
     (reads empty Normal 0 false zeros 2 (fails 11 ∷ []) ≡ Accepted (receiver empty Normal 0 false) (failedOutcome (Io 11)) 1)
-unfolding readyFrom soundOf subMod fitsErrno interruptedOf receivedOf
+unfolding readyFrom countedOf soundOf subMod fitsErrno interruptedOf receivedOf
 refusal-11-is-not-failure-11 = (refl, refl, refl)
 
 -- ---- a read
@@ -151,19 +151,19 @@ terminated-then-the-empty-destination-then-13-then-the-announcement :
     (reads empty Normal (2 ^ 64 - 1) false zeros 2 (byte 300 0 ∷ []) ≡ Refused PendingFull) ×
     (reads empty Normal 0 false zeros 2 (byte 7 2 ∷ []) ≡ Refused (Misfit 1)) ×
     (reads empty (Terminated (Io 4096)) 0 false zeros 2 [] ≡ Refused (Misfit 0))
-unfolding readyFrom soundOf subMod fitsErrno interruptedOf receivedOf
+unfolding readyFrom countedOf soundOf subMod fitsErrno interruptedOf receivedOf
 terminated-then-the-empty-destination-then-13-then-the-announcement = (refl, refl, refl, refl, refl)
 
 the-end-of-the-stream-is-a-read-of-nothing :
     (reads empty (Draining (Io 5)) 0 false zeros 2 (closed ∷ done ∷ []) ≡ Accepted (receiver empty (Terminated (Io 5)) 0 true) (bytes 0 0) 2) ×
     (reads empty (Terminated (Io 32)) 0 false zeros 2 [] ≡ Accepted (receiver empty (Terminated (Io 32)) 0 false) (bytes 0 0) 0)
-unfolding readyFrom soundOf subMod fitsErrno normalizeIn towardsErrorIn interruptedOf receivedOf shutOf
+unfolding readyFrom countedOf soundOf subMod fitsErrno normalizeIn towardsErrorIn interruptedOf receivedOf shutOf
 the-end-of-the-stream-is-a-read-of-nothing = (refl, refl)
 
 draining-and-blocked-terminates-with-the-cached-reason :
     (reads empty (Draining (Io 5)) 0 false zeros 2 (fails 11 ∷ []) ≡ Refused AnswerMissing) ×
     (reads empty (Draining (Io 5)) 0 true zeros 2 (fails 11 ∷ []) ≡ Accepted (receiver empty (Terminated (Io 5)) 0 true) (failedOutcome (Io 5)) 1)
-unfolding readyFrom soundOf subMod fitsErrno normalizeIn towardsErrorIn interruptedOf receivedOf shutOf
+unfolding readyFrom countedOf soundOf subMod fitsErrno normalizeIn towardsErrorIn interruptedOf receivedOf shutOf
 draining-and-blocked-terminates-with-the-cached-reason = (refl, refl)
 
 -- found in the servicing after bytes were read: the destination is as it was
@@ -171,7 +171,7 @@ a-late-refusal-changes-nothing :
     (readDelivery (receiver (ring 64 5 0) Normal 300 false) (memory zeros) (1 ∷ 2 ∷ 3 ∷ []) 1 (sends 128 ∷ []) ≡ delivery (Refused AnswerMissing) (1 ∷ 2 ∷ 3 ∷ [])) ×
     (readDelivery (receiver (ring 64 5 0) Normal 300 false) (memory zeros) (1 ∷ 2 ∷ 3 ∷ []) 1 (sends 128 ∷ sends 129 ∷ []) ≡ delivery (Refused (Misfit 2)) (1 ∷ 2 ∷ 3 ∷ [])) ×
     (readDelivery (receiver (ring 64 5 0) Normal 0 false) (memory (7 ∷ 8 ∷ 9 ∷ replicate 5 0)) (1 ∷ 2 ∷ []) 1 [] ≡ delivery (Accepted (receiver (ring 64 5 2) Normal 0 false) (bytes 2 0) 0) (7 ∷ 8 ∷ []))
-unfolding flushCall readyFrom soundOf subMod addMod fitsErrno interruptedOf sentOf
+unfolding flushCall readyFrom countedOf soundOf subMod addMod fitsErrno interruptedOf sentOf
 a-late-refusal-changes-nothing = (refl, refl, refl)
 
 -- ---- an announcement
@@ -180,13 +180,13 @@ a-violation-puts-the-scheduler-back :
     (reads empty Normal 0 true (header 0 0) 2 (byte 0 1 ∷ []) ≡ Accepted (receiver empty (Terminated (Protocol InvalidChunkLength)) 0 true) (failedOutcome (Protocol InvalidChunkLength)) 1) ×
     (reads empty Normal 0 true (header 64 5) 2 (byte 0 1 ∷ []) ≡ Accepted (receiver empty (Terminated (Protocol UnknownHeader)) 0 true) (failedOutcome (Protocol UnknownHeader)) 1) ×
     (reads empty Normal 0 true zeros 2 (byte 7 1 ∷ []) ≡ Accepted (receiver empty (Terminated (Protocol InvalidChunkAnnouncement)) 0 true) (failedOutcome (Protocol InvalidChunkAnnouncement)) 1)
-unfolding behindHeader bodyFits numberFrom readyFrom soundOf subMod addMod fitsErrno normalizeIn towardsErrorIn interruptedOf receivedOf shutOf
+unfolding behindHeader bodyFits numberFrom readyFrom countedOf soundOf subMod addMod fitsErrno normalizeIn towardsErrorIn interruptedOf receivedOf shutOf
 a-violation-puts-the-scheduler-back = (refl, refl, refl, refl)
 
 eight-bytes-stay-free-behind-a-body :
     (reads empty Normal 0 true (header 0 56) 2 (byte 0 1 ∷ []) ≡ Accepted (receiver (ring 64 64 10) Normal 0 true) (bytes 2 1) 1) ×
     (reads empty Normal 0 true (header 0 57) 2 (byte 0 1 ∷ []) ≡ Accepted (receiver empty (Terminated (Protocol (BodyOverflow (overflowOf 57 56)))) 0 true) (failedOutcome (Protocol (BodyOverflow (overflowOf 57 56)))) 1)
-unfolding behindHeader flushCall bodyFits numberFrom readyFrom soundOf subMod addMod fitsErrno normalizeIn towardsErrorIn interruptedOf receivedOf shutOf
+unfolding behindHeader flushCall bodyFits numberFrom readyFrom countedOf soundOf subMod addMod fitsErrno normalizeIn towardsErrorIn interruptedOf receivedOf shutOf
 eight-bytes-stay-free-behind-a-body = (refl, refl)
 
 -- which part overflowed, in a ring of this length with this at its front: the bytes needed and the room are answered and stored
@@ -201,7 +201,7 @@ the-header-needs-8-of-l-and-the-body-what-the-header-leaves :
     (announced 7 Normal (replicate 7 0) ≡ overflows 7 (HeaderOverflow (overflowOf 8 7))) ×
     (announced 8 Normal (header 0 1) ≡ overflows 8 (BodyOverflow (overflowOf 1 0))) ×
     (announced 64 Normal (memory (header 0 64)) ≡ overflows 64 (BodyOverflow (overflowOf 64 56)))
-unfolding behindHeader bodyFits numberFrom readyFrom soundOf subMod addMod fitsErrno normalizeIn towardsErrorIn interruptedOf receivedOf shutOf
+unfolding behindHeader bodyFits numberFrom readyFrom countedOf soundOf subMod addMod fitsErrno normalizeIn towardsErrorIn interruptedOf receivedOf shutOf
 the-header-needs-8-of-l-and-the-body-what-the-header-leaves = (refl, refl, refl, refl)
 
 stored-numbers-of-an-overflow-are-carried-as-they-are :
@@ -210,24 +210,24 @@ stored-numbers-of-an-overflow-are-carried-as-they-are :
     (announced 64 (Draining (Io 32)) (memory (header 0 57)) ≡ overflows 64 (BodyOverflow (overflowOf 57 56))) ×
     (announced 64 (Draining (Protocol (BodyOverflow (overflowOf 3 9)))) (memory (header 0 57)) ≡
     Accepted (receiver empty (Terminated (Protocol (BodyOverflow (overflowOf 3 9)))) 0 true) (failedOutcome (Protocol (BodyOverflow (overflowOf 57 56)))) 1)
-unfolding behindHeader bodyFits numberFrom readyFrom soundOf subMod addMod fitsErrno normalizeIn towardsErrorIn interruptedOf receivedOf shutOf
+unfolding behindHeader bodyFits numberFrom readyFrom countedOf soundOf subMod addMod fitsErrno normalizeIn towardsErrorIn interruptedOf receivedOf shutOf
 stored-numbers-of-an-overflow-are-carried-as-they-are = (refl, refl, refl)
 
 a-chunk-read-to-its-end-is-acknowledged :
     reads empty Normal 0 true (header 0 3) 9 (byte 0 1 ∷ sends 1 ∷ []) ≡ Accepted (receiver (ring 64 11 11) Normal 0 true) (bytes 3 1) 2
-unfolding flushCall bodyFits numberFrom readyFrom soundOf subMod addMod fitsErrno interruptedOf receivedOf sentOf
+unfolding flushCall bodyFits numberFrom readyFrom countedOf soundOf subMod addMod fitsErrno interruptedOf receivedOf sentOf
 a-chunk-read-to-its-end-is-acknowledged = refl
 
 -- five bytes of it at the ring's end and three at its start, the body behind them
 a-header-wraps-around-the-ring's-end :
     readDelivery (receiver (ring 20 15 15) Normal 0 true) (0 ∷ 0 ∷ 3 ∷ 7 ∷ 8 ∷ 9 ∷ replicate 14 0) (1 ∷ 2 ∷ []) 0 (byte 0 0 ∷ []) ≡
     delivery (Accepted (receiver (ring 20 26 25) Normal 0 true) (bytes 2 0) 1) (7 ∷ 8 ∷ [])
-unfolding flushCall bodyFits numberFrom readyFrom soundOf subMod addMod fitsErrno interruptedOf receivedOf
+unfolding flushCall bodyFits numberFrom readyFrom countedOf soundOf subMod addMod fitsErrno interruptedOf receivedOf
 a-header-wraps-around-the-ring's-end = refl
 
 -- ---- a shutdown
 a-shutdown-drains-with-32 :
     (shuts Normal false (done ∷ []) ≡ Accepted (receiver empty (Draining (Io 32)) 0 true) doneOutcome 1) ×
     (shuts (Draining (Io 5)) true [] ≡ Accepted (receiver empty (Draining (Io 5)) 0 true) doneOutcome 0)
-unfolding soundOf subMod fitsErrno normalizeIn towardsErrorIn shutOf
+unfolding countedOf soundOf subMod fitsErrno normalizeIn towardsErrorIn shutOf
 a-shutdown-drains-with-32 = (refl, refl)

@@ -1,3 +1,4 @@
+pub mod Taking
 pub mod View
 pub mod Core
 pub mod Laws

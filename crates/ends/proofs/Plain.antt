@@ -7,9 +7,9 @@ use native.Mathlib.Decide.{decLt}
 use native.Mathlib.Omega.{arith}
 use Rattle.operations.specs.declared.counter.Counter.{Counter}
 use Rattle.sched.specs.declared.scheduler.RingBufferScheduler.{RingBufferScheduler}
-use Rattle.sched.specs.Scheduler.{IsSound}
+use Rattle.sched.specs.Scheduler.{schedulerOf, IsSound}
 use Rattle.sched.proofs.Counting.{taken-sound}
-use Rattle.sched.proofs.Laws.{sound-is}
+use Rattle.sched.proofs.Laws.{held-is, sound-is}
 use Rattle.ends.specs.declared.writing_end.WritingEnd.{WritingEnd}
 use Rattle.ends.specs.declared.reading_end.ReadingEnd.{ReadingEnd}
 use Rattle.ends.specs.Ends.{writingEnd, readingEnd}
@@ -52,7 +52,8 @@ begins : (s : RingBufferScheduler) → IsSound s → s .«items_written» ≡ s 
 begins s h e =
     let q : s .«items_read» .0 ≡ seen (s .«buf_len») (s .«items_read» .0) 0 = sym (rw add-zero (mod-eq-of-lt (h .read))) in
     let r : s .«items_read» ≡ record { 0 = seen (s .«buf_len») (s .«items_read» .0) 0 } = ap counter q in
-    λ i. record { «buf_len» = s .«buf_len»; «items_read» = r i; «items_written» = (e ∙ r) i }
+    let v : schedulerOf (s .«buf_len») (s .«items_written») (s .«items_read») ≡ view (s .«buf_len») (s .«items_read» .0) 0 0 = λ i. schedulerOf (s .«buf_len») ((e ∙ r) i) (r i) in
+    sym (held-is s h) ∙ v
   where
     counter : ℕ → Counter
     counter n = record { 0 = n }

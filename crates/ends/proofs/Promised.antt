@@ -1,6 +1,6 @@
 -- The calls of the ends keep what specs/Promises.antt says: whatever an attached contract allows.
 use Prim.Native.Nat.{ℕ, _≤_, _<_}
-use mathlib.Core.Path.{_≡_, refl, ap}
+use mathlib.Core.Path.{_≡_, refl, sym, ap, subst, _∙_}
 use mathlib.Core.Bool.{Bool, true, false, cond}
 use mathlib.Core.Logic.{_⊎_, inl, inr}
 use mathlib.Core.List.{List, []}
@@ -13,15 +13,16 @@ use Rattle.operations.specs.declared.operation.OperationType.the-variants.{Read
 use Rattle.sched.specs.declared.scheduler.Checked.{Checked}
 use Rattle.sched.specs.declared.scheduler.Checked.the-variants as checked
 use Rattle.sched.specs.declared.scheduler.RingBufferScheduler.{RingBufferScheduler}
-use Rattle.operations.specs.declared.counter.AmountAnswer.{AmountAnswer}
-use Rattle.operations.specs.declared.counter.AmountAnswer.the-variants as amount
+use Rattle.operations.specs.declared.counter.Counter.{Counter}
 use Rattle.operations.specs.declared.counter.CounterAnswer.{CounterAnswer}
 use Rattle.operations.specs.declared.counter.CounterAnswer.the-variants as counter
-use Rattle.sched.specs.Scheduler.{schedulerOf, IsSound, counterIn, greatestIn, tested, greatestOf}
+use Rattle.sched.specs.Scheduler.{schedulerOf, IsSound, soundOf, counterIn, dataIn, spaceIn, greatestIn, tested, withCounterOf}
 use Rattle.modular.proofs.Saying.{Keeps}
-use Rattle.sched.specs.Given.{Given}
+use Rattle.sched.specs.Given.{GivenCounters, counted, given-1, given-2, given-3, given-4, given-5, GivenWith, new}
+use Rattle.sched.specs.Promise.{Built, Replaced}
 use Rattle.operations.proofs.Given.{number-some}
-use Rattle.sched.specs.Given as given
+use Rattle.sched.proofs.Given.{counters-exactly, with-exactly}
+use Rattle.sched.proofs.PromisedFill.{built, built-is, built-counted, replaced}
 use Rattle.copies.specs.declared.Copied.{Copied}
 use Rattle.copies.specs.declared.Copied.the-variants as copied
 use Rattle.copies.specs.declared.refusal.Refusal.the-variants.{Scheduler}
@@ -29,10 +30,8 @@ use Rattle.copies.specs.Copies.{writeOf, readOf}
 use Rattle.copies.specs.Lent.{toldOf, recordAfter}
 use Rattle.copies.specs.Given.{Verdict, verdict, Exactly, GivenCopy, ofChecked, ofCopied}
 use Rattle.copies.specs.Promises.{Writes, Reads}
-use Rattle.copies.proofs.Promised.{KeepsLeft, Checks, passes, fails, checks, checked-given, refusal-given, given-refusal, sound-given, sound-not-refused, written-given, got-given, written-promised, got-promised, write-left, read-left}
+use Rattle.copies.proofs.Promised.{KeepsLeft, Checks, passes, fails, checks, as-checked, checked-given, written-given, got-given, written-promised, got-promised, write-left, read-left}
 use Rattle.ends.specs.declared.refusal.Refusal.the-variants.{Copy, RanBack}
-use Rattle.ends.specs.declared.refusal.Taken.{Taken}
-use Rattle.ends.specs.declared.refusal.Taken.the-variants as taken
 use Rattle.ends.specs.declared.writing_end.WrittenCounter.{WrittenCounter}
 use Rattle.ends.specs.declared.writing_end.WritingEnd.{WritingEnd}
 use Rattle.ends.specs.declared.writing_end.WritingEndAnswer.the-variants as writing
@@ -41,8 +40,8 @@ use Rattle.ends.specs.declared.reading_end.ReadCounter.{ReadCounter}
 use Rattle.ends.specs.declared.reading_end.ReadingEnd.{ReadingEnd}
 use Rattle.ends.specs.declared.reading_end.ReadingEndAnswer.the-variants as reading
 use Rattle.ends.specs.declared.reading_end.ReadCounterAnswer.the-variants as readCounter
-use Rattle.ends.specs.Ends.{writingEnd, readingEnd, writingEndFrom, readingEndFrom, wroteFrom, gotFrom, writtenSentFrom, readSentFrom, takenFrom, takeReadFrom, takeWrittenFrom}
-use Rattle.ends.specs.Promises.{GivenTake, takes, own, new, given-10, refusedBy, ofWritingEnd, ofReadingEnd, ofWrote, ofGot, ofWritten, ofRead, EndWrites, EndReads, MadeW, MadeR, SentW, SentR, withRead, TookW, withWritten, TookR}
+use Rattle.ends.specs.Ends.{writingEnd, readingEnd, writingEndFrom, readingEndFrom, wroteFrom, gotFrom, writtenSentFrom, readSentFrom, takeReadFrom, takeWrittenFrom}
+use Rattle.ends.specs.Promises.{GivenTake, takes, by-record, given-10, refusedBy, ofWritingEnd, ofReadingEnd, ofWrote, ofGot, ofWritten, ofRead, EndWrites, EndReads, BuiltW, BuiltR, MadeW, MadeR, SentW, SentR, TookW, TookR}
 use Rattle.ends.proofs.Says.{WritingEnd-new-says, WritingEnd-from-counters-says, WritingEnd-from-scheduler-says, ReadingEnd-new-says, ReadingEnd-from-counters-says, ReadingEnd-from-scheduler-says, WritingEnd-write-says, ReadingEnd-read-says, WritingEnd-send-says, ReadingEnd-send-says, WritingEnd-take-says, ReadingEnd-take-says}
 use Rattle.ends.proofs.writing_end.WritingEnd.new.Kinds as newW-kinds
 use Rattle.ends.proofs.writing_end.WritingEnd.new.Reads as newW
@@ -72,9 +71,6 @@ use Rattle.ends.proofs.reading_end.ReadingEnd.take.Reads as takeR
 -- ---- what an end asks, of the tests' answer
 abbrev counterBy : OperationType → Checked → CounterAnswer
 counterBy t c = tested c (λ s. counter.Of (counterIn s t)) counter.Refused
-
-abbrev greatestBy : OperationType → Checked → AmountAnswer
-greatestBy t c = tested c (λ s. amount.Of (greatestIn s t)) amount.Refused
 
 -- ---- of the definitions: each answer's verdict is that of what it is made of
 writing-same : (c : Checked) → ofChecked c ≡ ofWritingEnd (writingEndFrom c)
@@ -127,6 +123,20 @@ madeR s c k = (rw (← reading-same c) (checked-given s c k), holds c k)
     holds c (passes h) e q = let p : e ≡ readingEnd s = cc in ap (λ (x : ReadingEnd). x .scheduler) p
     holds c (fails r p) e q = let z : _≡_ {A = ℕ} 0 1 = cc in never z
 
+builtW : (l : ℕ) (w r : Counter) (c : Checked) → soundOf (schedulerOf l w r) ≡ c → BuiltW l w r (writingEndFrom c)
+builtW l w r c q = (rw (← writing-same c, ← q) (as-checked (soundOf (schedulerOf l w r)) (counters-exactly l w r)), holds c q)
+  where
+    holds : (c : Checked) → soundOf (schedulerOf l w r) ≡ c → (e : WritingEnd) → writingEndFrom c ≡ writing.Of e → Built l w r (e .scheduler)
+    holds (checked.Sound u) q e p = let f : e ≡ writingEnd u = cc in subst (λ (x : WritingEnd). Built l w r (x .scheduler)) (sym f) (built l w r u q)
+    holds (checked.Refused x) q e p = let z : _≡_ {A = ℕ} 0 1 = cc in never z
+
+builtR : (l : ℕ) (w r : Counter) (c : Checked) → soundOf (schedulerOf l w r) ≡ c → BuiltR l w r (readingEndFrom c)
+builtR l w r c q = (rw (← reading-same c, ← q) (as-checked (soundOf (schedulerOf l w r)) (counters-exactly l w r)), holds c q)
+  where
+    holds : (c : Checked) → soundOf (schedulerOf l w r) ≡ c → (e : ReadingEnd) → readingEndFrom c ≡ reading.Of e → Built l w r (e .scheduler)
+    holds (checked.Sound u) q e p = let f : e ≡ readingEnd u = cc in subst (λ (x : ReadingEnd). Built l w r (x .scheduler)) (sym f) (built l w r u q)
+    holds (checked.Refused x) q e p = let z : _≡_ {A = ℕ} 0 1 = cc in never z
+
 sentW : (e : WritingEnd) (c : Checked) → Checks (e .scheduler) c → SentW e (writtenSentFrom (counterBy Write c))
 sentW e c k = (rw (← written-same c) (checked-given (e .scheduler) c k), own-counter c k)
   where
@@ -142,88 +152,124 @@ sentR e c k = (rw (← read-same c) (checked-given (e .scheduler) c k), own-coun
     own-counter c (fails r p) n q = let z : _≡_ {A = ℕ} 0 1 = cc in never z
 
 -- ---- taking
-abbrev ofTaken : Taken → Verdict
-ofTaken taken.Accepted = verdict 0 []
-ofTaken (taken.Refused e) = refusedBy e
+module _ (s : RingBufferScheduler) (t other : OperationType) (c : Counter) where
+  abbrev ofTaking : Checked → Verdict
+  ofTaking (checked.Sound u) = cond (ltb (greatestIn u t) (greatestIn s t)) (verdict 10 []) (verdict 0 [])
+  ofTaking (checked.Refused e) = refusedBy (Copy (Scheduler e))
 
-module _ (s u : RingBufferScheduler) (t : OperationType) where
-  taking : (c d : Checked) → Checks s c → Checks u d → Exactly (GivenTake s u t) (ofTaken (takenFrom (greatestBy t c) (greatestBy t d)))
-  unfolding takenFrom
-  taking c d (passes h) (passes g) = by (ltb (greatestIn u t) (greatestIn s t)) refl
+  with-given : Exactly (GivenWith s other c) (ofChecked (withCounterOf s other c))
+  with-given = as-checked (withCounterOf s other c) (with-exactly s c other)
+
+  number-is : (x : Checked) → withCounterOf s other c ≡ x → (k : ℕ) (vs : List ℕ) → GivenWith s other c k vs → ofChecked x .number ≡ k
+  number-is x p k vs g = ap (λ (y : Checked). ofChecked y .number) (sym p) ∙ ap (λ (v : Verdict). v .number) (with-given .always k vs g)
+
+  taking : (x : Checked) → withCounterOf s other c ≡ x → Exactly (GivenTake s t other c) (ofTaking x)
+  taking (checked.Sound u) p = by (ltb (greatestIn u t) (greatestIn s t)) refl
     where
-      none : {A : Type 0} {k : ℕ} {vs : List ℕ} → (v : RingBufferScheduler) → IsSound v → 0 < k → Given v k vs → A
-      none {k = k} {vs} v i p f = absurd (omega (arith, sound-given v i k vs f))
+      r : IsSound s × Replaced s other c u
+      r = replaced s other c u p
 
-      back : greatestIn u t < greatestIn s t → {k : ℕ} {vs : List ℕ} → GivenTake s u t k vs → verdict 10 [] ≡ verdict k vs
-      back lt (takes i j le) = absurd (omega arith)
-      back lt (own p f) = none s h p f
-      back lt (new i p f) = none u g p f
-      back lt (given-10 i j q) = refl
+      same : (v : RingBufferScheduler) → Replaced s other c v → greatestIn v t ≡ greatestIn u t
+      same v q = ap (λ (x : RingBufferScheduler). greatestIn x t) (built-is _ _ _ v q ∙ sym (built-is _ _ _ u (r .1)))
 
-      on : greatestIn s t ≤ greatestIn u t → {k : ℕ} {vs : List ℕ} → GivenTake s u t k vs → verdict 0 [] ≡ verdict k vs
-      on le (takes i j q) = refl
-      on le (own p f) = none s h p f
-      on le (new i p f) = none u g p f
-      on le (given-10 i j lt) = absurd (omega arith)
+      none : {A : Type 0} {k : ℕ} {vs : List ℕ} → 0 < k → GivenWith s other c k vs → A
+      none {k = k} {vs} l g = absurd (omega (arith, number-is (checked.Sound u) p k vs g))
 
-      by : (b : Bool) → ltb (greatestIn u t) (greatestIn s t) ≡ b → Exactly (GivenTake s u t) (ofTaken (cond (ltb (greatestIn u t) (greatestIn s t)) (taken.Refused RanBack) taken.Accepted))
-      by true q = rw q (record { only = given-10 h g (ltb-true _ _ q); always = λ k vs f. back (ltb-true _ _ q) f })
-      by false q = rw q (record { only = takes h g (ltb-false _ _ q); always = λ k vs f. on (ltb-false _ _ q) f })
-  taking c d (passes h) (fails e q) = record { only = new h (number-some e) (refusal-given u e q); always = λ k vs f. so f }
+      back : greatestIn u t < greatestIn s t → {k : ℕ} {vs : List ℕ} → GivenTake s t other c k vs → verdict 10 [] ≡ verdict k vs
+      back lt (takes i v q le) = absurd (omega (arith, same v q))
+      back lt (by-record l g) = none l g
+      back lt (given-10 i v q l) = refl
+
+      on : greatestIn s t ≤ greatestIn u t → {k : ℕ} {vs : List ℕ} → GivenTake s t other c k vs → verdict 0 [] ≡ verdict k vs
+      on le (takes i v q l) = refl
+      on le (by-record l g) = none l g
+      on le (given-10 i v q lt) = absurd (omega (arith, same v q))
+
+      by : (b : Bool) → ltb (greatestIn u t) (greatestIn s t) ≡ b → Exactly (GivenTake s t other c) (cond (ltb (greatestIn u t) (greatestIn s t)) (verdict 10 []) (verdict 0 []))
+      by true q = rw q (record { only = given-10 (r .0) u (r .1) (ltb-true _ _ q); always = λ k vs f. back (ltb-true _ _ q) f })
+      by false q = rw q (record { only = takes (r .0) u (r .1) (ltb-false _ _ q); always = λ k vs f. on (ltb-false _ _ q) f })
+  taking (checked.Refused e) p = record { only = by-record (number-some e) (rw p at (with-given .only)); always = λ k vs f. so f }
     where
-      so : {k : ℕ} {vs : List ℕ} → GivenTake s u t k vs → refusedBy (Copy (Scheduler e)) ≡ verdict k vs
-      so (takes i j le) = absurd (sound-not-refused u e q j)
-      so {k} {vs} (own p f) = absurd (omega (arith, sound-given s h k vs f))
-      so {k} {vs} (new i p f) = given-refusal u e q k vs f
-      so (given-10 i j lt) = absurd (sound-not-refused u e q j)
-  taking c d (fails e q) x = record { only = own (number-some e) (refusal-given s e q); always = λ k vs f. so f }
-    where
-      so : {k : ℕ} {vs : List ℕ} → GivenTake s u t k vs → refusedBy (Copy (Scheduler e)) ≡ verdict k vs
-      so (takes i j le) = absurd (sound-not-refused s e q i)
-      so {k} {vs} (own p f) = given-refusal s e q k vs f
-      so (new i p f) = absurd (sound-not-refused s e q i)
-      so (given-10 i j lt) = absurd (sound-not-refused s e q i)
+      not : {A : Type 0} → IsSound s → (v : RingBufferScheduler) → Replaced s other c v → A
+      not h v q = absurd (omega (arith, number-some e, number-is (checked.Refused e) p 0 [] (new h (counted (built-counted _ _ _ v q)))))
 
-tookW : (e : WritingEnd) (c : ReadCounter) (x : Taken) → Exactly (GivenTake (e .scheduler) (withRead e c) Write) (ofTaken x) → TookW e c (takeReadFrom (withRead e c) x)
-tookW e c taken.Accepted g = (g, λ f q. let p : f ≡ writingEnd (withRead e c) = cc in ap (λ (y : WritingEnd). y .scheduler) p)
-tookW e c (taken.Refused r) g = (g, λ f q. let z : _≡_ {A = ℕ} 0 1 = cc in never z)
+      so : {k : ℕ} {vs : List ℕ} → GivenTake s t other c k vs → refusedBy (Copy (Scheduler e)) ≡ verdict k vs
+      so (takes i v q le) = not i v q
+      so {k} {vs} (by-record l g) = rw p at (with-given .always k vs g)
+      so (given-10 i v q lt) = not i v q
 
-tookR : (e : ReadingEnd) (c : WrittenCounter) (x : Taken) → Exactly (GivenTake (e .scheduler) (withWritten e c) Read) (ofTaken x) → TookR e c (takeWrittenFrom (withWritten e c) x)
-tookR e c taken.Accepted g = (g, λ f q. let p : f ≡ readingEnd (withWritten e c) = cc in ap (λ (y : ReadingEnd). y .scheduler) p)
-tookR e c (taken.Refused r) g = (g, λ f q. let z : _≡_ {A = ℕ} 0 1 = cc in never z)
+tookW : (e : WritingEnd) (c : ReadCounter) (x : Checked) → withCounterOf (e .scheduler) Read (c .0) ≡ x → TookW e c (takeReadFrom (e .scheduler) x)
+unfolding takeReadFrom
+tookW e c x p = (rw (told x) (taking (e .scheduler) Write Read (c .0) x p), holds x p)
+  where
+    told : (x : Checked) → ofWritingEnd (takeReadFrom (e .scheduler) x) ≡ ofTaking (e .scheduler) Write Read (c .0) x
+    told (checked.Refused r) = refl
+    told (checked.Sound u) = by (ltb (spaceIn u) (spaceIn (e .scheduler)))
+      where
+        by : (b : Bool) → ofWritingEnd (cond b (writing.Refused RanBack) (writing.Of (writingEnd u))) ≡ cond b (verdict 10 []) (verdict 0 [])
+        by true = refl
+        by false = refl
+
+    holds : (x : Checked) → withCounterOf (e .scheduler) Read (c .0) ≡ x → (f : WritingEnd) → takeReadFrom (e .scheduler) x ≡ writing.Of f → Replaced (e .scheduler) Read (c .0) (f .scheduler)
+    holds (checked.Refused r) q f m = let z : _≡_ {A = ℕ} 0 1 = cc in never z
+    holds (checked.Sound u) q f m = by (ltb (spaceIn u) (spaceIn (e .scheduler))) m
+      where
+        by : (b : Bool) → cond b (writing.Refused RanBack) (writing.Of (writingEnd u)) ≡ writing.Of f → Replaced (e .scheduler) Read (c .0) (f .scheduler)
+        by true m = let z : _≡_ {A = ℕ} 0 1 = cc in never z
+        by false m = let g : f ≡ writingEnd u = cc in subst (λ (y : WritingEnd). Replaced (e .scheduler) Read (c .0) (y .scheduler)) (sym g) (replaced (e .scheduler) Read (c .0) u q .1)
+
+tookR : (e : ReadingEnd) (c : WrittenCounter) (x : Checked) → withCounterOf (e .scheduler) Write (c .0) ≡ x → TookR e c (takeWrittenFrom (e .scheduler) x)
+unfolding takeWrittenFrom
+tookR e c x p = (rw (told x) (taking (e .scheduler) Read Write (c .0) x p), holds x p)
+  where
+    told : (x : Checked) → ofReadingEnd (takeWrittenFrom (e .scheduler) x) ≡ ofTaking (e .scheduler) Read Write (c .0) x
+    told (checked.Refused r) = refl
+    told (checked.Sound u) = by (ltb (dataIn u) (dataIn (e .scheduler)))
+      where
+        by : (b : Bool) → ofReadingEnd (cond b (reading.Refused RanBack) (reading.Of (readingEnd u))) ≡ cond b (verdict 10 []) (verdict 0 [])
+        by true = refl
+        by false = refl
+
+    holds : (x : Checked) → withCounterOf (e .scheduler) Write (c .0) ≡ x → (f : ReadingEnd) → takeWrittenFrom (e .scheduler) x ≡ reading.Of f → Replaced (e .scheduler) Write (c .0) (f .scheduler)
+    holds (checked.Refused r) q f m = let z : _≡_ {A = ℕ} 0 1 = cc in never z
+    holds (checked.Sound u) q f m = by (ltb (dataIn u) (dataIn (e .scheduler))) m
+      where
+        by : (b : Bool) → cond b (reading.Refused RanBack) (reading.Of (readingEnd u)) ≡ reading.Of f → Replaced (e .scheduler) Write (c .0) (f .scheduler)
+        by true m = let z : _≡_ {A = ℕ} 0 1 = cc in never z
+        by false m = let g : f ≡ readingEnd u = cc in subst (λ (y : ReadingEnd). Replaced (e .scheduler) Write (c .0) (y .scheduler)) (sym g) (replaced (e .scheduler) Write (c .0) u q .1)
 
 -- the own record passes, so of the new one's numbers only those of the new counter are left
-new-read-only : (e : WritingEnd) (c : ReadCounter) {k : ℕ} {vs : List ℕ} → IsSound (e .scheduler) → 0 < k → Given (withRead e c) k vs → (k ≡ 4) ⊎ (k ≡ 5)
-new-read-only e c h p (given.taken g) = absurd (omega arith)
-new-read-only e c h p (given.given-1 z) = absurd (omega (arith, h .sized))
-new-read-only e c h p (given.given-2 g) = absurd (omega (arith, h .sized))
-new-read-only e c h p (given.given-3 l g) = absurd (omega (arith, h .written))
-new-read-only e c h p (given.given-4 l f g) = inl refl
-new-read-only e c h p (given.given-5 l f g d) = inr refl
+new-read-only : (s : RingBufferScheduler) (c : Counter) {k : ℕ} {vs : List ℕ} → IsSound s → 0 < k → GivenCounters (s .«buf_len») (s .«items_written») c k vs → (k ≡ 4) ⊎ (k ≡ 5)
+new-read-only s c h p (counted g) = absurd (omega arith)
+new-read-only s c h p (given-1 z) = absurd (omega (arith, h .sized))
+new-read-only s c h p (given-2 g) = absurd (omega (arith, h .sized))
+new-read-only s c h p (given-3 l g) = absurd (omega (arith, h .written))
+new-read-only s c h p (given-4 l f g) = inl refl
+new-read-only s c h p (given-5 l f g d) = inr refl
 
-new-written-only : (e : ReadingEnd) (c : WrittenCounter) {k : ℕ} {vs : List ℕ} → IsSound (e .scheduler) → 0 < k → Given (withWritten e c) k vs → (k ≡ 3) ⊎ (k ≡ 5)
-new-written-only e c h p (given.taken g) = absurd (omega arith)
-new-written-only e c h p (given.given-1 z) = absurd (omega (arith, h .sized))
-new-written-only e c h p (given.given-2 g) = absurd (omega (arith, h .sized))
-new-written-only e c h p (given.given-3 l g) = inl refl
-new-written-only e c h p (given.given-4 l f g) = absurd (omega (arith, h .read))
-new-written-only e c h p (given.given-5 l f g d) = inr refl
+new-written-only : (s : RingBufferScheduler) (c : Counter) {k : ℕ} {vs : List ℕ} → IsSound s → 0 < k → GivenCounters (s .«buf_len») c (s .«items_read») k vs → (k ≡ 3) ⊎ (k ≡ 5)
+new-written-only s c h p (counted g) = absurd (omega arith)
+new-written-only s c h p (given-1 z) = absurd (omega (arith, h .sized))
+new-written-only s c h p (given-2 g) = absurd (omega (arith, h .sized))
+new-written-only s c h p (given-3 l g) = inl refl
+new-written-only s c h p (given-4 l f g) = absurd (omega (arith, h .read))
+new-written-only s c h p (given-5 l f g d) = inr refl
 
 -- ---- of the calls
-pub WritingEnd-new-promised : Keeps 0 newW-kinds.ps newW-kinds.r newW.Learnt (λ κs a z. MadeW (schedulerOf (a .0) (record { 0 = 0 }) (record { 0 = 0 })) z)
-WritingEnd-new-promised κs a z (ws, p) = rw (WritingEnd-new-says κs a z ws p) (madeW (schedulerOf (a .0) (record { 0 = 0 }) (record { 0 = 0 })) _ (checks (schedulerOf (a .0) (record { 0 = 0 }) (record { 0 = 0 }))))
+pub WritingEnd-new-promised : Keeps 0 newW-kinds.ps newW-kinds.r newW.Learnt (λ κs a z. BuiltW (a .0) (record { 0 = 0 }) (record { 0 = 0 }) z)
+WritingEnd-new-promised κs a z (ws, p) = rw (WritingEnd-new-says κs a z ws p) (builtW (a .0) (record { 0 = 0 }) (record { 0 = 0 }) _ refl)
 
-pub WritingEnd-from-counters-promised : Keeps 0 countersW-kinds.ps countersW-kinds.r countersW.Learnt (λ κs a z. MadeW (schedulerOf (a .0) (a .1 .0) (a .1 .1 .0)) z)
-WritingEnd-from-counters-promised κs a z (ws, p) = rw (WritingEnd-from-counters-says κs a z ws p) (madeW (schedulerOf (a .0) (a .1 .0) (a .1 .1 .0)) _ (checks (schedulerOf (a .0) (a .1 .0) (a .1 .1 .0))))
+pub WritingEnd-from-counters-promised : Keeps 0 countersW-kinds.ps countersW-kinds.r countersW.Learnt (λ κs a z. BuiltW (a .0) (a .1 .0) (a .1 .1 .0) z)
+WritingEnd-from-counters-promised κs a z (ws, p) = rw (WritingEnd-from-counters-says κs a z ws p) (builtW (a .0) (a .1 .0) (a .1 .1 .0) _ refl)
 
 pub WritingEnd-from-scheduler-promised : Keeps 0 schedulerW-kinds.ps schedulerW-kinds.r schedulerW.Learnt (λ κs a z. MadeW (a .0) z)
 WritingEnd-from-scheduler-promised κs a z (ws, p) = rw (WritingEnd-from-scheduler-says κs a z ws p) (madeW (a .0) _ (checks (a .0)))
 
-pub ReadingEnd-new-promised : Keeps 0 newR-kinds.ps newR-kinds.r newR.Learnt (λ κs a z. MadeR (schedulerOf (a .0) (record { 0 = 0 }) (record { 0 = 0 })) z)
-ReadingEnd-new-promised κs a z (ws, p) = rw (ReadingEnd-new-says κs a z ws p) (madeR (schedulerOf (a .0) (record { 0 = 0 }) (record { 0 = 0 })) _ (checks (schedulerOf (a .0) (record { 0 = 0 }) (record { 0 = 0 }))))
+pub ReadingEnd-new-promised : Keeps 0 newR-kinds.ps newR-kinds.r newR.Learnt (λ κs a z. BuiltR (a .0) (record { 0 = 0 }) (record { 0 = 0 }) z)
+ReadingEnd-new-promised κs a z (ws, p) = rw (ReadingEnd-new-says κs a z ws p) (builtR (a .0) (record { 0 = 0 }) (record { 0 = 0 }) _ refl)
 
-pub ReadingEnd-from-counters-promised : Keeps 0 countersR-kinds.ps countersR-kinds.r countersR.Learnt (λ κs a z. MadeR (schedulerOf (a .0) (a .1 .0) (a .1 .1 .0)) z)
-ReadingEnd-from-counters-promised κs a z (ws, p) = rw (ReadingEnd-from-counters-says κs a z ws p) (madeR (schedulerOf (a .0) (a .1 .0) (a .1 .1 .0)) _ (checks (schedulerOf (a .0) (a .1 .0) (a .1 .1 .0))))
+pub ReadingEnd-from-counters-promised : Keeps 0 countersR-kinds.ps countersR-kinds.r countersR.Learnt (λ κs a z. BuiltR (a .0) (a .1 .0) (a .1 .1 .0) z)
+ReadingEnd-from-counters-promised κs a z (ws, p) = rw (ReadingEnd-from-counters-says κs a z ws p) (builtR (a .0) (a .1 .0) (a .1 .1 .0) _ refl)
 
 pub ReadingEnd-from-scheduler-promised : Keeps 0 schedulerR-kinds.ps schedulerR-kinds.r schedulerR.Learnt (λ κs a z. MadeR (a .0) z)
 ReadingEnd-from-scheduler-promised κs a z (ws, p) = rw (ReadingEnd-from-scheduler-says κs a z ws p) (madeR (a .0) _ (checks (a .0)))
@@ -255,13 +301,7 @@ pub ReadingEnd-send-promised : Keeps 0 sendR-kinds.ps sendR-kinds.r sendR.Learnt
 ReadingEnd-send-promised κs a z (ws, p) = rw (ReadingEnd-send-says κs a z ws p) (sentR (a .0) _ (checks (a .0 .scheduler)))
 
 pub WritingEnd-take-promised : Keeps 0 takeW-kinds.ps takeW-kinds.r takeW.Learnt (λ κs a z. TookW (a .0) (a .1 .0) z)
-WritingEnd-take-promised κs a z (ws, p) =
-    let u : RingBufferScheduler = withRead (a .0) (a .1 .0) in
-    rw (WritingEnd-take-says κs a z ws p)
-    (tookW (a .0) (a .1 .0) (takenFrom (greatestOf (a .0 .scheduler) Write) (greatestOf u Write)) (taking (a .0 .scheduler) u Write _ _ (checks (a .0 .scheduler)) (checks u)))
+WritingEnd-take-promised κs a z (ws, p) = rw (WritingEnd-take-says κs a z ws p) (tookW (a .0) (a .1 .0) _ refl)
 
 pub ReadingEnd-take-promised : Keeps 0 takeR-kinds.ps takeR-kinds.r takeR.Learnt (λ κs a z. TookR (a .0) (a .1 .0) z)
-ReadingEnd-take-promised κs a z (ws, p) =
-    let u : RingBufferScheduler = withWritten (a .0) (a .1 .0) in
-    rw (ReadingEnd-take-says κs a z ws p)
-    (tookR (a .0) (a .1 .0) (takenFrom (greatestOf (a .0 .scheduler) Read) (greatestOf u Read)) (taking (a .0 .scheduler) u Read _ _ (checks (a .0 .scheduler)) (checks u)))
+ReadingEnd-take-promised κs a z (ws, p) = rw (ReadingEnd-take-says κs a z ws p) (tookR (a .0) (a .1 .0) _ refl)

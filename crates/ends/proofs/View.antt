@@ -9,10 +9,9 @@ use borrow.Author.Tests.{eq-eqb, le-ltb}
 use lib.ListN.{length, take, drop}
 use Rattle.modular.proofs.Laws.{sub-unique, add-is}
 use Rattle.operations.specs.Portion.{portionOf}
-use Rattle.operations.specs.declared.counter.AmountAnswer.the-variants as amount
 use Rattle.operations.specs.declared.operation.OperationType.the-variants.{Read, Write}
 use Rattle.sched.specs.declared.scheduler.RingBufferScheduler.{RingBufferScheduler}
-use Rattle.sched.specs.Scheduler.{schedulerOf, IsSound, soundOf, dataIn, spaceIn, offsetIn, advancedIn, greatestOf}
+use Rattle.sched.specs.Scheduler.{schedulerOf, IsSound, soundOf, dataIn, spaceIn, offsetIn, advancedIn}
 use Rattle.sched.proofs.Laws.{sound-is}
 use Rattle.copies.specs.declared.Copied.the-variants as copied
 use Rattle.copies.specs.Ring.{put, get}
@@ -20,7 +19,7 @@ use Rattle.copies.specs.Copies.{readyFrom, left, writeOf, readOf}
 use Rattle.copies.proofs.Ring.{put-place, get-place}
 use Rattle.ends.specs.declared.writing_end.WritingEndAnswer.the-variants as writing
 use Rattle.ends.specs.declared.reading_end.ReadingEndAnswer.the-variants as reading
-use Rattle.ends.specs.Ends.{writingEnd, readingEnd, takenFrom, takeReadOf, takeWrittenOf}
+use Rattle.ends.specs.Ends.{writingEnd, readingEnd, takeReadFrom, takeReadOf, takeWrittenFrom, takeWrittenOf}
 
 -- the counter of a position
 abbrev pub seen : ℕ → ℕ → ℕ → ℕ
@@ -62,7 +61,8 @@ module _ (l c w r : ℕ) (h : Near l w r) where
         sized = record { some = omega arith; fits = h .top };
         written = mod-lt (c + w) (omega arith);
         read = mod-lt (c + r) (omega arith);
-        fill = rw data-view (omega arith);
+        within = rw data-view (omega arith);
+        held = refl;
       }
 
   pub write-view : (ring src : List ℕ) → length ring ≡ l →
@@ -97,22 +97,20 @@ module _ (l c w r : ℕ) (h : Near l w r) where
         get-place l ring (seen l c r % l) (c + r) n (rw (mod-mod, place l c r)),
       )
 
-  data-answer : greatestOf (view l c w r) Read ≡ amount.Of (w - r)
-  data-answer = rw (← sound-is s sound-view, data-view)
-
-  space-answer : greatestOf (view l c w r) Write ≡ amount.Of (l - (w - r))
-  space-answer = rw (← sound-is s sound-view, data-view)
-
 -- a position that is not behind the last one heard is taken
 module _ (l c w r p : ℕ) (h : Near l w r) where
   pub take-read-view : r ≤ p → p ≤ w → takeReadOf (writingEnd (view l c w r)) (record { 0 = record { 0 = seen l c p } }) ≡ writing.Of (writingEnd (view l c w p))
-  unfolding takenFrom
+  unfolding takeReadFrom
   take-read-view lo hi =
       let n : Near l w p = record { pos = h .pos; top = h .top; low = hi; high = omega arith } in
-      rw (space-answer l c w r h, space-answer l c w p n, le-ltb (l - (w - p)) (l - (w - r)) (omega arith))
+      rw (← sound-is (view l c w r) (sound-view l c w r h), ← sound-is (view l c w p) (sound-view l c w p n)) (
+      rw (le-ltb (spaceIn (view l c w p)) (spaceIn (view l c w r)) (omega (arith, space-view l c w r h, space-view l c w p n)))
+      )
 
   pub take-written-view : w ≤ p → p ≤ r + l → takeWrittenOf (readingEnd (view l c w r)) (record { 0 = record { 0 = seen l c p } }) ≡ reading.Of (readingEnd (view l c p r))
-  unfolding takenFrom
+  unfolding takeWrittenFrom
   take-written-view lo hi =
       let n : Near l p r = record { pos = h .pos; top = h .top; low = omega arith; high = hi } in
-      rw (data-answer l c w r h, data-answer l c p r n, le-ltb (p - r) (w - r) (omega arith))
+      rw (← sound-is (view l c w r) (sound-view l c w r h), ← sound-is (view l c p r) (sound-view l c p r n)) (
+      rw (le-ltb (dataIn (view l c p r)) (dataIn (view l c w r)) (omega (arith, data-view l c w r h, data-view l c p r n)))
+      )

@@ -7,9 +7,9 @@ use native.Mathlib.Omega.{arith}
 use Rattle.modular.specs.Modulus.{subMod, addMod}
 use Rattle.sched.specs.declared.scheduler.RingBufferScheduler.{RingBufferScheduler}
 use Rattle.sched.specs.Promise.{Taken}
-use Rattle.sched.specs.Scheduler.{schedulerOf, soundOf}
+use Rattle.sched.specs.Scheduler.{schedulerOf, countedOf, soundOf}
 use Rattle.copies.specs.Copies.{readyFrom}
-use Rattle.ends.specs.Ends.{writingEnd, readingEnd, takenFrom}
+use Rattle.ends.specs.Ends.{writingEnd, readingEnd, takeReadFrom, takeWrittenFrom}
 use Rattle.ends.specs.declared.writing_end.WritingEnd.{WritingEnd}
 use Rattle.ends.specs.declared.writing_end.WrittenCounter.{WrittenCounter}
 use Rattle.ends.specs.declared.reading_end.ReadingEnd.{ReadingEnd}
@@ -48,11 +48,11 @@ e₁ : List (Event plain)
 e₁ = writes (1 ∷ 2 ∷ 3 ∷ 4 ∷ []) ∷ sendsW ∷ takesR (written 2 3) ∷ reads (0 ∷ 0 ∷ []) ∷ sendsR ∷ takesW (wasRead 1 2) ∷ []
 
 goes₁ : run plain s₀ e₁ ≡ s₁
-unfolding s₀ s₁ e₁ soundOf subMod addMod readyFrom takenFrom
+unfolding s₀ s₁ e₁ countedOf soundOf subMod addMod readyFrom takeReadFrom takeWrittenFrom
 goes₁ = refl
 
 can₁ : AllAllowed plain s₀ e₁
-unfolding s₀ e₁ soundOf subMod addMod readyFrom takenFrom
+unfolding s₀ e₁ countedOf soundOf subMod addMod readyFrom takeReadFrom takeWrittenFrom
 can₁ = (tt, (tt, ((here refl, omega arith), (tt, (tt, ((here refl, omega arith), tt))))))
 
 s₂ : Ends plain
@@ -64,11 +64,11 @@ e₂ : List (Event plain)
 e₂ = writes (4 ∷ 5 ∷ 6 ∷ []) ∷ sendsW ∷ takesR (written 4 5) ∷ takesR (written 4 5) ∷ reads (0 ∷ 0 ∷ 0 ∷ 0 ∷ 0 ∷ []) ∷ sendsR ∷ []
 
 goes₂ : run plain s₁ e₂ ≡ s₂
-unfolding s₁ s₂ e₂ soundOf subMod addMod readyFrom takenFrom
+unfolding s₁ s₂ e₂ countedOf soundOf subMod addMod readyFrom takeReadFrom takeWrittenFrom
 goes₂ = refl
 
 can₂ : AllAllowed plain s₁ e₂
-unfolding s₁ e₂ soundOf subMod addMod readyFrom takenFrom
+unfolding s₁ e₂ countedOf soundOf subMod addMod readyFrom takeReadFrom takeWrittenFrom
 can₂ = (tt, (tt, ((next (here refl), omega arith), ((next (here refl), omega arith), (tt, (tt, tt))))))
 
 s₃ : Ends plain
@@ -80,11 +80,11 @@ e₃ : List (Event plain)
 e₃ = sendsR ∷ takesW (wasRead 4 5) ∷ writes (6 ∷ 7 ∷ 8 ∷ 9 ∷ []) ∷ sendsW ∷ takesR (written 1 8) ∷ reads (0 ∷ []) ∷ []
 
 goes₃ : run plain s₂ e₃ ≡ s₃
-unfolding s₂ s₃ e₃ soundOf subMod addMod readyFrom takenFrom
+unfolding s₂ s₃ e₃ countedOf soundOf subMod addMod readyFrom takeReadFrom takeWrittenFrom
 goes₃ = refl
 
 can₃ : AllAllowed plain s₂ e₃
-unfolding s₂ e₃ soundOf subMod addMod readyFrom takenFrom
+unfolding s₂ e₃ countedOf soundOf subMod addMod readyFrom takeReadFrom takeWrittenFrom
 can₃ = (tt, ((next (next (here refl)), omega arith), (tt, (tt, ((next (next (here refl)), omega arith), (tt, tt))))))
 
 s₄ : Ends plain
@@ -96,11 +96,11 @@ e₄ : List (Event plain)
 e₄ = writes (9 ∷ []) ∷ reads (0 ∷ 0 ∷ 0 ∷ 0 ∷ []) ∷ sendsR ∷ takesW (wasRead 1 8) ∷ writes (9 ∷ 10 ∷ []) ∷ sendsW ∷ takesR (written 3 10) ∷ []
 
 goes₄ : run plain s₃ e₄ ≡ s₄
-unfolding s₃ s₄ e₄ soundOf subMod addMod readyFrom takenFrom
+unfolding s₃ s₄ e₄ countedOf soundOf subMod addMod readyFrom takeReadFrom takeWrittenFrom
 goes₄ = refl
 
 can₄ : AllAllowed plain s₃ e₄
-unfolding s₃ e₄ soundOf subMod addMod readyFrom takenFrom
+unfolding s₃ e₄ countedOf soundOf subMod addMod readyFrom takeReadFrom takeWrittenFrom
 can₄ = (tt, (tt, (tt, ((next (next (next (here refl))), omega arith), (tt, (tt, ((next (next (next (here refl))), omega arith), tt)))))))
 
 -- ---- the whole of it
@@ -125,11 +125,12 @@ allowed =
     (rw goes₁ (can-then s₁ e₂ (e₃ ++ e₄) can₂ (rw goes₂ (can-then s₂ e₃ e₄ can₃ (rw goes₃ can₄)))))
 
 taken : Taken (ring 3 5 5)
+unfolding subMod
 taken =
     record {
       sized = record { some = omega arith; fits = omega arith };
       read = omega arith;
-      held = (0, record { at-most = omega arith; ahead = refl });
+      held = record { at-most = omega arith; ahead = refl };
     }
 
 promised : Demand3 plain s₄
@@ -138,7 +139,7 @@ promised = rw computed at (demand3-of-calls definitions some-calls (ring 3 5 5) 
 
 -- a write of three bytes here, where there is space for one, moves one, into the place 0, and touches no other
 moves-one : (writing plain s₄ (7 ∷ 8 ∷ 9 ∷ []) .answer ≡ done 1) × (writing plain s₄ (7 ∷ 8 ∷ 9 ∷ []) .memory ≡ 7 ∷ 9 ∷ 10 ∷ [])
-unfolding s₄ soundOf subMod addMod readyFrom
+unfolding s₄ countedOf soundOf subMod addMod readyFrom
 moves-one = (refl, refl)
 
 -- both have heard all, so they hold the same numbers

@@ -3,22 +3,18 @@ use Prim.Native.Nat.{ℕ}
 use mathlib.Core.Bool.{cond}
 use mathlib.Core.List.{List}
 use lib.Dec.{ltb}
-use Rattle.operations.specs.declared.counter.AmountAnswer.{AmountAnswer}
-use Rattle.operations.specs.declared.counter.AmountAnswer.the-variants as amount
 use Rattle.operations.specs.declared.counter.CounterAnswer.{CounterAnswer}
 use Rattle.operations.specs.declared.counter.CounterAnswer.the-variants as counter
 use Rattle.operations.specs.declared.operation.OperationType.the-variants.{Read, Write}
 use Rattle.sched.specs.declared.scheduler.Checked.{Checked}
 use Rattle.sched.specs.declared.scheduler.Checked.the-variants as checked
 use Rattle.sched.specs.declared.scheduler.RingBufferScheduler.{RingBufferScheduler}
-use Rattle.sched.specs.Scheduler.{schedulerOf, soundOf, counterAnswerOf, greatestOf}
+use Rattle.sched.specs.Scheduler.{soundOf, dataIn, spaceIn, counterAnswerOf, withCounterOf}
 use Rattle.copies.specs.declared.Copied.{Copied}
 use Rattle.copies.specs.declared.Copied.the-variants as copied
 use Rattle.copies.specs.declared.refusal.Refusal.the-variants.{Scheduler}
 use Rattle.copies.specs.Copies.{writeOf, readOf}
 use Rattle.ends.specs.declared.refusal.Refusal.the-variants.{Copy, RanBack}
-use Rattle.ends.specs.declared.refusal.Taken.{Taken}
-use Rattle.ends.specs.declared.refusal.Taken.the-variants as taken
 use Rattle.ends.specs.declared.writing_end.WrittenCounter.{WrittenCounter}
 use Rattle.ends.specs.declared.writing_end.WrittenCounterAnswer.{WrittenCounterAnswer}
 use Rattle.ends.specs.declared.writing_end.WrittenCounterAnswer.the-variants as writtenCounter
@@ -42,7 +38,7 @@ writingEnd s = record { scheduler = s }
 abbrev pub readingEnd : RingBufferScheduler → ReadingEnd
 readingEnd s = record { scheduler = s }
 
--- ---- making one: 1 to 5
+-- ---- making one: 1 to 5, and 20 of a record
 abbrev pub writingEndFrom : Checked → WritingEndAnswer
 writingEndFrom (checked.Sound s) = writing.Of (writingEnd s)
 writingEndFrom (checked.Refused e) = writing.Refused (Copy (Scheduler e))
@@ -101,33 +97,18 @@ readSentFrom (counter.Refused e) = readCounter.Refused (Copy (Scheduler e))
 abbrev pub readSentOf : ReadingEnd → ReadCounterAnswer
 readSentOf e = readSentFrom (counterAnswerOf (e .scheduler) Read)
 
--- ---- taking the other's: the own record's refusal, then that of the record with the new counter, and then 10 where the
--- amount would shrink
-unfoldable pub takenFrom : AmountAnswer → AmountAnswer → Taken
-takenFrom (amount.Of before) (amount.Of after) = cond (ltb after before) (taken.Refused RanBack) taken.Accepted
-takenFrom (amount.Of before) (amount.Refused e) = taken.Refused (Copy (Scheduler e))
-takenFrom (amount.Refused e) after = taken.Refused (Copy (Scheduler e))
-
-abbrev pub withRead : RingBufferScheduler → ReadCounter → RingBufferScheduler
-withRead s c = schedulerOf (s .«buf_len») (s .«items_written») (c .0)
-
-abbrev pub withWritten : RingBufferScheduler → WrittenCounter → RingBufferScheduler
-withWritten s c = schedulerOf (s .«buf_len») (c .0) (s .«items_read»)
-
--- a writing end's space must not shrink
-abbrev pub takeReadFrom : RingBufferScheduler → Taken → WritingEndAnswer
-takeReadFrom s taken.Accepted = writing.Of (writingEnd s)
-takeReadFrom s (taken.Refused e) = writing.Refused e
+-- ---- taking the other's: the refusal of the own record, or of that with the new counter; then 10 where the space of a writing end,
+-- or the data of a reading end, would shrink
+unfoldable pub takeReadFrom : RingBufferScheduler → Checked → WritingEndAnswer
+takeReadFrom s (checked.Sound u) = cond (ltb (spaceIn u) (spaceIn s)) (writing.Refused RanBack) (writing.Of (writingEnd u))
+takeReadFrom s (checked.Refused e) = writing.Refused (Copy (Scheduler e))
 
 abbrev pub takeReadOf : WritingEnd → ReadCounter → WritingEndAnswer
-takeReadOf e c =
-    takeReadFrom (withRead (e .scheduler) c) (takenFrom (greatestOf (e .scheduler) Write) (greatestOf (withRead (e .scheduler) c) Write))
+takeReadOf e c = takeReadFrom (e .scheduler) (withCounterOf (e .scheduler) Read (c .0))
 
--- a reading end's data must not shrink
-abbrev pub takeWrittenFrom : RingBufferScheduler → Taken → ReadingEndAnswer
-takeWrittenFrom s taken.Accepted = reading.Of (readingEnd s)
-takeWrittenFrom s (taken.Refused e) = reading.Refused e
+unfoldable pub takeWrittenFrom : RingBufferScheduler → Checked → ReadingEndAnswer
+takeWrittenFrom s (checked.Sound u) = cond (ltb (dataIn u) (dataIn s)) (reading.Refused RanBack) (reading.Of (readingEnd u))
+takeWrittenFrom s (checked.Refused e) = reading.Refused (Copy (Scheduler e))
 
 abbrev pub takeWrittenOf : ReadingEnd → WrittenCounter → ReadingEndAnswer
-takeWrittenOf e c =
-    takeWrittenFrom (withWritten (e .scheduler) c) (takenFrom (greatestOf (e .scheduler) Read) (greatestOf (withWritten (e .scheduler) c) Read))
+takeWrittenOf e c = takeWrittenFrom (e .scheduler) (withCounterOf (e .scheduler) Write (c .0))

@@ -1,13 +1,15 @@
 -- When each number refuses a call of an end, with which values, and what the call promises beside: in other words than those
--- of the definitions. An end that is made or sends has the scheduler's table for its own, 1 to 5, and a copy that of `copies`.
+-- of the definitions. An end that is made or sends has the scheduler's table for its own, 1 to 5 and 20, and a copy that of `copies`.
 use Prim.Native.Nat.{ℕ, _≤_, _<_}
 use mathlib.Core.Path.{_≡_}
 use mathlib.Core.List.{List, []}
+use Rattle.operations.specs.declared.counter.Counter.{Counter}
 use Rattle.operations.specs.declared.operation.OperationType.{OperationType}
 use Rattle.operations.specs.declared.operation.OperationType.the-variants.{Read, Write}
 use Rattle.sched.specs.declared.scheduler.RingBufferScheduler.{RingBufferScheduler}
-use Rattle.sched.specs.Scheduler.{schedulerOf, IsSound, greatestIn}
-use Rattle.sched.specs.Given.{Given}
+use Rattle.sched.specs.Promise.{Built, Replaced}
+use Rattle.sched.specs.Scheduler.{IsSound, greatestIn}
+use Rattle.sched.specs.Given.{GivenCounters, Given, GivenWith}
 use Rattle.copies.specs.declared.lent.Told.the-variants as told
 use Rattle.copies.specs.Given.{Verdict, verdict, Exactly}
 use Rattle.copies.specs.Promises.{Writes, Reads}
@@ -30,14 +32,13 @@ use Rattle.ends.specs.declared.reading_end.Got.{Got}
 use Rattle.ends.specs.declared.reading_end.Got.the-variants as got
 use Rattle.ends.specs.Refusal.{numberOf, valuesOf}
 
--- ---- taking a counter: s is the end's own record, u the one with the new counter, and the end does t. The own record is tested,
--- then the new one, and then whether the space of a writing end, or the data of a reading end, would shrink
-module _ (s u : RingBufferScheduler) (t : OperationType) where
+-- ---- taking a counter c of the type that the other end does, where the end with the record s does t: the record is tested, then the
+-- one with the new counter, and then whether the space of a writing end, or the data of a reading end, would shrink
+module _ (s : RingBufferScheduler) (t other : OperationType) (c : Counter) where
   pub data GivenTake : ℕ → List ℕ → Type 0 where
-    takes : IsSound s → IsSound u → greatestIn s t ≤ greatestIn u t → GivenTake 0 []
-    own : {k : ℕ} {vs : List ℕ} → 0 < k → Given s k vs → GivenTake k vs
-    new : {k : ℕ} {vs : List ℕ} → IsSound s → 0 < k → Given u k vs → GivenTake k vs
-    given-10 : IsSound s → IsSound u → greatestIn u t < greatestIn s t → GivenTake 10 []
+    takes : IsSound s → (u : RingBufferScheduler) → Replaced s other c u → greatestIn s t ≤ greatestIn u t → GivenTake 0 []
+    by-record : {k : ℕ} {vs : List ℕ} → 0 < k → GivenWith s other c k vs → GivenTake k vs
+    given-10 : IsSound s → (u : RingBufferScheduler) → Replaced s other c u → greatestIn u t < greatestIn s t → GivenTake 10 []
 
 -- ---- the verdict in each kind of answer
 abbrev pub refusedBy : Refusal → Verdict
@@ -76,7 +77,13 @@ abbrev pub EndReads : ReadingEnd → List ℕ → List ℕ → Got → List ℕ 
 EndReads e ring dst (got.Moved f p) memory = Reads (e .scheduler) ring dst (told.Moved p) (f .scheduler) memory
 EndReads e ring dst (got.Refused r) memory = memory ≡ dst
 
--- ---- an end is made of a record that passes, and holds it
+-- ---- an end is made of a length and two counters, or of a record that passes, and holds it
+abbrev pub BuiltW : ℕ → Counter → Counter → WritingEndAnswer → Type 0
+BuiltW l w r z = Exactly (GivenCounters l w r) (ofWritingEnd z) × ((e : WritingEnd) → z ≡ writing.Of e → Built l w r (e .scheduler))
+
+abbrev pub BuiltR : ℕ → Counter → Counter → ReadingEndAnswer → Type 0
+BuiltR l w r z = Exactly (GivenCounters l w r) (ofReadingEnd z) × ((e : ReadingEnd) → z ≡ reading.Of e → Built l w r (e .scheduler))
+
 abbrev pub MadeW : RingBufferScheduler → WritingEndAnswer → Type 0
 MadeW s z = Exactly (Given s) (ofWritingEnd z) × ((e : WritingEnd) → z ≡ writing.Of e → e .scheduler ≡ s)
 
@@ -91,14 +98,8 @@ abbrev pub SentR : ReadingEnd → ReadCounterAnswer → Type 0
 SentR e z = Exactly (Given (e .scheduler)) (ofRead z) × ((c : ReadCounter) → z ≡ readCounter.Of c → c .0 ≡ e .scheduler .«items_read»)
 
 -- ---- and puts the other's in its place
-abbrev pub withRead : WritingEnd → ReadCounter → RingBufferScheduler
-withRead e c = schedulerOf (e .scheduler .«buf_len») (e .scheduler .«items_written») (c .0)
-
 abbrev pub TookW : WritingEnd → ReadCounter → WritingEndAnswer → Type 0
-TookW e c z = Exactly (GivenTake (e .scheduler) (withRead e c) Write) (ofWritingEnd z) × ((f : WritingEnd) → z ≡ writing.Of f → f .scheduler ≡ withRead e c)
-
-abbrev pub withWritten : ReadingEnd → WrittenCounter → RingBufferScheduler
-withWritten e c = schedulerOf (e .scheduler .«buf_len») (c .0) (e .scheduler .«items_read»)
+TookW e c z = Exactly (GivenTake (e .scheduler) Write Read (c .0)) (ofWritingEnd z) × ((f : WritingEnd) → z ≡ writing.Of f → Replaced (e .scheduler) Read (c .0) (f .scheduler))
 
 abbrev pub TookR : ReadingEnd → WrittenCounter → ReadingEndAnswer → Type 0
-TookR e c z = Exactly (GivenTake (e .scheduler) (withWritten e c) Read) (ofReadingEnd z) × ((f : ReadingEnd) → z ≡ reading.Of f → f .scheduler ≡ withWritten e c)
+TookR e c z = Exactly (GivenTake (e .scheduler) Read Write (c .0)) (ofReadingEnd z) × ((f : ReadingEnd) → z ≡ reading.Of f → Replaced (e .scheduler) Write (c .0) (f .scheduler))

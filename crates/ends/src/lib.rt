@@ -11,7 +11,6 @@ pub use reading_end::ReadCounterAnswer;
 pub use reading_end::ReadingEnd;
 pub use reading_end::ReadingEndAnswer;
 pub use refusal::Refusal;
-pub use refusal::Taken;
 pub use writing_end::WritingEnd;
 pub use writing_end::WritingEndAnswer;
 pub use writing_end::WrittenCounter;

@@ -1,15 +1,14 @@
 // The reading end.
 ghost use mathlib.Core.Path.{_≡_};
 ghost use Rattle.sched.specs.Scheduler.{soundOf, schedulerOf};
-ghost use Rattle.ends.specs.Ends.{readingEndOf, gotLeft, gotOf, readSentOf, takeWrittenOf};
+ghost use Rattle.ends.specs.Ends.{readingEndFrom, readingEndOf, gotLeft, gotOf, readSentOf, takeWrittenOf};
 use crate::refusal::Refusal;
-use crate::refusal::Taken;
-use crate::refusal::not_shrunk;
 use crate::writing_end::WrittenCounter;
 use copies::Copied;
 use sched::Checked;
 use sched::Counter;
 use sched::CounterAnswer;
+use sched::OperationType;
 use sched::Portion;
 use sched::RingBufferScheduler;
 
@@ -50,17 +49,23 @@ impl ReadingEnd {
     ) -> ReadingEndAnswer
         ensures { λ r. ⌜ r ≡ readingEndOf (schedulerOf «buf_len» «items_written» «items_read») ⌝ }
     {
-        ReadingEnd::from_scheduler(RingBufferScheduler {
+        ReadingEnd::checked(RingBufferScheduler::try_from_counters(
             buf_len,
-            items_read,
             items_written,
-        })
+            items_read,
+        ))
     }
 
     pub fn from_scheduler(scheduler: RingBufferScheduler) -> ReadingEndAnswer
         ensures { λ r. ⌜ r ≡ readingEndOf scheduler ⌝ }
     {
-        match scheduler.demand_soundness() {
+        ReadingEnd::checked(scheduler.demand_soundness())
+    }
+
+    fn checked(scheduler: Checked) -> ReadingEndAnswer
+        ensures { λ r. ⌜ r ≡ readingEndFrom scheduler ⌝ }
+    {
+        match scheduler {
             Checked::Sound(s) => ReadingEndAnswer::Of(ReadingEnd { scheduler: s }),
             Checked::Refused(e) =>
                 ReadingEndAnswer::Refused(Refusal::Copy(copies::Refusal::Scheduler(e))),
@@ -98,16 +103,15 @@ impl ReadingEnd {
         ensures { λ r. ⌜ r ≡ takeWrittenOf self counter ⌝ }
     {
         let s = self.scheduler;
-        let items_read = s.items_read;
-        let items_written = counter.0;
-        let next = RingBufferScheduler {
-            buf_len: s.buf_len,
-            items_read,
-            items_written,
-        };
-        match not_shrunk(s.data_avail(), next.data_avail()) {
-            Taken::Accepted => ReadingEndAnswer::Of(ReadingEnd { scheduler: next }),
-            Taken::Refused(e) => ReadingEndAnswer::Refused(e),
+        match s.try_with_counter(OperationType::Write, counter.0) {
+            Checked::Sound(next) => {
+                if next.fill < s.fill {
+                    return ReadingEndAnswer::Refused(Refusal::RanBack);
+                }
+                ReadingEndAnswer::Of(ReadingEnd { scheduler: next })
+            }
+            Checked::Refused(e) =>
+                ReadingEndAnswer::Refused(Refusal::Copy(copies::Refusal::Scheduler(e))),
         }
     }
 }

@@ -1,15 +1,14 @@
 // The writing end.
 ghost use mathlib.Core.Path.{_≡_};
 ghost use Rattle.sched.specs.Scheduler.{soundOf, schedulerOf};
-ghost use Rattle.ends.specs.Ends.{writingEndOf, wroteLeft, wroteOf, writtenSentOf, takeReadOf};
+ghost use Rattle.ends.specs.Ends.{writingEndFrom, writingEndOf, wroteLeft, wroteOf, writtenSentOf, takeReadOf};
 use crate::reading_end::ReadCounter;
 use crate::refusal::Refusal;
-use crate::refusal::Taken;
-use crate::refusal::not_shrunk;
 use copies::Copied;
 use sched::Checked;
 use sched::Counter;
 use sched::CounterAnswer;
+use sched::OperationType;
 use sched::Portion;
 use sched::RingBufferScheduler;
 
@@ -50,17 +49,23 @@ impl WritingEnd {
     ) -> WritingEndAnswer
         ensures { λ r. ⌜ r ≡ writingEndOf (schedulerOf «buf_len» «items_written» «items_read») ⌝ }
     {
-        WritingEnd::from_scheduler(RingBufferScheduler {
+        WritingEnd::checked(RingBufferScheduler::try_from_counters(
             buf_len,
-            items_read,
             items_written,
-        })
+            items_read,
+        ))
     }
 
     pub fn from_scheduler(scheduler: RingBufferScheduler) -> WritingEndAnswer
         ensures { λ r. ⌜ r ≡ writingEndOf scheduler ⌝ }
     {
-        match scheduler.demand_soundness() {
+        WritingEnd::checked(scheduler.demand_soundness())
+    }
+
+    fn checked(scheduler: Checked) -> WritingEndAnswer
+        ensures { λ r. ⌜ r ≡ writingEndFrom scheduler ⌝ }
+    {
+        match scheduler {
             Checked::Sound(s) => WritingEndAnswer::Of(WritingEnd { scheduler: s }),
             Checked::Refused(e) =>
                 WritingEndAnswer::Refused(Refusal::Copy(copies::Refusal::Scheduler(e))),
@@ -93,21 +98,20 @@ impl WritingEnd {
     }
 
     // The other end's counter takes the place of the one that this end holds: its own record is tested first, then the
-    // new one, and then whether the space would shrink.
+    // new one, and then whether the space would shrink: more held is less space.
     pub fn take(self, counter: ReadCounter) -> WritingEndAnswer
         ensures { λ r. ⌜ r ≡ takeReadOf self counter ⌝ }
     {
         let s = self.scheduler;
-        let items_read = counter.0;
-        let items_written = s.items_written;
-        let next = RingBufferScheduler {
-            buf_len: s.buf_len,
-            items_read,
-            items_written,
-        };
-        match not_shrunk(s.space_avail(), next.space_avail()) {
-            Taken::Accepted => WritingEndAnswer::Of(WritingEnd { scheduler: next }),
-            Taken::Refused(e) => WritingEndAnswer::Refused(e),
+        match s.try_with_counter(OperationType::Read, counter.0) {
+            Checked::Sound(next) => {
+                if next.fill > s.fill {
+                    return WritingEndAnswer::Refused(Refusal::RanBack);
+                }
+                WritingEndAnswer::Of(WritingEnd { scheduler: next })
+            }
+            Checked::Refused(e) =>
+                WritingEndAnswer::Refused(Refusal::Copy(copies::Refusal::Scheduler(e))),
         }
     }
 }

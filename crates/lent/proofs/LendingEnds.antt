@@ -17,8 +17,8 @@ use Rattle.ends.proofs.reading_end.ReadingEnd as Re
 use Rattle.ends.proofs.reading_end.ReadingEnd.Laws as Re′
 use Rattle.lent.proofs.Told as To
 use Rattle.lent.proofs.Told.Laws as To′
-use Rattle.ends.proofs.refusal.Taken as Ta
-use Rattle.ends.proofs.refusal.Taken.Laws as Ta′
+use Rattle.lent.proofs.Taken as Ta
+use Rattle.lent.proofs.Taken.Laws as Ta′
 use Rattle.lent.proofs.KeptWriter as KW
 use Rattle.lent.proofs.KeptWriter.Laws as KW′
 use Rattle.lent.proofs.KeptReader as KR

@@ -11,7 +11,7 @@ use Rattle.ends.specs.declared.reading_end.Got.the-variants as got
 use Rattle.ends.specs.declared.reading_end.ReadingEnd.{ReadingEnd}
 use Rattle.ends.specs.declared.reading_end.ReadingEndAnswer.{ReadingEndAnswer}
 use Rattle.ends.specs.declared.reading_end.ReadingEndAnswer.the-variants as reading
-use Rattle.ends.specs.declared.refusal.Taken.{Taken}
+use Rattle.lent.specs.declared.Taken.{Taken}
 use Rattle.ends.specs.declared.writing_end.Wrote.{Wrote}
 use Rattle.ends.specs.declared.writing_end.Wrote.the-variants as wrote
 use Rattle.ends.specs.declared.writing_end.WritingEnd.{WritingEnd}

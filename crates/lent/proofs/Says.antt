@@ -5,7 +5,7 @@ use mathlib.Core.List.{List}
 use Rattle.lent.specs.declared.Told.{Told}
 use Rattle.ends.specs.declared.reading_end.ReadCounter.{ReadCounter}
 use Rattle.ends.specs.declared.reading_end.ReadingEnd.{ReadingEnd}
-use Rattle.ends.specs.declared.refusal.Taken.{Taken}
+use Rattle.lent.specs.declared.Taken.{Taken}
 use Rattle.ends.specs.declared.writing_end.WrittenCounter.{WrittenCounter}
 use Rattle.ends.specs.declared.writing_end.WritingEnd.{WritingEnd}
 use Rattle.lent.specs.Lent.{toldWrote, writerAfter, WriteLeaves, toldGot, readerAfter, ReadLeaves, takenOfWriting, writerTook, TakeReadLeaves, takenOfReading, readerTook, TakeWrittenLeaves}

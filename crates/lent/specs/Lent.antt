@@ -10,8 +10,8 @@ use Rattle.ends.specs.declared.reading_end.ReadCounter.{ReadCounter}
 use Rattle.ends.specs.declared.reading_end.ReadingEnd.{ReadingEnd}
 use Rattle.ends.specs.declared.reading_end.ReadingEndAnswer.{ReadingEndAnswer}
 use Rattle.ends.specs.declared.reading_end.ReadingEndAnswer.the-variants as reading
-use Rattle.ends.specs.declared.refusal.Taken.{Taken}
-use Rattle.ends.specs.declared.refusal.Taken.the-variants as taken
+use Rattle.lent.specs.declared.Taken.{Taken}
+use Rattle.lent.specs.declared.Taken.the-variants as taken
 use Rattle.ends.specs.declared.writing_end.Wrote.{Wrote}
 use Rattle.ends.specs.declared.writing_end.Wrote.the-variants as wrote
 use Rattle.ends.specs.declared.writing_end.WrittenCounter.{WrittenCounter}

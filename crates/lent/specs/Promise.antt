@@ -2,8 +2,8 @@
 use mathlib.Core.Path.{_≡_}
 use Rattle.lent.specs.declared.Told.{Told}
 use Rattle.lent.specs.declared.Told.the-variants as lent
-use Rattle.ends.specs.declared.refusal.Taken.{Taken}
-use Rattle.ends.specs.declared.refusal.Taken.the-variants as taken
+use Rattle.lent.specs.declared.Taken.{Taken}
+use Rattle.lent.specs.declared.Taken.the-variants as taken
 use Rattle.ends.specs.declared.writing_end.WritingEnd.{WritingEnd}
 use Rattle.ends.specs.declared.writing_end.WritingEndAnswer.{WritingEndAnswer}
 use Rattle.ends.specs.declared.writing_end.WritingEndAnswer.the-variants as writing

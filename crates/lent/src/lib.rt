@@ -7,7 +7,6 @@ use ends::ReadCounter;
 use ends::ReadingEnd;
 use ends::ReadingEndAnswer;
 use ends::Refusal;
-use ends::Taken;
 use ends::WritingEnd;
 use ends::WritingEndAnswer;
 use ends::WrittenCounter;
@@ -17,6 +16,12 @@ use sched::Portion;
 // How many bytes were moved and how many left over, or why none were.
 pub enum Told {
     Moved(Portion),
+    Refused(Refusal),
+}
+
+// Whether a counter is taken.
+pub enum Taken {
+    Accepted,
     Refused(Refusal),
 }
 

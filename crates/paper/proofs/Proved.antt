@@ -1,12 +1,12 @@
 -- The table: what a contract allows is what it says, and every row computes.
 use mathlib.Core.Path.{refl, ap}
 use Rattle.modular.specs.Modulus.{wholeAt, rawAt, doubleAt, subMod, addMod}
-use Rattle.sched.specs.Scheduler.{soundOf, fillStateIn, layoutIn, someOf, scheduleIn, registerIn}
+use Rattle.sched.specs.Scheduler.{countedOf, soundOf, fillStateIn, layoutIn, someOf, scheduleIn, registerIn}
 use Rattle.states.specs.State.{fitsErrno, normalizeIn, towardsErrorIn}
 use Rattle.paper.specs.Table.{Table, refusedWith}
 
 pub table : Table
-unfolding wholeAt rawAt doubleAt subMod addMod soundOf fillStateIn layoutIn someOf scheduleIn registerIn fitsErrno normalizeIn towardsErrorIn
+unfolding wholeAt rawAt doubleAt subMod addMod countedOf soundOf fillStateIn layoutIn someOf scheduleIn registerIn fitsErrno normalizeIn towardsErrorIn
 table =
     record {
       rolled-over-data = λ z ws says. says;

@@ -4,7 +4,7 @@ use mathlib.Core.Path.{_≡_, refl, ap, _∙_}
 use mathlib.Core.List.{List}
 use Rattle.modular.specs.Modulus.{subMod}
 use Rattle.sched.specs.Chunk.{bodyFits}
-use Rattle.sched.specs.Scheduler.{soundOf}
+use Rattle.sched.specs.Scheduler.{countedOf, soundOf}
 use Rattle.planner.specs.declared.plan.Proposed.{Proposed}
 use Rattle.planner.specs.declared.strips.Outlined.{Outlined}
 use Rattle.planner.specs.declared.verdict.Verdict.{Verdict}
@@ -28,7 +28,7 @@ checks : (rows bytes L : ℕ) (plan : List ℕ) (z : Verdict) → checkOf rows b
 checks rows bytes L plan z e κs a same y (ws, p) = check-says κs a y ws p ∙ rw (same .0, same .1, same .2, same .3) e
 
 pub strips : Strips
-unfolding subMod bodyFits soundOf pastEnd runOf checkFrom runsFrom proposeIn inBounds sizesIn
+unfolding subMod bodyFits countedOf soundOf pastEnd runOf checkFrom runsFrom proposeIn inBounds sizesIn
 strips =
     record {
       four = outlines 10 4 20 _ refl;

@@ -8,7 +8,7 @@ use Rattle.lines.specs.Field.{spaceThen, endThen}
 use Rattle.lines.specs.Lines.{lastLines, linesFrom, linesOf}
 use Rattle.modular.specs.Modulus.{subMod, addMod}
 use Rattle.sched.specs.Chunk.{bodyFits}
-use Rattle.sched.specs.Scheduler.{soundOf, layoutIn, someOf, scheduleIn}
+use Rattle.sched.specs.Scheduler.{countedOf, soundOf, layoutIn, someOf, scheduleIn}
 use Rattle.planner.specs.Sizes.{inBounds, sizesIn}
 use Rattle.planline.specs.declared.plan.Question.the-variants as question
 use Rattle.planline.specs.Cut.{lineText}
@@ -24,7 +24,7 @@ abbrev pub output : List ℕ
 output = 111 ∷ 107 ∷ 32 ∷ 50 ∷ 32 ∷ 55 ∷ 32 ∷ 51 ∷ 32 ∷ 48 ∷ 32 ∷ 51 ∷ 10 ∷ 114 ∷ 101 ∷ 102 ∷ 117 ∷ 115 ∷ 101 ∷ 100 ∷ 32 ∷ 49 ∷ 10 ∷ 98 ∷ 97 ∷ 100 ∷ 10 ∷ []
 
 pub case : textsOf (lineText question.Ring) (linesOf input) ≡ output
-unfolding subMod addMod soundOf layoutIn someOf scheduleIn digitsBy decimal isDigit digitsOn numberFront lastLines linesFrom textsOf spaceThen endThen kindOf kindFront parseOf planOf operationText listText planText
+unfolding subMod addMod countedOf soundOf layoutIn someOf scheduleIn digitsBy decimal isDigit digitsOn numberFront lastLines linesFrom textsOf spaceThen endThen kindOf kindFront parseOf planOf operationText listText planText
 case = refl
 
 -- ---- strips
@@ -35,5 +35,5 @@ abbrev pub strips-output : List ℕ
 strips-output = 111 ∷ 107 ∷ 32 ∷ 52 ∷ 32 ∷ 51 ∷ 32 ∷ 49 ∷ 10 ∷ 114 ∷ 101 ∷ 102 ∷ 117 ∷ 115 ∷ 101 ∷ 100 ∷ 32 ∷ 49 ∷ 53 ∷ 10 ∷ 98 ∷ 97 ∷ 100 ∷ 10 ∷ []
 
 pub strips-case : textsOf (lineText question.Strips) (linesOf strips-input) ≡ strips-output
-unfolding subMod soundOf bodyFits inBounds sizesIn digitsBy decimal isDigit digitsOn numberFront lastLines linesFrom textsOf spaceThen endThen parseStripsOf planOf stripsText planText
+unfolding subMod countedOf soundOf bodyFits inBounds sizesIn digitsBy decimal isDigit digitsOn numberFront lastLines linesFrom textsOf spaceThen endThen parseStripsOf planOf stripsText planText
 strips-case = refl

@@ -10,7 +10,7 @@ use Rattle.operations.proofs.Given as operations
 use Rattle.sched.specs.Given as sched-given
 use Rattle.sched.specs.Scheduler.{Sized, IsSound, soundOf, dataIn}
 use Rattle.sched.specs.declared.scheduler.Checked.the-variants as checked
-use Rattle.sched.proofs.Given.{record-exactly}
+use Rattle.sched.proofs.Given.{counters-exactly}
 use Rattle.sched.proofs.Laws.{sound-is}
 use Rattle.planner.specs.declared.refusal.Refusal.{Refusal}
 use Rattle.planner.specs.declared.sizes.Sizes.{Sizes}
@@ -33,8 +33,8 @@ no-data L s = sub-unique (2 * L) 0 0 0 (omega (arith, s .some)) (omega (arith, s
 
 module _ (rows bytes L : ℕ) where
   -- of a new scheduler only 1 and 2 can be
-  ring-given : {n : ℕ} {vs : List ℕ} → 0 < n → sched-given.Given (new L) n vs → GivenSizes rows bytes L n vs
-  ring-given p (sched-given.taken h) = absurd (omega arith)
+  ring-given : {n : ℕ} {vs : List ℕ} → 0 < n → sched-given.GivenCounters L (record { 0 = 0 }) (record { 0 = 0 }) n vs → GivenSizes rows bytes L n vs
+  ring-given p (sched-given.counted h) = absurd (omega arith)
   ring-given p (sched-given.given-1 e) = given-1 e
   ring-given p (sched-given.given-2 l) = given-2 l
   ring-given p (sched-given.given-3 s l) = absurd (omega (arith, s .some, l))
@@ -43,20 +43,20 @@ module _ (rows bytes L : ℕ) where
 
   pub sizes-only : (z : Sizes) → Tested rows bytes L z → GivenSizes rows bytes L (ofSizes z .number) (ofSizes z .values)
   sizes-only z (size.fit f) = fit f
-  sizes-only z (size.no-ring e q) = ring-given (operations.number-some e) (rw q at (record-exactly (new L) .only))
+  sizes-only z (size.no-ring e q) = ring-given (operations.number-some e) (rw q at (counters-exactly L (record { 0 = 0 }) (record { 0 = 0 }) .only))
   sizes-only z (size.unbounded s k) = given-14 s k
   sizes-only z (size.no-plan s b l) = given-15 s b l
 
   -- a ring that is refused has no length that is one
   sized-not : (e : sched.Refusal) → soundOf (new L) ≡ checked.Refused e → Sized L → ⊥
   sized-not e q s =
-      let sound : IsSound (new L) = record { sized = s; written = omega (arith, s .some); read = omega (arith, s .some); fill = omega (arith, no-data L s) } in
+      let sound : IsSound (new L) = record { sized = s; written = omega (arith, s .some); read = omega (arith, s .some); within = omega (arith, no-data L s); held = refl } in
       let z : _≡_ {A = ℕ} 0 1 = cc (sound-is (new L) sound) in
       omega arith
 
-  ring-always : (e : sched.Refusal) → soundOf (new L) ≡ checked.Refused e → (n : ℕ) (vs : List ℕ) → sched-given.Given (new L) n vs → told (sched-refusal.numberOf e) (sched-refusal.valuesOf e) ≡ told n vs
+  ring-always : (e : sched.Refusal) → soundOf (new L) ≡ checked.Refused e → (n : ℕ) (vs : List ℕ) → sched-given.GivenCounters L (record { 0 = 0 }) (record { 0 = 0 }) n vs → told (sched-refusal.numberOf e) (sched-refusal.valuesOf e) ≡ told n vs
   ring-always e q n vs g =
-      let t = rw q at (record-exactly (new L) .always n vs g) in
+      let t = rw q at (counters-exactly L (record { 0 = 0 }) (record { 0 = 0 }) .always n vs g) in
       rw (t .0, t .1)
 
   pub sizes-always : (z : Sizes) → Tested rows bytes L z → {n : ℕ} {vs : List ℕ} → GivenSizes rows bytes L n vs → ofSizes z ≡ told n vs

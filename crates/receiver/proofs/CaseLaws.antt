@@ -141,10 +141,10 @@ module _ (q : ReceiverState) (sound : IsSound (q .scheduler)) (asked : ℕ) (bes
     reads = moved (q .scheduler) sound n Read l
 
     handed-all : n ≡ d → handedIn q u ≡ withPending (withScheduler q u) (q .«pending_ack_count» + 1)
-    handed-all e = ap (λ (b : Bool). cond b (withPending (withScheduler q u) (q .«pending_ack_count» + 1)) (withScheduler q u)) (eq-eqb (dataIn u) 0 (omega (arith, reads .fill, e)))
+    handed-all e = ap (λ (b : Bool). cond b (withPending (withScheduler q u) (q .«pending_ack_count» + 1)) (withScheduler q u)) (eq-eqb (dataIn u) 0 (omega (arith, reads .less, e)))
 
     handed-part : n < d → handedIn q u ≡ withScheduler q u
-    handed-part e = ap (λ (b : Bool). cond b (withPending (withScheduler q u) (q .«pending_ack_count» + 1)) (withScheduler q u)) (ne-eqb (dataIn u) 0 (λ z. omega (arith, reads .fill, e, z)))
+    handed-part e = ap (λ (b : Bool). cond b (withPending (withScheduler q u) (q .«pending_ack_count» + 1)) (withScheduler q u)) (ne-eqb (dataIn u) 0 (λ z. omega (arith, reads .less, e, z)))
 
   -- the call after a move of n bytes
   abbrev handsOut : ℕ → Call
@@ -196,7 +196,7 @@ module _ (s : RingBufferScheduler) (sound : IsSound s) (b : Beside) where
     a-chunk : (n : ℕ) → 8 ≤ spaceIn s → n + 8 ≤ spaceIn s → Tells (announced.Chunk (advancedIn (advancedIn (advancedIn s Write 8) Read 8) Write n) b)
     a-chunk n g l =
         let e : dataIn (advancedIn (advancedIn (advancedIn s Write 8) Read 8) Write n) ≡ n = omega (arith, chunk.holds s sound g n l, empty) in (
-          rw e (record {
+          subst (λ (k : ℕ). Chunk s k (advancedIn (advancedIn (advancedIn s Write 8) Read 8) Write n)) (sym e) (record {
             headed = advancedIn s Write 8;
             heading = moved s sound 8 Write g;
             begun = advancedIn (advancedIn s Write 8) Read 8;

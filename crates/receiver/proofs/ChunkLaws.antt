@@ -24,7 +24,7 @@ module _ (s : RingBufferScheduler) (h : IsSound s) (g : 8 ≤ spaceIn s) where
   written = advanced-sound s h 8 Write g
 
   more : dataIn (advancedIn s Write 8) ≡ dataIn s + 8
-  more = omega (arith, advanced-greatest s h 8 Write g, h .fill, written .fill)
+  more = omega (arith, advanced-greatest s h 8 Write g, h .within, written .within)
 
   pub readable : 8 ≤ dataIn (advancedIn s Write 8)
   readable = omega (arith, more)
@@ -45,7 +45,7 @@ module _ (s : RingBufferScheduler) (h : IsSound s) (g : 8 ≤ spaceIn s) where
   pub holds : (n : ℕ) → n + 8 ≤ spaceIn s → dataIn (advancedIn (advancedIn (advancedIn s Write 8) Read 8) Write n) ≡ dataIn s + n
   holds n l =
       let k : dataIn (advancedIn (advancedIn (advancedIn s Write 8) Read 8) Write n) ≡ dataIn (advancedIn (advancedIn s Write 8) Read 8) + n =
-      omega (arith, advanced-greatest (advancedIn (advancedIn s Write 8) Read 8) read n Write (room n l), room n l, read .fill, announced n l .fill) in
+      omega (arith, advanced-greatest (advancedIn (advancedIn s Write 8) Read 8) read n Write (room n l), room n l, read .within, announced n l .within) in
       k ∙ ap (λ (d : ℕ). d + n) same
 
   pub held : (n : ℕ) → n + 8 ≤ spaceIn s → n ≤ dataIn (advancedIn (advancedIn (advancedIn s Write 8) Read 8) Write n)

@@ -9,7 +9,7 @@ use lib.ListN.{replicate}
 use Rattle.modular.specs.Modulus.{subMod, addMod}
 use Rattle.operations.specs.declared.refusal.Refusal.the-variants.{DataAvailOutOfBounds}
 use Rattle.sched.specs.declared.scheduler.RingBufferScheduler.{RingBufferScheduler}
-use Rattle.sched.specs.Scheduler.{schedulerOf, soundOf}
+use Rattle.sched.specs.Scheduler.{schedulerOf, countedOf, soundOf}
 use Rattle.copies.specs.declared.refusal.Refusal.the-variants.{Scheduler, RingMemory}
 use Rattle.copies.specs.Copies.{readyFrom}
 use Rattle.states.specs.declared.answer.Answer.{Answer}
@@ -60,7 +60,7 @@ a-refused-answer-leaves-the-call :
     (answeredOf (reading 173) [] done 2 ≡ Refused (Misfit 2)) ×
     (answeredOf (reading 173) [] (sends 129) 2 ≡ Refused (Misfit 2)) ×
     (answeredOf (reading 173) [] (sends 100) 3 ≡ Of (call (receiver (ring 10 3 3) Normal 73 false) (ring 10 3 0) (Send 73 (dropping (readOutcome 3 noneBeside)))))
-unfolding flushCall readyFrom soundOf subMod addMod fitsErrno interruptedOf sentOf
+unfolding flushCall readyFrom countedOf soundOf subMod addMod fitsErrno interruptedOf sentOf
 a-refused-answer-leaves-the-call = (refl, refl, refl, refl, refl)
 
 -- 1 to 5, then 12 with place 0, in every phase
@@ -71,7 +71,7 @@ an-answer-tests-the-record-anew :
     (answeredOf (waits (ring 10 3 0) (Draining (Io 5000)) 3 (Shutdown (telling doneOutcome))) [] done 1 ≡ Refused (Misfit 0)) ×
     (answeredOf (waits (ring 10 11 0) (Draining (Io 5)) 3 (Shutdown (telling doneOutcome))) [] done 1 ≡
     Refused (Copy (Scheduler (DataAvailOutOfBounds 10 (record { 0 = 11 }) (record { 0 = 0 })))))
-unfolding soundOf subMod fitsErrno
+unfolding countedOf soundOf subMod fitsErrno
 an-answer-tests-the-record-anew = (refl, refl, refl, refl)
 
 -- 9 where a byte was received and the ring is another, and only there; before 12 with place 0
@@ -80,7 +80,7 @@ the-ring-is-looked-at-where-a-byte-was-received :
     (answeredOf (waits (ring 10 0 0) Normal 0 (Receive (wanted 0 9))) [] byte 1 ≡ Refused (Copy RingMemory)) ×
     (answeredOf (waits (ring 10 0 0) (Draining (Io 5000)) 0 (Receive (wanted 0 9))) [] byte 1 ≡ Refused (Copy RingMemory)) ×
     (answeredOf (waits (ring 10 0 0) (Draining (Io 5000)) 0 (Receive (wanted 0 9))) [] (fails 11) 1 ≡ Refused (Misfit 0))
-unfolding readyFrom soundOf subMod fitsErrno interruptedOf receivedOf
+unfolding readyFrom countedOf soundOf subMod fitsErrno interruptedOf receivedOf
 the-ring-is-looked-at-where-a-byte-was-received = (refl, refl, refl, refl)
 
 -- a phase that the record cannot be in is answered by the rules of the record
@@ -91,7 +91,7 @@ a-made-up-phase :
     Of (finishedCall (receiver (ring 10 0 0) (Draining (Io 5)) 3 false) (ring 10 0 0) (failedOutcome (Io 5)))) ×
     (answeredOf (waits (ring 10 0 0) Normal 3 (Shutdown (telling doneOutcome))) [] done 1 ≡
     Of (finishedCall (receiver (ring 10 0 0) Normal 3 false) (ring 10 0 0) doneOutcome))
-unfolding readyFrom soundOf subMod fitsErrno interruptedOf receivedOf sentOf shutOf
+unfolding readyFrom countedOf soundOf subMod fitsErrno interruptedOf receivedOf sentOf shutOf
 a-made-up-phase = (refl, refl, refl)
 
 -- a new receiver's read is one of which specs/Overflow.antt speaks

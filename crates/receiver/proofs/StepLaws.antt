@@ -181,14 +181,14 @@ module _ (q : ReceiverState) (asked : ℕ) (b : Beside) where
   hands some holds c (a-part {u} l r h) =
       let k = serves-spends _ (q .scheduler) (dropping (readOutcome asked b)) c h in
       let e = dropped-end (readOutcome asked b) (comingTo (c .phase)) (k .ends) in
-      let left : dataIn (c .receiver .scheduler) ≢ 0 = λ z. omega (arith, ap dataIn (k .scheduler), r .fill, l, z) in
+      let left : dataIn (c .receiver .scheduler) ≢ 0 = λ z. omega (arith, ap dataIn (k .scheduler), r .less, l, z) in
       let w : whole c ≡ 0 = ap (wholeIn (c .receiver)) e ∙ read-part (c .receiver) asked b some left in
       record { bytes = asked; amount = omega (arith, l); comes = e; source = k .source; counts = omega (arith, k .counts, w); quiet = k .quiet tt; settled = k .settled }
   hands some holds c (all-of-it {u} l r h) =
       let d = dataIn (q .scheduler) in
       let k = serves-spends _ (q .scheduler) (dropping (readOutcome d b)) c h in
       let e = dropped-end (readOutcome d b) (comingTo (c .phase)) (k .ends) in
-      let none : dataIn (c .receiver .scheduler) ≡ 0 = omega (arith, ap dataIn (k .scheduler), r .fill) in
+      let none : dataIn (c .receiver .scheduler) ≡ 0 = omega (arith, ap dataIn (k .scheduler), r .less) in
       let w : whole c ≡ 1 = ap (wholeIn (c .receiver)) e ∙ read-whole (c .receiver) d b (λ z. omega (arith, holds, z)) none in
       record { bytes = d; amount = omega (arith, l); comes = e; source = k .source; counts = omega (arith, k .counts, w); quiet = k .quiet tt; settled = k .settled }
 
@@ -203,7 +203,7 @@ some-body L h _ b _ (accepted k m l) = m
 module _ (q : ReceiverState) (s : RingBufferScheduler) (ring : List ℕ) (w : Wanted) (some : w .«dst_len» ≢ 0) where
   pub took : (x : Received) (c : Call) → TakesReceived q s ring w x c → (x ≢ received.Misfit) × Took q s (w .«dst_len») c
   took _ c (announces {n = n} {b} {u} h k o) =
-      let holds : 1 ≤ dataIn u = omega (arith, k .filling .fill, some-body _ _ n _ b h) in (
+      let holds : 1 ≤ dataIn u = omega (arith, k .filling .more, some-body _ _ n _ b h) in (
         (λ z. let y : _≡_ {A = ℕ} 0 1 = cc in omega arith),
         handed _ n b k refl (hands _ (w .«dst_len») b some holds c o),
       )

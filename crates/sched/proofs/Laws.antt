@@ -17,7 +17,7 @@ use Rattle.operations.specs.declared.refusal.Refusal.the-variants.{ZeroBufferLe
 use Rattle.sched.specs.declared.scheduler.Checked.the-variants as checked
 use Rattle.sched.specs.declared.scheduler.RingBufferScheduler.{RingBufferScheduler}
 use Rattle.sched.specs.Counter.{dataOf}
-use Rattle.sched.specs.Scheduler.{recordOf, schedulerOf, counterIn, Counted, IsSound, countedOf, heldOf, soundOf, dataIn, offsetIn, greatestIn}
+use Rattle.sched.specs.Scheduler.{recordOf, schedulerOf, counterIn, Counted, IsSound, countedOf, soundOf, dataIn, offsetIn, greatestIn}
 
 -- ---- a counter beside the last one, 2L - 1
 module _ (l last v : ℕ) (e : last + 1 ≡ 2 * l) where
@@ -92,15 +92,15 @@ module _ (s : RingBufferScheduler) where
 
   -- the tests of the counters decide, and then the fill
   pub sound-refused : (e : Refusal) → answer ≡ amount.Refused e → soundOf s ≡ checked.Refused e
-  unfolding soundOf heldOf
+  unfolding soundOf
   sound-refused e p = rw p
 
   pub sound-held : (d : ℕ) → amount.Of d ≡ answer → s .fill ≡ d → checked.Sound s ≡ soundOf s
-  unfolding soundOf heldOf
+  unfolding soundOf
   sound-held d p e = rw (← p, eq-eqb _ _ e)
 
   pub sound-unheld : (d : ℕ) → amount.Of d ≡ answer → (s .fill ≡ d → ⊥) → checked.Refused HeldFillWrong ≡ soundOf s
-  unfolding soundOf heldOf
+  unfolding soundOf
   sound-unheld d p e = rw (← p, ne-eqb _ _ e)
 
   pub sound-is : IsSound s → checked.Sound s ≡ soundOf s
@@ -125,6 +125,10 @@ pub built-sound : (l : ℕ) (w r : Counter) (d : ℕ) → amount.Of d ≡ counte
 built-sound l w r d p =
     let c : Counted l w r × (d ≡ dataOf l w r) = counted-both l w r d p in
     ap (λ (n : ℕ). checked.Sound (recordOf l w r n)) (c .1) ∙ sound-is (schedulerOf l w r) (counted-sound (schedulerOf l w r) (c .0) refl)
+
+-- a sound record is what is built of its own counters
+pub held-is : (s : RingBufferScheduler) → IsSound s → schedulerOf (s .«buf_len») (s .«items_written») (s .«items_read») ≡ s
+held-is s h = ap (recordOf (s .«buf_len») (s .«items_written») (s .«items_read»)) (sym (h .held))
 
 pub sound : (s t : RingBufferScheduler) → checked.Sound s ≡ soundOf t → IsSound s
 sound s t p = rw (sound-both s t p .1) (sound-both s t p .0)

@@ -1,7 +1,7 @@
 -- The held fill, of the calls: every record that an accepted call answers holds the data between its counters, and no test
 -- refuses it, 20 among them. One that is built of counters holds these, and is refused as they are.
 use Prim.Native.Nat.{ℕ}
-use mathlib.Core.Path.{_≡_, refl, sym, ap, _∙_}
+use mathlib.Core.Path.{_≡_, refl, sym, ap, subst, _∙_}
 use mathlib.Core.List.{List}
 use native.Mathlib.Omega.{arith}
 use Rattle.modular.proofs.Saying.{Keeps}
@@ -17,12 +17,13 @@ use Rattle.sched.specs.declared.register.Registered.the-variants as regi
 use Rattle.sched.specs.declared.scheduler.Checked.{Checked}
 use Rattle.sched.specs.declared.scheduler.Checked.the-variants as checked
 use Rattle.sched.specs.declared.scheduler.RingBufferScheduler.{RingBufferScheduler}
+use Rattle.sched.specs.Counter.{dataOf}
 use Rattle.sched.specs.Given.{Given, Passes, ofChecked}
 use Rattle.sched.specs.Promise.{Taken, Built, Replaced, MovedBy, MovedByList, by-none, by-one, by-two}
-use Rattle.sched.specs.Scheduler.{schedulerOf, IsSound, soundOf, withCounterOf, registerOf, moveIn, moveOf}
+use Rattle.sched.specs.Scheduler.{recordOf, schedulerOf, Counted, IsSound, soundOf, dataIn, withCounterOf, registerOf, moveIn, moveOf}
 use Rattle.sched.proofs.Counting.{taken-sound, sound-taken, registered-moved, list-moved}
 use Rattle.sched.proofs.Given.{record-exactly}
-use Rattle.sched.proofs.Laws.{sound-both, sound-is}
+use Rattle.sched.proofs.Laws.{sound-counted, sound-both, sound-is}
 use Rattle.sched.proofs.RegisterLaws.{move-of}
 use Rattle.sched.proofs.PromisedMoves.{move-keeps}
 use Rattle.sched.proofs.Says.{try-new-says, try-from-counters-says, from-numbers-says, try-with-counter-says, demand-soundness-says, try-register-read-says, try-register-write-says, try-register-operation-manually-says, try-register-operation-says, try-register-operations-says, schedule-and-register-says}
@@ -80,6 +81,16 @@ pub built : (l : ℕ) (w r : Counter) (u : RingBufferScheduler) → soundOf (sch
 built l w r u p =
     let b : IsSound (schedulerOf l w r) × (u ≡ schedulerOf l w r) = sound-both u (schedulerOf l w r) (sym p) in
     rw (b .1) (record { length = refl; written = refl; read = refl; taken = sound-taken (schedulerOf l w r) (b .0) })
+
+-- and is determined by these
+pub built-is : (l : ℕ) (w r : Counter) (u : RingBufferScheduler) → Built l w r u → u ≡ schedulerOf l w r
+built-is l w r u b =
+    let d : dataIn u ≡ dataOf l w r = λ i. dataOf (b .length i) (b .written i) (b .read i) in
+    let f : u .fill ≡ dataOf l w r = taken-sound u (b .taken) .held ∙ d in
+    λ i. recordOf (b .length i) (b .written i) (b .read i) (f i)
+
+pub built-counted : (l : ℕ) (w r : Counter) (u : RingBufferScheduler) → Built l w r u → Counted l w r
+built-counted l w r u b = sound-counted (schedulerOf l w r) (subst IsSound (built-is l w r u b) (taken-sound u (b .taken)))
 
 pub replaced : (s : RingBufferScheduler) (t : OperationType) (c : Counter) (u : RingBufferScheduler) → withCounterOf s t c ≡ checked.Sound u → IsSound s × Replaced s t c u
 replaced s t c u p = go (soundOf s) refl t p

@@ -20,8 +20,8 @@ use Rattle.sched.specs.declared.register.MoveAnswer.the-variants as move
 use Rattle.sched.specs.declared.register.Registered.the-variants as registered
 use Rattle.sched.specs.Promise.{MovedBy}
 use Rattle.sched.specs.Counter.{dataOf}
-use Rattle.sched.specs.Scheduler.{recordOf, schedulerOf, IsSound, soundOf, dataIn, offsetIn, greatestIn, advancedIn, registerIn, moveIn, moveOf}
-use Rattle.sched.proofs.Laws.{greatest-most, sound-both, sound-is}
+use Rattle.sched.specs.Scheduler.{recordOf, IsSound, soundOf, dataIn, offsetIn, greatestIn, advancedIn, registerIn, moveIn, moveOf}
+use Rattle.sched.proofs.Laws.{held-is, greatest-most, sound-both, sound-is}
 
 -- ---- what registering does
 module _ (s : RingBufferScheduler) (h : IsSound s) (n : ℕ) where
@@ -74,9 +74,6 @@ module _ (s : RingBufferScheduler) (h : IsSound s) (n : ℕ) (t : OperationType)
 pub advanced-twice : (s : RingBufferScheduler) (n k : ℕ) (t : OperationType) → advancedIn (advancedIn s t n) t k ≡ advancedIn s t (n + k)
 advanced-twice s n k Read = rw (add-add (2 * s .«buf_len») (s .«items_read» .0) n k)
 advanced-twice s n k Write = rw (add-add (2 * s .«buf_len») (s .«items_written» .0) n k)
-
-held-is : (s : RingBufferScheduler) → IsSound s → schedulerOf (s .«buf_len») (s .«items_written») (s .«items_read») ≡ s
-held-is s h = ap (recordOf (s .«buf_len») (s .«items_written») (s .«items_read»)) (sym (h .held))
 
 pub advanced-nothing : (s : RingBufferScheduler) → IsSound s → (t : OperationType) → advancedIn s t 0 ≡ s
 advanced-nothing s h Read = rw (add-nothing (2 * s .«buf_len») (s .«items_read» .0) (h .read)) (held-is s h)

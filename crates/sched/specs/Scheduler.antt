@@ -100,7 +100,7 @@ countedOf l w r =
     (amount.Of (dataOf l w r))))))
 
 -- then 20, where another fill is held, or the scheduler
-unfoldable pub heldOf : RingBufferScheduler → AmountAnswer → Checked
+abbrev pub heldOf : RingBufferScheduler → AmountAnswer → Checked
 heldOf s (amount.Of d) = cond (eqb (s .fill) d) (checked.Sound s) (checked.Refused HeldFillWrong)
 heldOf s (amount.Refused e) = checked.Refused e
 

@@ -9,7 +9,7 @@ use contract.Lifetimes.{Lfts}
 use borrow.Fn.Kinds.{PK, RK, Out, Dens, resT}
 use Rattle.modular.specs.Modulus.{subMod}
 use Rattle.modular.proofs.Saying.{Allows, Keeps}
-use Rattle.sched.specs.Scheduler.{schedulerOf, soundOf}
+use Rattle.sched.specs.Scheduler.{schedulerOf, countedOf, soundOf}
 use Rattle.operations.specs.declared.refusal.Refusal.the-variants.{BufferTooLarge}
 use Rattle.sched.specs.declared.scheduler.Checked.the-variants.{Sound, Refused}
 use Rattle.sched.specs.declared.scheduler.RingBufferScheduler.{RingBufferScheduler}
@@ -76,5 +76,5 @@ empty n = schedulerOf n (record { 0 = 0 }) (record { 0 = 0 })
 -- ---- the one export without a call of its own: the greatest length that is taken
 pub max-buf-len-greatest : Keeps 0 max-buf-len-kinds.ps max-buf-len-kinds.r max-buf-len.Learnt
     (λ κs a z. (soundOf (empty z) ≡ Sound (empty z)) × (soundOf (empty (suc z)) ≡ Refused (BufferTooLarge (suc z))))
-unfolding soundOf subMod
+unfolding countedOf soundOf subMod
 max-buf-len-greatest κs a z (ws, p) = rw p (refl, refl)

@@ -1,14 +1,10 @@
 -- The scheduler's tests.
-use mathlib.Core.Path.{sym, _∙_}
 use borrow.Author.Needs.{needs}
 use Rattle.ends.proofs.reading_end.ReadingEnd.from_scheduler.Statement.{statement}
 use Rattle.ends.proofs.reading_end.ReadingEnd.from_scheduler.Tie as tie
 
 returns : tie.Need-returns
-returns c = rw (← (sym (c .before .s .given .1) ∙ c .before .before .before .demand-soundness .ensures))
-
-returns-2 : tie.Need-returns-2
-returns-2 c = rw (← (sym (c .before .e .given .1) ∙ c .before .before .before .demand-soundness .ensures))
+returns c = rw (c .checked .ensures, c .before .demand-soundness .ensures)
 
 pub from-scheduler-spec : {M : Type 1} → statement M
-from-scheduler-spec = tie.close (tie.spec (search needs) (search needs) (search needs) returns returns-2)
+from-scheduler-spec = tie.close (tie.spec (search needs) (search needs) returns)

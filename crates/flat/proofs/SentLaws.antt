@@ -136,11 +136,11 @@ no-starts = (refl, (refl, (refl, refl, refl)), (refl, (refl, refl, refl)))
 -- ---- of the scheduler
 pub checked-sent : (x : Checked) → SchedulerSent (flatChecked x) (checkedResult x)
 checked-sent (checked.Sound s) = (accepted, scheduler-stands s, scheduler-back s)
-checked-sent (checked.Refused e) = (scheduler-refusal-some e, scheduler-refusal e, (refl, refl, refl))
+checked-sent (checked.Refused e) = (scheduler-refusal-some e, scheduler-refusal e, (refl, refl, refl, refl))
 
 pub registered-sent : (x : Registered) → SchedulerSent (flatRegistered x) (registeredResult x)
 registered-sent (registered.Advanced s) = (accepted, scheduler-stands s, scheduler-back s)
-registered-sent (registered.Refused e) = (scheduler-refusal-some e, scheduler-refusal e, (refl, refl, refl))
+registered-sent (registered.Refused e) = (scheduler-refusal-some e, scheduler-refusal e, (refl, refl, refl, refl))
 
 pub counter-sent : (x : CounterAnswer) → NumberSent (flatCounter x) (counterResult x)
 counter-sent (counter.Of c) = (accepted, refl, refl)
@@ -204,15 +204,15 @@ ranges-sent (ranges.Refused e) = (scheduler-refusal-some e, scheduler-refusal e,
 -- ---- of the copies and the ends; with a record, how many bytes were moved and how many left over
 pub copied-sent : (x : Copied) → CopySent (flatCopied x) (copiedResult x)
 copied-sent (copied.Moved s p) = (accepted, (scheduler-stands s, (refl, refl)), refl)
-copied-sent (copied.Refused e) = (copy-refusal-some e, copy-refusal e, ((refl, refl, refl), (refl, refl)))
+copied-sent (copied.Refused e) = (copy-refusal-some e, copy-refusal e, ((refl, refl, refl, refl), (refl, refl)))
 
 pub writing-sent : (x : WritingEndAnswer) → WritingEndSent (flatWritingEndAnswer x) (writingResult x)
 writing-sent (writing.Of e) = (accepted, scheduler-stands (e .scheduler), writing-end-back e)
-writing-sent (writing.Refused e) = (end-refusal-some e, end-refusal e, (refl, refl, refl))
+writing-sent (writing.Refused e) = (end-refusal-some e, end-refusal e, (refl, refl, refl, refl))
 
 pub wrote-sent : (x : Wrote) → WroteSent (flatWrote x) (wroteResult x)
 wrote-sent (wrote.Moved e p) = (accepted, (scheduler-stands (e .scheduler), (refl, refl)), refl)
-wrote-sent (wrote.Refused e) = (end-refusal-some e, end-refusal e, ((refl, refl, refl), (refl, refl)))
+wrote-sent (wrote.Refused e) = (end-refusal-some e, end-refusal e, ((refl, refl, refl, refl), (refl, refl)))
 
 pub written-sent : (x : WrittenCounterAnswer) → WrittenSent (flatWrittenCounter x) (writtenResult x)
 written-sent (written.Of c) = (accepted, refl, refl)
@@ -220,11 +220,11 @@ written-sent (written.Refused e) = (end-refusal-some e, end-refusal e, refl)
 
 pub reading-sent : (x : ReadingEndAnswer) → ReadingEndSent (flatReadingEndAnswer x) (readingResult x)
 reading-sent (reading.Of e) = (accepted, scheduler-stands (e .scheduler), reading-end-back e)
-reading-sent (reading.Refused e) = (end-refusal-some e, end-refusal e, (refl, refl, refl))
+reading-sent (reading.Refused e) = (end-refusal-some e, end-refusal e, (refl, refl, refl, refl))
 
 pub got-sent : (x : Got) → GotSent (flatGot x) (gotResult x)
 got-sent (got.Moved e p) = (accepted, (scheduler-stands (e .scheduler), (refl, refl)), refl)
-got-sent (got.Refused e) = (end-refusal-some e, end-refusal e, ((refl, refl, refl), (refl, refl)))
+got-sent (got.Refused e) = (end-refusal-some e, end-refusal e, ((refl, refl, refl, refl), (refl, refl)))
 
 pub read-sent : (x : ReadCounterAnswer) → ReadSent (flatReadCounter x) (readResult x)
 read-sent (read.Of c) = (accepted, refl, refl)

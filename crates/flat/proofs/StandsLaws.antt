@@ -94,7 +94,7 @@ diff-stands (Different x y) = (refl, refl, refl)
 
 -- ---- the scheduler, operations and blocks
 pub scheduler-stands : (s : RingBufferScheduler) → SchedulerStands (flatScheduler s) s
-scheduler-stands s = (refl, refl, refl)
+scheduler-stands s = (refl, refl, refl, refl)
 
 pub operation-stands : (o : ScheduledOperation) → OperationStands (flatOperation o) o
 operation-stands o = (type-stands (o .typ), refl, refl)
@@ -163,7 +163,7 @@ pub call-stands : (c : Call) → CallStands (flatCall c) c
 call-stands c = (receiver-stands (c .receiver), scheduler-stands (c .source), phase-stands (c .phase))
 
 pub receiver-zeros : NoReceiver noReceiver
-receiver-zeros = ((refl, refl, refl), refl, failure-zeros, refl, refl)
+receiver-zeros = ((refl, refl, refl, refl), refl, failure-zeros, refl, refl)
 
 pub call-zeros : NoCall noCall
-call-zeros = (receiver-zeros, (refl, refl, refl), refl, refl, refl, refl, ending-zeros, outcome-zeros)
+call-zeros = (receiver-zeros, (refl, refl, refl, refl), refl, refl, refl, refl, ending-zeros, outcome-zeros)

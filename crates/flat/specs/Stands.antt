@@ -108,7 +108,7 @@ DiffStands f (Different x y) = (f .different ≡ 1) × (f .old ≡ x) × (f .new
 
 -- ---- the scheduler, operations and blocks
 abbrev pub SchedulerStands : Scheduler → RingBufferScheduler → Type 0
-SchedulerStands f s = (f .«buf_len» ≡ s .«buf_len») × (f .«items_written» ≡ s .«items_written» .0) × (f .«items_read» ≡ s .«items_read» .0)
+SchedulerStands f s = (f .«buf_len» ≡ s .«buf_len») × (f .«items_written» ≡ s .«items_written» .0) × (f .«items_read» ≡ s .«items_read» .0) × (f .fill ≡ s .fill)
 
 abbrev pub OperationStands : Operation → ScheduledOperation → Type 0
 OperationStands f o = TypeStands (f .typ) (o .typ) × (f .off ≡ o .off .0) × (f .len ≡ o .len)
@@ -127,7 +127,7 @@ abbrev pub NoRange : Range → Type 0
 NoRange f = (f .start ≡ 0) × (f .end ≡ 0) × NoOperation (f .op)
 
 abbrev pub NoScheduler : Scheduler → Type 0
-NoScheduler f = (f .«buf_len» ≡ 0) × (f .«items_written» ≡ 0) × (f .«items_read» ≡ 0)
+NoScheduler f = (f .«buf_len» ≡ 0) × (f .«items_written» ≡ 0) × (f .«items_read» ≡ 0) × (f .fill ≡ 0)
 
 abbrev pub NoBlock : Block → Type 0
 NoBlock f = (f .typ ≡ 0) × (f .no ≡ 0) × (f .off ≡ 0) × (f .len ≡ 0)

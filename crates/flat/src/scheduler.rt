@@ -1,4 +1,4 @@
-// A scheduler as three numbers, and back, and what a test and a registering answer.
+// A scheduler as four numbers, and back, and what a test and a registering answer.
 ghost use mathlib.Core.Path.{_≡_};
 ghost use Rattle.flat.specs.Scheduler.{schedulerAt, noScheduler, flatScheduler, flatChecked, flatRegistered};
 use crate::refusal::flat_refusal;
@@ -13,11 +13,12 @@ use sched::RingBufferScheduler;
 pub fn scheduler(s: Scheduler) -> RingBufferScheduler
     ensures { λ r. ⌜ r ≡ schedulerAt s ⌝ }
 {
-    RingBufferScheduler {
-        buf_len: s.buf_len,
-        items_read: Counter(s.items_read),
-        items_written: Counter(s.items_written),
-    }
+    RingBufferScheduler::from_numbers(
+        s.buf_len,
+        Counter(s.items_written),
+        Counter(s.items_read),
+        s.fill,
+    )
 }
 
 pub(crate) fn no_scheduler() -> Scheduler
@@ -27,6 +28,7 @@ pub(crate) fn no_scheduler() -> Scheduler
         buf_len: 0,
         items_written: 0,
         items_read: 0,
+        fill: 0,
     }
 }
 
@@ -37,6 +39,7 @@ pub(crate) fn flat_scheduler(s: RingBufferScheduler) -> Scheduler
         buf_len: s.buf_len,
         items_written: s.items_written.0,
         items_read: s.items_read.0,
+        fill: s.fill,
     }
 }
 

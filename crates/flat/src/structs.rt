@@ -14,6 +14,7 @@ pub struct Scheduler {
     pub buf_len: u64,
     pub items_written: u64,
     pub items_read: u64,
+    pub fill: u64,
 }
 
 // `typ` is 0 for free and 1 for data; `no` is 0 for the first that is used and 1 for the one that comes round.

@@ -1,3 +1,4 @@
+pub mod BuiltLaws
 pub mod Case
 pub mod Grammar
 pub mod PlanLaws

@@ -22,8 +22,12 @@ use Rattle.operations.specs.Refusal.{numberOf}
 use Rattle.sched.specs.declared.schedule.Scheduled.{Scheduled}
 use Rattle.sched.specs.declared.schedule.ScheduledAnswer.{ScheduledAnswer}
 use Rattle.sched.specs.declared.schedule.ScheduledAnswer.the-variants as schedules
-use Rattle.sched.specs.Scheduler.{schedulerOf}
-use Rattle.sched.proofs.Says.{schedule-contiguous-operations-says}
+use Rattle.sched.specs.declared.scheduler.Checked.{Checked}
+use Rattle.sched.specs.declared.scheduler.Checked.the-variants as checked
+use Rattle.sched.specs.declared.scheduler.RingBufferScheduler.{RingBufferScheduler}
+use Rattle.sched.proofs.Says.{try-from-counters-says, schedule-contiguous-operations-says}
+use Rattle.sched.proofs.scheduler.RingBufferScheduler.try_from_counters.Kinds as from-counters-kinds
+use Rattle.sched.proofs.scheduler.RingBufferScheduler.try_from_counters.Reads as from-counters
 use Rattle.sched.proofs.scheduler.RingBufferScheduler.schedule_contiguous_operations.Kinds as schedule-kinds
 use Rattle.sched.proofs.scheduler.RingBufferScheduler.schedule_contiguous_operations.Reads as schedule
 use Rattle.planline.specs.declared.cut.Cut.{Cut}
@@ -40,6 +44,7 @@ use Rattle.planline.specs.Promise.{RingLine, Appended, Answered}
 use Rattle.planline.specs.Text.{longest}
 use Rattle.planline.proofs.Case.{input, output, case, strips-input, strips-output, strips-case}
 use Rattle.planline.proofs.Printing.{line-parsed, parsed-line, line-planned, else-bad, plan-printed, answered}
+use Rattle.planline.proofs.BuiltLaws.{scheduled-is, scheduled-refused}
 use Rattle.planline.proofs.Says.{parse-says, plan-line-says, append-says, answer-next-says, answer-last-says}
 use Rattle.planline.proofs.TextLaws.{plan-text-short, text-kept}
 use Rattle.planline.proofs.ring.parse.Kinds as parse-kinds
@@ -62,26 +67,36 @@ parse-promised κs a z q x = (λ l. said ∙ line-parsed (a .0 .now) x l, λ e. 
     said : z ≡ parseOf (a .0 .now)
     said = parse-says κs a z (q .0) (q .1)
 
--- its answer is what the scheduler's call answers to that, a refusal by the scheduler's number of it, and `bad` where it is no line
-abbrev pub Schedule : Asked → ScheduledAnswer → Type 0
-Schedule x y =
-    Allows 0 schedule-kinds.ps schedule-kinds.r schedule.Learnt tt
-    (schedulerOf (x .«buf_len») (record { 0 = x .written }) (record { 0 = x .read }), (x .typ, (x .«max_len», tt))) y
+-- its answer is what the scheduler that is built of its numbers answers to it, a refusal by the scheduler's number of it, and `bad`
+-- where it is no line
+abbrev pub FromCounters : Asked → Checked → Type 0
+FromCounters x c =
+    Allows 0 from-counters-kinds.ps from-counters-kinds.r from-counters.Learnt tt
+    (x .«buf_len», (record { 0 = x .written }, (record { 0 = x .read }, tt))) c
+
+abbrev pub Schedule : RingBufferScheduler → Asked → ScheduledAnswer → Type 0
+Schedule s x y = Allows 0 schedule-kinds.ps schedule-kinds.r schedule.Learnt tt (s, (x .typ, (x .«max_len», tt))) y
+
+pub record Planned (x : Asked) (z : Plan) : Type 0 where
+  pub unbuilt : (e : Refusal) → FromCounters x (checked.Refused e) → z ≡ plan.Refused (numberOf e)
+  pub scheduled : (s : RingBufferScheduler) → FromCounters x (checked.Sound s) → (r : Scheduled) → Schedule s x (schedules.Of r) → z ≡ plan.Operations (r .operations)
+  pub refused : (s : RingBufferScheduler) → FromCounters x (checked.Sound s) → (e : Refusal) → Schedule s x (schedules.Refused e) → z ≡ plan.Refused (numberOf e)
 
 pub plan-line-promised :
     Keeps 1 plan-line-kinds.ps plan-line-kinds.r plan-line.Learnt
-    (λ κs a z.
-    a .0 ≡ question.Ring →
-    ((x : Asked) → RingLine (a .1 .0 .now) x →
-    ((r : Scheduled) → Schedule x (schedules.Of r) → z ≡ plan.Operations (r .operations)) × ((e : Refusal) → Schedule x (schedules.Refused e) → z ≡ plan.Refused (numberOf e)))
-    × (((x : Asked) → RingLine (a .1 .0 .now) x → ⊥) → z ≡ plan.Bad))
-plan-line-promised κs a z q ring = (λ x l. (λ o r. planned x l (schedules.Of o) r, λ e r. planned x l (schedules.Refused e) r), λ n. said ∙ else-bad (a .1 .0 .now) n)
+    (λ κs a z. a .0 ≡ question.Ring → ((x : Asked) → RingLine (a .1 .0 .now) x → Planned x z) × (((x : Asked) → RingLine (a .1 .0 .now) x → ⊥) → z ≡ plan.Bad))
+plan-line-promised κs a z q ring = (λ x l. record { unbuilt = unbuilt x l; scheduled = λ s f r g. planned x l s f (schedules.Of r) g; refused = λ s f e g. planned x l s f (schedules.Refused e) g }, λ n. said ∙ else-bad (a .1 .0 .now) n)
   where
     said : z ≡ planOf question.Ring (a .1 .0 .now)
     said = plan-line-says κs a z (q .0) (q .1) ∙ ap (λ (y : Question). planOf y (a .1 .0 .now)) ring
 
-    planned : (x : Asked) → RingLine (a .1 .0 .now) x → (y : ScheduledAnswer) → Schedule x y → z ≡ planAfter y
-    planned x l y r = said ∙ line-planned (a .1 .0 .now) x l ∙ ap planAfter (sym (schedule-contiguous-operations-says tt _ y (r .0) (r .1)))
+    planned : (x : Asked) → RingLine (a .1 .0 .now) x → (s : RingBufferScheduler) → FromCounters x (checked.Sound s) → (y : ScheduledAnswer) → Schedule s x y → z ≡ planAfter y
+    planned x l s f y r =
+        said ∙ line-planned (a .1 .0 .now) x l
+        ∙ ap planAfter (sym (schedule-contiguous-operations-says tt _ y (r .0) (r .1) ∙ scheduled-is _ (x .typ) (x .«max_len») s (sym (try-from-counters-says tt _ _ (f .0) (f .1)))))
+
+    unbuilt : (x : Asked) → RingLine (a .1 .0 .now) x → (e : Refusal) → FromCounters x (checked.Refused e) → z ≡ plan.Refused (numberOf e)
+    unbuilt x l e f = said ∙ line-planned (a .1 .0 .now) x l ∙ ap planAfter (sym (scheduled-refused _ (x .typ) (x .«max_len») e (sym (try-from-counters-says tt _ _ (f .0) (f .1)))))
 
 -- ---- the text of a line's answer, of which every number is worth what it says
 pub append-promised :

@@ -2,11 +2,12 @@
 ghost use mathlib.Core.Path.{_≡_};
 ghost use lib.ListN.{drop};
 ghost use Rattle.lines.specs.Field.{spacedFront, lastFront};
-ghost use Rattle.planline.specs.Ring.{kindOf, kindFront, withWritten, withRead, withAmount, parseOf, planFor, planFrom};
+ghost use Rattle.planline.specs.Ring.{kindOf, kindFront, withWritten, withRead, withAmount, parseOf, planAfter, planFor, planFrom};
 use crate::plan::Plan;
 use lines::Number;
 use lines::last;
 use lines::spaced;
+use sched::Checked;
 use sched::Counter;
 use sched::OperationType;
 use sched::RingBufferScheduler;
@@ -118,13 +119,19 @@ pub(crate) fn plan_ring(line: &[u8]) -> Plan
 fn plan_for(asked: Asked) -> Plan
     ensures { λ r. ⌜ r ≡ planFor asked ⌝ }
 {
-    let scheduler = RingBufferScheduler {
-        buf_len: asked.buf_len,
-        items_read: Counter(asked.read),
-        items_written: Counter(asked.written),
-    };
     let typ = asked.typ;
-    match scheduler.schedule_contiguous_operations(typ, asked.max_len) {
+    let written = Counter(asked.written);
+    let read = Counter(asked.read);
+    match RingBufferScheduler::try_from_counters(asked.buf_len, written, read) {
+        Checked::Sound(s) => plan_after(s.schedule_contiguous_operations(typ, asked.max_len)),
+        Checked::Refused(e) => Plan::Refused(e.number()),
+    }
+}
+
+fn plan_after(answer: ScheduledAnswer) -> Plan
+    ensures { λ r. ⌜ r ≡ planAfter answer ⌝ }
+{
+    match answer {
         ScheduledAnswer::Of(r) => {
             let list = r.operations;
             Plan::Operations(list)

@@ -50,6 +50,6 @@ any-bits =
       operations = λ o. refl;
       besides = λ o. refl;
       endings = λ e. refl;
-      receivers = λ r. ((refl, refl, refl), refl, refl, refl);
-      calls = λ c. (refl, (refl, refl, refl), refl);
+      receivers = λ r. ((refl, refl, refl, refl), refl, refl, refl);
+      calls = λ c. (refl, (refl, refl, refl, refl), refl);
     }

@@ -2,11 +2,12 @@
 use mathlib.Core.Path.{refl, ap}
 use Rattle.modular.specs.Modulus.{wholeAt, rawAt, doubleAt, subMod, addMod}
 use Rattle.sched.specs.Scheduler.{countedOf, soundOf, fillStateIn, layoutIn, someOf, scheduleIn, registerIn}
+use Rattle.copies.specs.Copies.{readyFrom}
 use Rattle.states.specs.State.{fitsErrno, normalizeIn, towardsErrorIn}
 use Rattle.paper.specs.Table.{Table, refusedWith}
 
 pub table : Table
-unfolding wholeAt rawAt doubleAt subMod addMod countedOf soundOf fillStateIn layoutIn someOf scheduleIn registerIn fitsErrno normalizeIn towardsErrorIn
+unfolding wholeAt rawAt doubleAt subMod addMod countedOf soundOf fillStateIn layoutIn someOf scheduleIn registerIn readyFrom fitsErrno normalizeIn towardsErrorIn
 table =
     record {
       rolled-over-data = λ z ws says. says;
@@ -17,6 +18,13 @@ table =
       full = λ z ws says. says;
       full-layout = λ z ws says. says;
       overfull = λ z ws says. ap refusedWith says;
+      held-fill-wrong = λ z ws says. says;
+      held-fill-wrong-number = refl;
+      held-fill = λ z ws says. says;
+      overfull-before-fill = λ z ws says. says;
+      fill-before-memory = λ z ws says. says;
+      built-fill = λ z ws says. says;
+      kept-fill = λ z ws says. says;
       wrapped-data = λ z ws says. says;
       offset-at-the-length = λ z ws says. says;
       offset-at-the-top = λ z ws says. says;

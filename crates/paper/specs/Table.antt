@@ -10,7 +10,7 @@ use Rattle.modular.specs.declared.Modulus.{Modulus}
 use Rattle.modular.specs.declared.OptionModulus.the-variants as modulus
 use Rattle.operations.specs.Operation.{operationOf}
 use Rattle.operations.specs.Refusal.{numberOf}
-use Rattle.sched.specs.Scheduler.{schedulerOf}
+use Rattle.sched.specs.Scheduler.{recordOf, schedulerOf}
 use Rattle.sched.specs.declared.block.BufferFillState.the-variants.{Full}
 use Rattle.sched.specs.declared.block.BufferLayout.the-variants.{DataFreeData}
 use Rattle.sched.specs.declared.block.FillStateAnswer.the-variants as fill
@@ -23,7 +23,7 @@ use Rattle.operations.specs.declared.list.ScheduledOperations.the-variants as l
 use Rattle.operations.specs.declared.operation.OperationType.{OperationType}
 use Rattle.operations.specs.declared.operation.OperationType.the-variants.{Read, Write}
 use Rattle.operations.specs.declared.operation.ScheduledOperation.{ScheduledOperation}
-use Rattle.operations.specs.declared.refusal.Refusal.the-variants.{OperationTooLarge}
+use Rattle.operations.specs.declared.refusal.Refusal.the-variants.{DataAvailOutOfBounds, OperationTooLarge, HeldFillWrong}
 use Rattle.sched.specs.declared.scheduler.Checked.{Checked}
 use Rattle.sched.specs.declared.scheduler.Checked.the-variants as checked
 use Rattle.sched.specs.declared.register.Registered.the-variants as registered
@@ -32,6 +32,12 @@ use Rattle.sched.specs.declared.schedule.NextOperation.the-variants as next
 use Rattle.sched.specs.declared.schedule.NextOperationAnswer.the-variants as nexts
 use Rattle.sched.specs.declared.schedule.ScheduledAnswer.the-variants as schedules
 use Rattle.sched.specs.declared.scheduler.RingBufferScheduler.{RingBufferScheduler}
+use Rattle.copies.specs.declared.Ready.the-variants as ready
+use Rattle.copies.specs.declared.refusal.Refusal.the-variants.{Scheduler}
+use Rattle.copies.proofs.demand_ring_memory.Kinds as memory-kinds
+use Rattle.copies.proofs.demand_ring_memory.Reads as memory
+use Rattle.sched.proofs.scheduler.RingBufferScheduler.demand_soundness.Kinds as sound-kinds
+use Rattle.sched.proofs.scheduler.RingBufferScheduler.demand_soundness.Reads as demand-soundness
 use Rattle.sched.proofs.scheduler.RingBufferScheduler.try_from_counters.Kinds as made-kinds
 use Rattle.sched.proofs.scheduler.RingBufferScheduler.try_from_counters.Reads as made
 use Rattle.sched.proofs.scheduler.RingBufferScheduler.data_avail.Kinds as data-kinds
@@ -65,6 +71,10 @@ Answers ps r L a P = (z : resT r tt .Denot) (ws : Lasts (endedOf 0 ps r) tt a) �
 -- L, written, read
 abbrev pub ring : ℕ → ℕ → ℕ → RingBufferScheduler
 ring l w r = schedulerOf l (record { 0 = w }) (record { 0 = r })
+
+-- with this fill
+abbrev pub holding : ℕ → ℕ → ℕ → ℕ → RingBufferScheduler
+holding l w r n = recordOf l (record { 0 = w }) (record { 0 = r }) n
 
 abbrev pub counter : ℕ → Counter
 counter c = record { 0 = c }
@@ -114,6 +124,13 @@ pub record Table : Type 0 where
   pub full : Answers fill-kinds.ps fill-kinds.r fill-state.Learnt (ring 10 10 0, tt) (λ z. z ≡ fill.Of Full)
   pub full-layout : Answers layout-kinds.ps layout-kinds.r layout-call.Learnt (ring 10 10 0, tt) (λ z. z ≡ layout.Of DataFreeData)
   pub overfull : Refuses 10 11 0 5
+  pub held-fill-wrong : Answers sound-kinds.ps sound-kinds.r demand-soundness.Learnt (holding 10 7 3 5, tt) (λ z. z ≡ checked.Refused HeldFillWrong)
+  pub held-fill-wrong-number : numberOf HeldFillWrong ≡ 20
+  pub held-fill : Answers data-kinds.ps data-kinds.r data-avail.Learnt (holding 10 7 3 4, tt) (λ z. z ≡ amount.Of 4)
+  pub overfull-before-fill : Answers sound-kinds.ps sound-kinds.r demand-soundness.Learnt (holding 10 11 0 11, tt) (λ z. z ≡ checked.Refused (DataAvailOutOfBounds 10 (counter 11) (counter 0)))
+  pub fill-before-memory : Answers memory-kinds.ps memory-kinds.r memory.Learnt (holding 10 7 3 5, (9, tt)) (λ z. z ≡ ready.Refused (Scheduler HeldFillWrong))
+  pub built-fill : Answers made-kinds.ps made-kinds.r made.Learnt (10, (counter 0, (counter 11, tt))) (λ z. z ≡ checked.Sound (holding 10 0 11 9))
+  pub kept-fill : Answers register-kinds.ps register-kinds.r register.Learnt (holding 10 19 12 7, (3, tt)) (λ z. z ≡ registered.Advanced (holding 10 2 12 10))
   pub wrapped-data : Answers data-kinds.ps data-kinds.r data-avail.Learnt (ring 10 0 11, tt) (λ z. z ≡ amount.Of 9)
   pub offset-at-the-length : OffsetIs (ring 10 10 3) Write 0
   pub offset-at-the-top : OffsetIs (ring (2 ^ 63) (2 ^ 63 - 1) (2 ^ 64 - 1)) Read (2 ^ 63 - 1)

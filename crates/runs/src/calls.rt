@@ -33,6 +33,7 @@ pub fn same_scheduler(a: RingBufferScheduler, b: RingBufferScheduler) -> bool {
     a.buf_len == b.buf_len
         && a.items_written.0 == b.items_written.0
         && a.items_read.0 == b.items_read.0
+        && a.fill == b.fill
 }
 
 pub fn accepted(scheduler: RingBufferScheduler, n: u64, remainder: u64) -> Told {

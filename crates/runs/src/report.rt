@@ -63,7 +63,9 @@ pub const LEFT: usize = 39;
 
 pub const LENT: usize = 41;
 
-const COUNTS: usize = 43;
+pub const HELD: usize = 43;
+
+const COUNTS: usize = 45;
 
 pub struct Report {
     counts: [u64; COUNTS],
@@ -108,7 +110,7 @@ impl Report {
     // The events are the calls that are to be accepted and those that are to be refused.
     pub fn print(self) {
         let events = add(self.of(ACCEPTED), self.of(NUMBERS));
-        self.plus(EVENTS, events).fill(
+        self.plus(EVENTS, events).print_counts(
             b"\
 % runs, over rings of 1 to 9 bytes, from every counter\n\
 % events\n\
@@ -130,12 +132,13 @@ a write changes no other cell: % checks, % failures\n\
 both records are equal: % checks, % failures\n\
 refused with its number, 9 or 10: % checks, % failures\n\
 a refusal touches no byte: % checks, % failures\n\
-a lent scheduler makes the same copy: % checks, % failures\n",
+a lent scheduler makes the same copy: % checks, % failures\n\
+each record holds what lies between its positions: % checks, % failures\n",
         );
     }
 
     // Prints the text with a count for each %.
-    fn fill(self, text: &[u8]) {
+    fn print_counts(self, text: &[u8]) {
         let mut next = 0;
         for i in 0..text.len() {
             let byte = text[i];
@@ -149,7 +152,7 @@ a lent scheduler makes the same copy: % checks, % failures\n",
     }
 }
 
-// No index is above 43, so the sum does not wrap.
+// No index is above 45, so the sum does not wrap.
 pub fn behind(i: usize, by: usize) -> usize {
     std::num::wrapping_add_usize(i, by)
 }

@@ -32,11 +32,7 @@ impl World {
     // Both ends are new, and the ring holds old bytes.
     pub fn new(report: Report, len: u64, start: u64) -> World {
         let at = Counter(start);
-        let scheduler = RingBufferScheduler {
-            buf_len: len,
-            items_read: at,
-            items_written: at,
-        };
+        let scheduler = RingBufferScheduler::from_numbers(len, at, at, 0);
         World {
             writer: scheduler,
             reader: scheduler,
@@ -66,13 +62,17 @@ impl World {
         memory::turned(ring, self.len, rem(add(self.start, position), self.len))
     }
 
-    // What holds after every event: each unread byte stands in its cell.
+    // What holds after every event: each unread byte stands in its cell, and each record holds what lies between its positions.
     pub fn checked(mut self) -> World {
         let ring = self.ring;
         let cells = self.cells(ring, self.read);
         let unread = sub(self.written, self.read);
         let bytes = memory::source(self.read);
-        self.report = self.report.same(report::IN_CELLS, cells, bytes, 0, unread);
+        let writer = self.writer.fill == sub(self.written, self.by_reader.heard);
+        let reader = self.reader.fill == self.data();
+        self.report = self.report
+            .same(report::IN_CELLS, cells, bytes, 0, unread)
+            .check(report::HELD, writer && reader);
         self.agreement_checked()
     }
 

@@ -1,16 +1,16 @@
--- "Given exactly when", 1 to 5, 9 and 10, of every export of the ends and of the copies: whatever its attached contract allows carries a
+-- "Given exactly when", 1 to 5, 20, 9 and 10, of every export of the ends and of the copies: whatever its attached contract allows carries a
 -- refusal exactly when the paper's table gives it, of what the host's numbers stand for.
 use mathlib.Core.Path.{refl}
 use lib.ListN.{length}
 use Rattle.modular.proofs.Saying.{Keeps}
 use Rattle.operations.specs.declared.operation.OperationType.the-variants.{Read, Write}
-use Rattle.sched.specs.Given.{Given}
+use Rattle.sched.specs.Given.{GivenCounters, Given}
 use Rattle.sched.specs.Scheduler.{schedulerOf}
 use Rattle.copies.specs.Copies.{writeOf, readOf}
 use Rattle.copies.specs.Given.{GivenCopy}
 use Rattle.copies.proofs.Promised as copy
 use Rattle.ends.specs.Ends.{writingEndOf, readingEndOf, wroteOf, gotOf, writtenSentOf, readSentOf, takeReadOf, takeWrittenOf}
-use Rattle.ends.specs.Promises.{GivenTake, withRead, withWritten}
+use Rattle.ends.specs.Promises.{GivenTake}
 use Rattle.ends.proofs.Promised as promised
 use Rattle.stripring.specs.Given.{GivenAt}
 use Rattle.flat.specs.ReadingEnd.{readCounterAt, readingEndAt}
@@ -48,10 +48,10 @@ use Rattle.stripring.proofs.copy.stripring_copies_read.Kinds as copies-
 use Rattle.stripring.proofs.copy.stripring_copies_read.Reads as copies-read
 
 -- ---- the writing end
-pub writing-end-new-refuses : Keeps 0 writing-end-new-kinds.ps writing-end-new-kinds.r writing-end-new.Learnt (λ κs a z. GivenAt (Given (schedulerOf (a .0) (record { 0 = 0 }) (record { 0 = 0 }))) (z .refusal))
+pub writing-end-new-refuses : Keeps 0 writing-end-new-kinds.ps writing-end-new-kinds.r writing-end-new.Learnt (λ κs a z. GivenAt (GivenCounters (a .0) (record { 0 = 0 }) (record { 0 = 0 })) (z .refusal))
 writing-end-new-refuses κs a z (ws, p) = rw (writing-end-new-says κs a z ws p) (writing-given (writingEndOf (schedulerOf (a .0) (record { 0 = 0 }) (record { 0 = 0 }))) (promised.WritingEnd-new-promised tt (a .0, tt) (writingEndOf (schedulerOf (a .0) (record { 0 = 0 }) (record { 0 = 0 }))) ((tt, tt), refl) .0))
 
-pub writing-end-from-counters-refuses : Keeps 0 writing-end-from-counters-kinds.ps writing-end-from-counters-kinds.r writing-end-from-counters.Learnt (λ κs a z. GivenAt (Given (schedulerOf (a .0) (record { 0 = a .1 .0 }) (record { 0 = a .1 .1 .0 }))) (z .refusal))
+pub writing-end-from-counters-refuses : Keeps 0 writing-end-from-counters-kinds.ps writing-end-from-counters-kinds.r writing-end-from-counters.Learnt (λ κs a z. GivenAt (GivenCounters (a .0) (record { 0 = a .1 .0 }) (record { 0 = a .1 .1 .0 })) (z .refusal))
 writing-end-from-counters-refuses κs a z (ws, p) = rw (writing-end-from-counters-says κs a z ws p) (writing-given (writingEndOf (schedulerOf (a .0) (record { 0 = a .1 .0 }) (record { 0 = a .1 .1 .0 }))) (promised.WritingEnd-from-counters-promised tt (a .0, (record { 0 = a .1 .0 }, (record { 0 = a .1 .1 .0 }, tt))) (writingEndOf (schedulerOf (a .0) (record { 0 = a .1 .0 }) (record { 0 = a .1 .1 .0 }))) ((tt, (tt, (tt, tt))), refl) .0))
 
 pub writing-end-from-scheduler-refuses : Keeps 0 writing-end-from-scheduler-kinds.ps writing-end-from-scheduler-kinds.r writing-end-from-scheduler.Learnt (λ κs a z. GivenAt (Given (schedulerAt (a .0))) (z .refusal))
@@ -63,14 +63,14 @@ writing-end-write-refuses κs a z (ws, p) = rw (writing-end-write-says κs a z w
 pub writing-end-send-refuses : Keeps 0 writing-end-send-kinds.ps writing-end-send-kinds.r writing-end-send.Learnt (λ κs a z. GivenAt (Given (writingEndAt (a .0) .scheduler)) (z .refusal))
 writing-end-send-refuses κs a z (ws, p) = rw (writing-end-send-says κs a z ws p) (written-given (writtenSentOf (writingEndAt (a .0))) (promised.WritingEnd-send-promised tt (writingEndAt (a .0), tt) (writtenSentOf (writingEndAt (a .0))) ((tt, tt), refl) .0))
 
-pub writing-end-take-refuses : Keeps 0 writing-end-take-kinds.ps writing-end-take-kinds.r writing-end-take.Learnt (λ κs a z. GivenAt (GivenTake (writingEndAt (a .0) .scheduler) (withRead (writingEndAt (a .0)) (readCounterAt (a .1 .0))) Write) (z .refusal))
+pub writing-end-take-refuses : Keeps 0 writing-end-take-kinds.ps writing-end-take-kinds.r writing-end-take.Learnt (λ κs a z. GivenAt (GivenTake (writingEndAt (a .0) .scheduler) Write Read (readCounterAt (a .1 .0) .0)) (z .refusal))
 writing-end-take-refuses κs a z (ws, p) = rw (writing-end-take-says κs a z ws p) (writing-given (takeReadOf (writingEndAt (a .0)) (readCounterAt (a .1 .0))) (promised.WritingEnd-take-promised tt (writingEndAt (a .0), (readCounterAt (a .1 .0), tt)) (takeReadOf (writingEndAt (a .0)) (readCounterAt (a .1 .0))) ((tt, (tt, tt)), refl) .0))
 
 -- ---- the reading end
-pub reading-end-new-refuses : Keeps 0 reading-end-new-kinds.ps reading-end-new-kinds.r reading-end-new.Learnt (λ κs a z. GivenAt (Given (schedulerOf (a .0) (record { 0 = 0 }) (record { 0 = 0 }))) (z .refusal))
+pub reading-end-new-refuses : Keeps 0 reading-end-new-kinds.ps reading-end-new-kinds.r reading-end-new.Learnt (λ κs a z. GivenAt (GivenCounters (a .0) (record { 0 = 0 }) (record { 0 = 0 })) (z .refusal))
 reading-end-new-refuses κs a z (ws, p) = rw (reading-end-new-says κs a z ws p) (reading-given (readingEndOf (schedulerOf (a .0) (record { 0 = 0 }) (record { 0 = 0 }))) (promised.ReadingEnd-new-promised tt (a .0, tt) (readingEndOf (schedulerOf (a .0) (record { 0 = 0 }) (record { 0 = 0 }))) ((tt, tt), refl) .0))
 
-pub reading-end-from-counters-refuses : Keeps 0 reading-end-from-counters-kinds.ps reading-end-from-counters-kinds.r reading-end-from-counters.Learnt (λ κs a z. GivenAt (Given (schedulerOf (a .0) (record { 0 = a .1 .0 }) (record { 0 = a .1 .1 .0 }))) (z .refusal))
+pub reading-end-from-counters-refuses : Keeps 0 reading-end-from-counters-kinds.ps reading-end-from-counters-kinds.r reading-end-from-counters.Learnt (λ κs a z. GivenAt (GivenCounters (a .0) (record { 0 = a .1 .0 }) (record { 0 = a .1 .1 .0 })) (z .refusal))
 reading-end-from-counters-refuses κs a z (ws, p) = rw (reading-end-from-counters-says κs a z ws p) (reading-given (readingEndOf (schedulerOf (a .0) (record { 0 = a .1 .0 }) (record { 0 = a .1 .1 .0 }))) (promised.ReadingEnd-from-counters-promised tt (a .0, (record { 0 = a .1 .0 }, (record { 0 = a .1 .1 .0 }, tt))) (readingEndOf (schedulerOf (a .0) (record { 0 = a .1 .0 }) (record { 0 = a .1 .1 .0 }))) ((tt, (tt, (tt, tt))), refl) .0))
 
 pub reading-end-from-scheduler-refuses : Keeps 0 reading-end-from-scheduler-kinds.ps reading-end-from-scheduler-kinds.r reading-end-from-scheduler.Learnt (λ κs a z. GivenAt (Given (schedulerAt (a .0))) (z .refusal))
@@ -82,7 +82,7 @@ reading-end-read-refuses κs a z (ws, p) = rw (reading-end-read-says κs a z ws 
 pub reading-end-send-refuses : Keeps 0 reading-end-send-kinds.ps reading-end-send-kinds.r reading-end-send.Learnt (λ κs a z. GivenAt (Given (readingEndAt (a .0) .scheduler)) (z .refusal))
 reading-end-send-refuses κs a z (ws, p) = rw (reading-end-send-says κs a z ws p) (read-given (readSentOf (readingEndAt (a .0))) (promised.ReadingEnd-send-promised tt (readingEndAt (a .0), tt) (readSentOf (readingEndAt (a .0))) ((tt, tt), refl) .0))
 
-pub reading-end-take-refuses : Keeps 0 reading-end-take-kinds.ps reading-end-take-kinds.r reading-end-take.Learnt (λ κs a z. GivenAt (GivenTake (readingEndAt (a .0) .scheduler) (withWritten (readingEndAt (a .0)) (writtenCounterAt (a .1 .0))) Read) (z .refusal))
+pub reading-end-take-refuses : Keeps 0 reading-end-take-kinds.ps reading-end-take-kinds.r reading-end-take.Learnt (λ κs a z. GivenAt (GivenTake (readingEndAt (a .0) .scheduler) Read Write (writtenCounterAt (a .1 .0) .0)) (z .refusal))
 reading-end-take-refuses κs a z (ws, p) = rw (reading-end-take-says κs a z ws p) (reading-given (takeWrittenOf (readingEndAt (a .0)) (writtenCounterAt (a .1 .0))) (promised.ReadingEnd-take-promised tt (readingEndAt (a .0), (writtenCounterAt (a .1 .0), tt)) (takeWrittenOf (readingEndAt (a .0)) (writtenCounterAt (a .1 .0))) ((tt, (tt, tt)), refl) .0))
 
 -- ---- copies

@@ -6,20 +6,22 @@ use Rattle.operations.proofs.Refuses as lists
 use Rattle.sched.proofs.Refuses as refuses
 use Rattle.operations.specs.declared.operation.OperationType.the-variants.{Read, Write}
 use Rattle.operations.specs.Given.{GivenList}
-use Rattle.sched.specs.Given.{Given, GivenOperations, GivenRegister}
+use Rattle.sched.specs.Given.{GivenCounters, Given, GivenWith, GivenOperations, GivenRegister}
 use Rattle.operations.specs.List.{cumulativeLengthOf, cumulativeOffsetsOf, outsideRangesOf, soundListOf}
-use Rattle.sched.specs.Scheduler.{block0From, block1From, block2From, blocksOf, bufLenOf, counterAnswerOf, fillStateOf, greatestOf, isPositiveFrom, isZeroFrom, layoutOf, lenFrom, nextBlockOf, nextOf, offFrom, offsetAnswerOf, registerListOf, registerOf, scheduleOf, schedulerOf, soundOf}
+use Rattle.sched.specs.Scheduler.{block0From, block1From, block2From, blocksOf, bufLenOf, counterAnswerOf, fillStateOf, greatestOf, isPositiveFrom, isZeroFrom, layoutOf, lenFrom, nextBlockOf, nextOf, offFrom, offsetAnswerOf, registerListOf, registerOf, scheduleOf, schedulerOf, soundOf, withCounterOf}
 use Rattle.flat.specs.List.{operationsAt}
 use Rattle.flat.specs.Operation.{operationAt, typeAt}
 use Rattle.flat.specs.Scheduler.{schedulerAt}
 use Rattle.stripring.specs.Given.{GivenAt}
 use Rattle.stripring.proofs.GivenLaws.{checked-given, registered-given, counter-given, offset-given, amount-given, bool-given, fill-given, layout-given, blocks-given, block-given, next-given, schedule-given, operations-given, starts-given, ranges-given}
-use Rattle.stripring.proofs.SaysScheduler.{try-new-says, try-from-counters-says, demand-soundness-says, try-register-read-says, try-register-write-says, try-register-operation-manually-says, try-register-operation-says, try-register-operations-says, items-read-says, items-written-says, operation-counter-says, read-off-says, write-off-says, operation-offset-says, buf-len-says, is-zero-sized-says, data-avail-says, space-avail-says, max-operation-len-says, fill-state-says, is-empty-says, is-full-says, is-nonempty-says, is-nonfull-says, layout-says, blocks-says, block-0-says, block-1-says, block-2-says, block-0-off-says, block-1-off-says, block-2-off-says, block-0-len-says, block-1-len-says, block-2-len-says, next-operation-block-says, next-read-block-says, next-write-block-says, schedule-next-contiguous-operation-says, schedule-next-read-says, schedule-next-write-says, schedule-contiguous-operations-says, schedule-reads-says, schedule-writes-says}
+use Rattle.stripring.proofs.SaysScheduler.{try-new-says, try-from-counters-says, try-with-counter-says, demand-soundness-says, try-register-read-says, try-register-write-says, try-register-operation-manually-says, try-register-operation-says, try-register-operations-says, items-read-says, items-written-says, operation-counter-says, read-off-says, write-off-says, operation-offset-says, buf-len-says, is-zero-sized-says, data-avail-says, space-avail-says, max-operation-len-says, fill-state-says, is-empty-says, is-full-says, is-nonempty-says, is-nonfull-says, layout-says, blocks-says, block-0-says, block-1-says, block-2-says, block-0-off-says, block-1-off-says, block-2-off-says, block-0-len-says, block-1-len-says, block-2-len-says, next-operation-block-says, next-read-block-says, next-write-block-says, schedule-next-contiguous-operation-says, schedule-next-read-says, schedule-next-write-says, schedule-contiguous-operations-says, schedule-reads-says, schedule-writes-says}
 use Rattle.stripring.proofs.SaysValues.{operations-try-new-says, operations-container-says, operations-into-container-says, operations-cumulative-operation-length-says, operations-with-cumulative-offset-says, operations-with-outside-buffer-range-says}
 use Rattle.stripring.proofs.scheduler.stripring_scheduler_try_new.Kinds as try-new-kinds
 use Rattle.stripring.proofs.scheduler.stripring_scheduler_try_new.Reads as try-new
 use Rattle.stripring.proofs.scheduler.stripring_scheduler_try_from_counters.Kinds as try-from-counters-kinds
 use Rattle.stripring.proofs.scheduler.stripring_scheduler_try_from_counters.Reads as try-from-counters
+use Rattle.stripring.proofs.scheduler.stripring_scheduler_try_with_counter.Kinds as try-with-counter-kinds
+use Rattle.stripring.proofs.scheduler.stripring_scheduler_try_with_counter.Reads as try-with-counter
 use Rattle.stripring.proofs.scheduler.stripring_scheduler_demand_soundness.Kinds as demand-soundness-kinds
 use Rattle.stripring.proofs.scheduler.stripring_scheduler_demand_soundness.Reads as demand-soundness
 use Rattle.stripring.proofs.scheduler.stripring_scheduler_try_register_read.Kinds as try-register-read-kinds
@@ -118,11 +120,14 @@ use Rattle.stripring.proofs.list.stripring_operations_with_outside_buff
 use Rattle.stripring.proofs.list.stripring_operations_with_outside_buffer_range.Reads as operations-with-outside-buffer-range
 
 -- ---- the record and its checks
-pub try-new-refuses : Keeps 0 try-new-kinds.ps try-new-kinds.r try-new.Learnt (λ κs a z. GivenAt (Given (schedulerOf (a .0) (record { 0 = 0 }) (record { 0 = 0 }))) (z .refusal))
+pub try-new-refuses : Keeps 0 try-new-kinds.ps try-new-kinds.r try-new.Learnt (λ κs a z. GivenAt (GivenCounters (a .0) (record { 0 = 0 }) (record { 0 = 0 })) (z .refusal))
 try-new-refuses κs a z (ws, p) = rw (try-new-says κs a z ws p) (checked-given (soundOf (schedulerOf (a .0) (record { 0 = 0 }) (record { 0 = 0 }))) (refuses.try-new-refuses tt (a .0, tt) (soundOf (schedulerOf (a .0) (record { 0 = 0 }) (record { 0 = 0 }))) ((tt, tt), refl)))
 
-pub try-from-counters-refuses : Keeps 0 try-from-counters-kinds.ps try-from-counters-kinds.r try-from-counters.Learnt (λ κs a z. GivenAt (Given (schedulerOf (a .0) (record { 0 = a .1 .0 }) (record { 0 = a .1 .1 .0 }))) (z .refusal))
+pub try-from-counters-refuses : Keeps 0 try-from-counters-kinds.ps try-from-counters-kinds.r try-from-counters.Learnt (λ κs a z. GivenAt (GivenCounters (a .0) (record { 0 = a .1 .0 }) (record { 0 = a .1 .1 .0 })) (z .refusal))
 try-from-counters-refuses κs a z (ws, p) = rw (try-from-counters-says κs a z ws p) (checked-given (soundOf (schedulerOf (a .0) (record { 0 = a .1 .0 }) (record { 0 = a .1 .1 .0 }))) (refuses.try-from-counters-refuses tt (a .0, (record { 0 = a .1 .0 }, (record { 0 = a .1 .1 .0 }, tt))) (soundOf (schedulerOf (a .0) (record { 0 = a .1 .0 }) (record { 0 = a .1 .1 .0 }))) ((tt, (tt, (tt, tt))), refl)))
+
+pub try-with-counter-refuses : Keeps 0 try-with-counter-kinds.ps try-with-counter-kinds.r try-with-counter.Learnt (λ κs a z. GivenAt (GivenWith (schedulerAt (a .0)) (typeAt (a .1 .0)) (record { 0 = a .1 .1 .0 })) (z .refusal))
+try-with-counter-refuses κs a z (ws, p) = rw (try-with-counter-says κs a z ws p) (checked-given (withCounterOf (schedulerAt (a .0)) (typeAt (a .1 .0)) (record { 0 = a .1 .1 .0 })) (refuses.try-with-counter-refuses tt (schedulerAt (a .0), (typeAt (a .1 .0), (record { 0 = a .1 .1 .0 }, tt))) (withCounterOf (schedulerAt (a .0)) (typeAt (a .1 .0)) (record { 0 = a .1 .1 .0 })) ((tt, (tt, (tt, tt))), refl)))
 
 pub demand-soundness-refuses : Keeps 0 demand-soundness-kinds.ps demand-soundness-kinds.r demand-soundness.Learnt (λ κs a z. GivenAt (Given (schedulerAt (a .0))) (z .refusal))
 demand-soundness-refuses κs a z (ws, p) = rw (demand-soundness-says κs a z ws p) (checked-given (soundOf (schedulerAt (a .0))) (refuses.demand-soundness-refuses tt (schedulerAt (a .0), tt) (soundOf (schedulerAt (a .0))) ((tt, tt), refl)))

@@ -1,7 +1,7 @@
 -- What each export of the scheduler says, in the order of the C header; see SaysEnds.antt.
 use Rattle.modular.proofs.Saying.{Says}
 use Rattle.operations.specs.declared.operation.OperationType.the-variants.{Read, Write}
-use Rattle.sched.specs.Scheduler.{block0From, block1From, block2From, blocksOf, bufLenOf, counterAnswerOf, fillStateOf, greatestOf, isPositiveFrom, isZeroFrom, layoutOf, lenFrom, nextBlockOf, nextOf, offFrom, offsetAnswerOf, registerListOf, registerOf, scheduleOf, schedulerOf, soundOf}
+use Rattle.sched.specs.Scheduler.{block0From, block1From, block2From, blocksOf, bufLenOf, counterAnswerOf, fillStateOf, greatestOf, isPositiveFrom, isZeroFrom, layoutOf, lenFrom, nextBlockOf, nextOf, offFrom, offsetAnswerOf, registerListOf, registerOf, scheduleOf, schedulerOf, soundOf, withCounterOf}
 use Rattle.flat.specs.Block.{flatBlockAnswer, flatBlocks, flatFillState, flatLayout}
 use Rattle.flat.specs.Counter.{flatAmount, flatBool, flatCounter, flatOffset}
 use Rattle.flat.specs.List.{flatSchedule, operationsAt}
@@ -13,6 +13,8 @@ use Rattle.stripring.proofs.scheduler.stripring_scheduler_try_new.Kinds
 use Rattle.stripring.proofs.scheduler.stripring_scheduler_try_new.Reads as try-new
 use Rattle.stripring.proofs.scheduler.stripring_scheduler_try_from_counters.Kinds as try-from-counters-kinds
 use Rattle.stripring.proofs.scheduler.stripring_scheduler_try_from_counters.Reads as try-from-counters
+use Rattle.stripring.proofs.scheduler.stripring_scheduler_try_with_counter.Kinds as try-with-counter-kinds
+use Rattle.stripring.proofs.scheduler.stripring_scheduler_try_with_counter.Reads as try-with-counter
 use Rattle.stripring.proofs.scheduler.stripring_scheduler_demand_soundness.Kinds as demand-soundness-kinds
 use Rattle.stripring.proofs.scheduler.stripring_scheduler_demand_soundness.Reads as demand-soundness
 use Rattle.stripring.proofs.scheduler.stripring_scheduler_try_register_read.Kinds as try-register-read-kinds
@@ -107,6 +109,9 @@ try-new-says κs a z ws p = p
 
 pub try-from-counters-says : Says 0 try-from-counters-kinds.ps try-from-counters-kinds.r try-from-counters.Learnt (λ κs a. flatChecked (soundOf (schedulerOf (a .0) (record { 0 = a .1 .0 }) (record { 0 = a .1 .1 .0 }))))
 try-from-counters-says κs a z ws p = p
+
+pub try-with-counter-says : Says 0 try-with-counter-kinds.ps try-with-counter-kinds.r try-with-counter.Learnt (λ κs a. flatChecked (withCounterOf (schedulerAt (a .0)) (typeAt (a .1 .0)) (record { 0 = a .1 .1 .0 })))
+try-with-counter-says κs a z ws p = p
 
 pub demand-soundness-says : Says 0 demand-soundness-kinds.ps demand-soundness-kinds.r demand-soundness.Learnt (λ κs a. flatChecked (soundOf (schedulerAt (a .0))))
 demand-soundness-says κs a z ws p = p

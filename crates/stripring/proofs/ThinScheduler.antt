@@ -12,8 +12,12 @@ use Rattle.sched.proofs.scheduler.RingBufferScheduler.try_new.Kinds as lib-try-
 use Rattle.sched.proofs.scheduler.RingBufferScheduler.try_new.Reads as lib-try-new
 use Rattle.stripring.proofs.scheduler.stripring_scheduler_try_from_counters.Kinds as try-from-counters-kinds
 use Rattle.stripring.proofs.scheduler.stripring_scheduler_try_from_counters.Reads as try-from-counters
+use Rattle.stripring.proofs.scheduler.stripring_scheduler_try_with_counter.Kinds as try-with-counter-kinds
+use Rattle.stripring.proofs.scheduler.stripring_scheduler_try_with_counter.Reads as try-with-counter
 use Rattle.sched.proofs.scheduler.RingBufferScheduler.try_from_counters.Kinds as lib-try-from-counters-kinds
 use Rattle.sched.proofs.scheduler.RingBufferScheduler.try_from_counters.Reads as lib-try-from-counters
+use Rattle.sched.proofs.scheduler.RingBufferScheduler.try_with_counter.Kinds as lib-try-with-counter-kinds
+use Rattle.sched.proofs.scheduler.RingBufferScheduler.try_with_counter.Reads as lib-try-with-counter
 use Rattle.stripring.proofs.scheduler.stripring_scheduler_demand_soundness.Kinds as demand-soundness-kinds
 use Rattle.stripring.proofs.scheduler.stripring_scheduler_demand_soundness.Reads as demand-soundness
 use Rattle.sched.proofs.scheduler.RingBufferScheduler.demand_soundness.Kinds as lib-demand-soundness-kinds
@@ -108,6 +112,9 @@ try-new-thin κs a z (ws, p) x (us, q) = p ∙ ap flatChecked (sym q)
 
 pub try-from-counters-thin : Thin 0 try-from-counters-kinds.ps try-from-counters-kinds.r try-from-counters.Learnt lib-try-from-counters-kinds.ps lib-try-from-counters-kinds.r lib-try-from-counters.Learnt (λ κs a. (a .0, (record { 0 = a .1 .0 }, (record { 0 = a .1 .1 .0 }, tt)))) (λ κs x. flatChecked x)
 try-from-counters-thin κs a z (ws, p) x (us, q) = p ∙ ap flatChecked (sym q)
+
+pub try-with-counter-thin : Thin 0 try-with-counter-kinds.ps try-with-counter-kinds.r try-with-counter.Learnt lib-try-with-counter-kinds.ps lib-try-with-counter-kinds.r lib-try-with-counter.Learnt (λ κs a. (schedulerAt (a .0), (typeAt (a .1 .0), (record { 0 = a .1 .1 .0 }, tt)))) (λ κs x. flatChecked x)
+try-with-counter-thin κs a z (ws, p) x (us, q) = p ∙ ap flatChecked (sym q)
 
 pub demand-soundness-thin : Thin 0 demand-soundness-kinds.ps demand-soundness-kinds.r demand-soundness.Learnt lib-demand-soundness-kinds.ps lib-demand-soundness-kinds.r lib-demand-soundness.Learnt (λ κs a. (schedulerAt (a .0), tt)) (λ κs x. flatChecked x)
 demand-soundness-thin κs a z (ws, p) x (us, q) = p ∙ ap flatChecked (sym q)

@@ -1,7 +1,7 @@
 // The calls of the scheduler that make it, count and register. Every one tests the scheduler that it is given anew.
 ghost use mathlib.Core.Path.{_≡_};
 ghost use Prim.Native.Nat.{_^_};
-ghost use Rattle.sched.specs.Scheduler.{schedulerOf, soundOf, bufLenOf, counterAnswerOf, offsetAnswerOf, greatestOf, isZeroFrom, isPositiveFrom, fillStateOf, registerOf, registerListOf};
+ghost use Rattle.sched.specs.Scheduler.{schedulerOf, soundOf, withCounterOf, bufLenOf, counterAnswerOf, offsetAnswerOf, greatestOf, isZeroFrom, isPositiveFrom, fillStateOf, registerOf, registerListOf};
 ghost use Rattle.flat.specs.Block.{flatFillState};
 ghost use Rattle.flat.specs.Counter.{flatCounter, flatOffset, flatAmount, flatBool};
 ghost use Rattle.flat.specs.List.{operationsAt};
@@ -56,6 +56,17 @@ pub extern "C" fn stripring_scheduler_try_from_counters(
         Counter(items_written),
         Counter(items_read),
     ))
+}
+
+#[no_mangle]
+pub extern "C" fn stripring_scheduler_try_with_counter(
+    s: Scheduler,
+    op: u64,
+    counter: u64,
+) -> SchedulerAnswer
+    ensures { λ r. ⌜ r ≡ flatChecked (withCounterOf (schedulerAt s) (typeAt op) (record { 0 = counter })) ⌝ }
+{
+    flat_checked(scheduler(s).try_with_counter(operation_type(op), Counter(counter)))
 }
 
 #[no_mangle]

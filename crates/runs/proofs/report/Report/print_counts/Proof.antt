@@ -2,8 +2,8 @@
 use Prim.Native.Nat.{_≤_, _-_}
 use lib.ListN.{length}
 use borrow.Author.Needs.{needs}
-use Rattle.runs.proofs.report.Report.fill.Statement.{statement}
-use Rattle.runs.proofs.report.Report.fill.Tie as tie
+use Rattle.runs.proofs.report.Report.print_counts.Statement.{statement}
+use Rattle.runs.proofs.report.Report.print_counts.Tie as tie
 
 abbrev Inv-loop : tie.InvT-loop
 Inv-loop self text next₀ i₀ i-end next i = (i ≤ i-end) × (i-end ≤ length text)
@@ -11,7 +11,7 @@ Inv-loop self text next₀ i₀ i-end next i = (i ≤ i-end) × (i-end ≤ lengt
 abbrev μ-loop : tie.MeasureT-loop
 μ-loop self text next₀ i₀ i-end next i = i-end - i
 
-pub fill-spec : {M : Type 1} → statement M
-fill-spec =
+pub print-counts-spec : {M : Type 1} → statement M
+print-counts-spec =
     tie.close (tie.spec Inv-loop μ-loop (search needs) (search needs) (search needs) (search needs) (search needs) (search needs)
     (search needs) (search needs) (search needs) (search needs) (search needs))

@@ -26,6 +26,7 @@
  *   17  a run does not begin where the one before ended, the first one at row 0, or ends past the last row    a: its index
  *   18  a run and its header exceed L                   a: its index
  *   19  the runs end before the last row                a: the row reached
+ *   20  the fill held in a record is wrong
  *   39  a lent plan is shorter than its runs            a: runs needed, b: runs lent
  *
  * Memory. A pointer and the length behind it lend memory for the time of the call; it stays the caller's. Through a pointer
@@ -56,12 +57,18 @@ typedef struct stripring_refusal {
   uint64_t c;
 } stripring_refusal;
 
-/* Sound when buf_len is 1 to 2^63, both counters are below twice that, and written - read, modulo twice that, is at most it.
- * Every call tests this anew. An offset is its counter modulo buf_len. */
+/* Sound when buf_len is 1 to 2^63, both counters are below twice that, written - read, modulo twice that, is at most it, and
+ * `fill` is that difference: how many bytes may be read. Every call tests this anew, the fill last. An offset is its counter
+ * modulo buf_len.
+ *
+ * Calls work the fill out: a host makes a record by stripring_scheduler_try_new or stripring_scheduler_try_from_counters, and
+ * hands on what calls answer. In a record that a call has answered it may read `fill`, and needs no call of
+ * stripring_scheduler_data_avail. One that it built or changed by hand is refused with 20 where the fill is wrong. */
 typedef struct stripring_scheduler {
   uint64_t buf_len;
   uint64_t items_written;
   uint64_t items_read;
+  uint64_t fill;
 } stripring_scheduler;
 
 /* `typ` is 0 for free and 1 for data; `no` is 0 for the block that is used first and 1 for the one that comes round. */
@@ -381,7 +388,7 @@ typedef struct stripring_propose_answer {
   uint64_t count;
 } stripring_propose_answer;
 
-/* ---- The two ends: refused with 1 to 5, and with what is named ----
+/* ---- The two ends: refused with 1 to 5, 20, and with what is named ----
  *
  * Both are made with one length and start empty. A host writes, sends the counter to the other process, and takes the one
  * that comes back; counters may be lost, late or repeated.
@@ -390,10 +397,10 @@ typedef struct stripring_propose_answer {
  * changes the host's struct. `end` may not be NULL there, and lies in no memory that the call is lent beside it. A refused
  * call leaves the struct as it was. */
 
-/* An empty writing end of a ring of buf_len bytes. */
+/* An empty writing end of a ring of buf_len bytes. 1, 2 alone. */
 stripring_writing_end_answer stripring_writing_end_new(uint64_t buf_len);
 
-/* A writing end that goes on from these counters. */
+/* A writing end that goes on from these counters. 1 to 5 alone. */
 stripring_writing_end_answer stripring_writing_end_from_counters(uint64_t buf_len, uint64_t items_written,
                                                                  uint64_t items_read);
 
@@ -417,10 +424,10 @@ stripring_writing_end_answer stripring_writing_end_take(stripring_writing_end e,
 /* The same, and the end with the counter is stored in *end. 10. */
 stripring_refusal stripring_writing_end_take_in_place(stripring_writing_end *end, stripring_read_counter counter);
 
-/* An empty reading end of a ring of buf_len bytes. */
+/* An empty reading end of a ring of buf_len bytes. 1, 2 alone. */
 stripring_reading_end_answer stripring_reading_end_new(uint64_t buf_len);
 
-/* A reading end that goes on from these counters. */
+/* A reading end that goes on from these counters. 1 to 5 alone. */
 stripring_reading_end_answer stripring_reading_end_from_counters(uint64_t buf_len, uint64_t items_written,
                                                                  uint64_t items_read);
 
@@ -444,7 +451,7 @@ stripring_reading_end_answer stripring_reading_end_take(stripring_reading_end e,
 /* The same, and the end with the counter is stored in *end. 10. */
 stripring_refusal stripring_reading_end_take_in_place(stripring_reading_end *end, stripring_written_counter counter);
 
-/* ---- Copies by a scheduler: refused with 1 to 5, then 9 ---- */
+/* ---- Copies by a scheduler: refused with 1 to 5, 20, then 9 ---- */
 
 /* Writes min(src_len, space) bytes of src into the ring, which changes nowhere else, and registers them. */
 stripring_copy_answer stripring_copies_write(stripring_scheduler s, uint8_t *ring, size_t ring_len, const uint8_t *src,
@@ -462,32 +469,32 @@ stripring_copy_answer stripring_copies_read(stripring_scheduler s, const uint8_t
  *
  * Calls over a run of answers take what the socket answers all at once; the machine below takes one answer at a time. */
 
-/* A receiver over this scheduler, in the normal state, with nothing pending. Refused with 1 to 5. */
+/* A receiver over this scheduler, in the normal state, with nothing pending. Refused with 1 to 5, 20. */
 stripring_receiver_answer stripring_receiver_new(stripring_scheduler s);
 
 /* Reads into dst, of which the first outcome.n bytes are written. The end of the stream is a read of 0 bytes. Refused with
- * 1 to 5, 9, 11 to 13. */
+ * 1 to 5, 20, 9, 11 to 13. */
 stripring_ended_answer stripring_receiver_read_with_fds(stripring_receiver r, const uint8_t *ring, size_t ring_len,
                                                         uint8_t *dst, size_t dst_len, uint64_t max_new_fds,
                                                         const stripring_answer *answers, size_t answers_len);
 
-/* The same, but the end of the stream is failure 32. Refused with 1 to 5, 9, 11 to 13. */
+/* The same, but the end of the stream is failure 32. Refused with 1 to 5, 20, 9, 11 to 13. */
 stripring_ended_answer stripring_receiver_read_with_fds_impl(stripring_receiver r, const uint8_t *ring, size_t ring_len,
                                                              uint8_t *dst, size_t dst_len, uint64_t max_new_fds,
                                                              const stripring_answer *answers, size_t answers_len);
 
-/* Sends the pending acknowledgements, in batches of at most 128. Refused with 1 to 5, 11, 12. */
+/* Sends the pending acknowledgements, in batches of at most 128. Refused with 1 to 5, 20, 11, 12. */
 stripring_ended_answer stripring_receiver_service_chunk_acknowledgements(stripring_receiver r,
                                                                          const stripring_answer *answers,
                                                                          size_t answers_len);
 
-/* Drains with failure 32, and shuts the socket down unless that was done. Refused with 1 to 5, 11, 12. */
+/* Drains with failure 32, and shuts the socket down unless that was done. Refused with 1 to 5, 20, 11, 12. */
 stripring_ended_answer stripring_receiver_shutdown(stripring_receiver r, const stripring_answer *answers,
                                                    size_t answers_len);
 
 /* ---- The machine: begin a call, and while call.phase.kind is 0 to 2 do what it waits for and hand in the answer ---- */
 
-/* Begins a read into dst_len bytes. The end of the stream is failure 32. Refused with 1 to 5, 9, 12 (a: 0), 13.
+/* Begins a read into dst_len bytes. The end of the stream is failure 32. Refused with 1 to 5, 20, 9, 12 (a: 0), 13.
  *
  * The host copies the bytes, once, by stripring_copies_read(call.source, ring, ring_len, dst, n); what that answers is not
  * needed. It does so before the first send, phase.kind 1, where n is phase.ending.outcome.n: the acknowledgement allows the
@@ -496,19 +503,20 @@ stripring_ended_answer stripring_receiver_shutdown(stripring_receiver r, const s
 stripring_step_answer stripring_call_begin_read(stripring_receiver q, size_t ring_len, uint64_t max_new_fds,
                                                 uint64_t dst_len);
 
-/* Begins to send the pending acknowledgements. Refused with 1 to 5, 12 (a: 0). */
+/* Begins to send the pending acknowledgements. Refused with 1 to 5, 20, 12 (a: 0). */
 stripring_step_answer stripring_call_begin_service(stripring_receiver q);
 
-/* Begins to drain and shut down. Refused with 1 to 5, 12 (a: 0). */
+/* Begins to drain and shut down. Refused with 1 to 5, 20, 12 (a: 0). */
 stripring_step_answer stripring_call_begin_shutdown(stripring_receiver q);
 
 /* The call after this answer, the place-th that it takes, from 1. A receive or a send that was interrupted (errno 4) goes on
  * waiting; a call that is finished stays as it is. The ring is looked at, its length too, where a byte was received and only
- * there, for the header: else none need be lent. Refused with 1 to 5, 9 where a byte was received, 12 (a: 0), 12 (a: place)
+ * there, for the header: else none need be lent. Refused with 1 to 5, 20, 9 where a byte was received, 12 (a: 0), 12 (a: place)
  * for an answer that the phase cannot have, 13 where a receive is waited for.
  *
  * A call is a value, and a host can make one up: what it waits for is asked anew by the rules of the receiver that it comes
- * with. One that waits for a receive of a terminated stream is finished with the stream's failure, whatever byte came. */
+ * with. One that waits for a receive of a terminated stream is finished with the stream's failure, whatever byte came. Its
+ * `source` is handed on as it is: the copy by it tests it. */
 stripring_step_answer stripring_call_answered(stripring_call c, const uint8_t *ring, size_t ring_len,
                                               stripring_answer answer, uint64_t place);
 
@@ -554,17 +562,21 @@ stripring_propose_answer stripring_planner_propose(uint64_t rows, uint64_t row_b
 stripring_refusal stripring_planner_check(uint64_t rows, uint64_t row_bytes, uint64_t buf_len, const uint64_t *plan,
                                           size_t plan_len);
 
-/* ---- The scheduler: refused with 1 to 5, and with what is named. `op` is 0 for a read, any other for a write ---- */
+/* ---- The scheduler: refused with 1 to 5, 20, and with what is named. `op` is 0 for a read, any other for a write ---- */
 
 /* 2^63. */
 uint64_t stripring_scheduler_max_buf_len(void);
 
-/* An empty scheduler. 1, 2. */
+/* An empty scheduler. 1, 2 alone. */
 stripring_scheduler_answer stripring_scheduler_try_new(uint64_t buf_len);
 
-/* A scheduler with these counters. */
+/* A scheduler with these counters. 1 to 5 alone. */
 stripring_scheduler_answer stripring_scheduler_try_from_counters(uint64_t buf_len, uint64_t items_written,
                                                                  uint64_t items_read);
+
+/* The scheduler with this counter in the place of its own of this type: the read counter for 0, the written one for any other.
+ * The record itself is tested first, then the one with the counter: 3 or 4, then 5. */
+stripring_scheduler_answer stripring_scheduler_try_with_counter(stripring_scheduler s, uint64_t op, uint64_t counter);
 
 /* The scheduler as it is, if it is sound. */
 stripring_scheduler_answer stripring_scheduler_demand_soundness(stripring_scheduler s);
@@ -609,7 +621,7 @@ stripring_u64_answer stripring_scheduler_buf_len(stripring_scheduler s);
 /* 0: a length of 0 is refused. */
 stripring_u64_answer stripring_scheduler_is_zero_sized(stripring_scheduler s);
 
-/* Bytes that may be read. */
+/* Bytes that may be read: the fill of a sound record. */
 stripring_u64_answer stripring_scheduler_data_avail(stripring_scheduler s);
 
 /* Bytes that may be written. */

@@ -106,11 +106,7 @@ struct Stripring {
 impl Stripring {
     fn new(len: usize) -> Self {
         Self {
-            scheduler: Scheduler {
-                buf_len: len as u64,
-                items_written: 0,
-                items_read: 0,
-            },
+            scheduler: stripring::try_new(len as u64).of,
             memory: vec![0; len],
         }
     }
@@ -139,16 +135,9 @@ struct Ends {
 
 impl Ends {
     fn new(len: usize) -> Self {
-        let end = End {
-            scheduler: Scheduler {
-                buf_len: len as u64,
-                items_written: 0,
-                items_read: 0,
-            },
-        };
         Self {
-            writing: end,
-            reading: end,
+            writing: stripring::writing_end(len as u64).of,
+            reading: stripring::reading_end(len as u64).of,
             memory: vec![0; len],
         }
     }

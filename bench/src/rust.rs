@@ -8,6 +8,25 @@ use oracle::rosenpass::sched::{
 };
 use oracle::standins::u64uint::U64USize;
 
+/// What the Rust has of a record: it holds no fill, and neither tests nor answers one.
+#[repr(C)]
+#[derive(Debug, PartialEq)]
+pub struct Counters {
+    pub buf_len: u64,
+    pub items_written: u64,
+    pub items_read: u64,
+}
+
+impl From<Scheduler> for Counters {
+    fn from(s: Scheduler) -> Self {
+        Self {
+            buf_len: s.buf_len,
+            items_written: s.items_written,
+            items_read: s.items_read,
+        }
+    }
+}
+
 #[inline(never)]
 pub extern "C" fn data_avail(s: Scheduler) -> Answer<u64> {
     accepted(tested(s).data_avail())
@@ -33,7 +52,7 @@ pub extern "C" fn schedule(s: Scheduler, typ: u64, max_len: u64) -> Answer<Sched
 }
 
 #[inline(never)]
-pub extern "C" fn register(s: Scheduler, list: Operations) -> Answer<Scheduler> {
+pub extern "C" fn register(s: Scheduler, list: Operations) -> Answer<Counters> {
     let container = list.both[..list.count as usize]
         .iter()
         .map(|op| {
@@ -43,7 +62,7 @@ pub extern "C" fn register(s: Scheduler, list: Operations) -> Answer<Scheduler> 
         .collect();
     let list = ScheduledOperations::try_new(container).expect("a sound list");
     let after = tested(s).try_register_operation(&list).expect("room");
-    accepted(Scheduler {
+    accepted(Counters {
         buf_len: after.buf_len(),
         items_written: after.items_written(),
         items_read: after.items_read(),

@@ -1,4 +1,5 @@
-//! The scheduler: data_avail, and schedule_contiguous_operations followed by registering the list.
+//! The scheduler: data_avail, the fill that a record holds, and schedule_contiguous_operations
+//! followed by registering the list.
 
 use crate::best::best_turns;
 use crate::stripring::{Answer, Scheduler};
@@ -36,7 +37,9 @@ fn print_rows(name: &str, buf_len: fn(u64) -> u64) {
         .map(|_| Case::random(&mut random, buf_len))
         .collect();
     cases.iter().for_each(assert_same_answers);
-    print_row("data_avail", name, data_avail(&cases));
+    let [call, held, tested, own] = data_avail(&cases);
+    print_row("data_avail", name, [call, tested, own]);
+    print_row("held fill", name, [held, tested, own]);
     print_row("schedule and register", name, schedule_and_register(&cases));
 }
 
@@ -49,11 +52,17 @@ fn print_row(call: &str, buf_len: &str, turns: [f64; 3]) {
     );
 }
 
-fn data_avail(cases: &[Case]) -> [f64; 3] {
+/// By a call, and as a caller does that reads it in the record it holds; then the Rust's.
+fn data_avail(cases: &[Case]) -> [f64; 4] {
     best_turns([
         &mut || {
             for case in cases {
                 look_at(stripring::data_avail(case.scheduler));
+            }
+        },
+        &mut || {
+            for case in cases {
+                black_box(case.scheduler.fill);
             }
         },
         &mut || {
@@ -105,17 +114,16 @@ fn assert_same_answers(case: &Case) {
         max_len,
         ..
     } = *case;
-    assert_eq!(
-        stripring::data_avail(scheduler),
-        rust::data_avail(scheduler)
-    );
+    let data = rust::data_avail(scheduler);
+    assert_eq!(scheduler.fill, data.of);
+    assert_eq!(stripring::data_avail(scheduler), data);
     let plan = stripring::schedule(scheduler, typ, max_len);
     assert_eq!(plan, rust::schedule(scheduler, typ, max_len));
     let list = plan.of.operations;
-    assert_eq!(
-        stripring::register(scheduler, list),
-        rust::register(scheduler, list)
-    );
+    let ours = stripring::register(scheduler, list);
+    let theirs = rust::register(scheduler, list);
+    assert_eq!(ours.refusal, theirs.refusal);
+    assert_eq!(rust::Counters::from(ours.of), theirs.of);
 }
 
 impl Case {
@@ -125,11 +133,7 @@ impl Case {
         let read = u128::from(random.next()) % (2 * u128::from(buf_len));
         let data = random.next() % (buf_len + 1);
         let written = (read + u128::from(data)) % (2 * u128::from(buf_len));
-        let scheduler = Scheduler {
-            buf_len,
-            items_written: written as u64,
-            items_read: read as u64,
-        };
+        let scheduler = stripring::try_from_counters(buf_len, written as u64, read as u64).of;
         let typ = random.next() % 2;
         Self {
             scheduler,

@@ -8,6 +8,7 @@ pub struct Scheduler {
     pub buf_len: u64,
     pub items_written: u64,
     pub items_read: u64,
+    pub fill: u64,
 }
 
 /// Number 0 is no refusal.
@@ -83,6 +84,10 @@ pub struct Portion {
 
 #[link(name = "stripring", kind = "static")]
 unsafe extern "C" {
+    #[link_name = "stripring_writing_end_new"]
+    pub safe fn writing_end(buf_len: u64) -> Answer<End>;
+    #[link_name = "stripring_reading_end_new"]
+    pub safe fn reading_end(buf_len: u64) -> Answer<End>;
     #[link_name = "stripring_writing_end_send"]
     pub safe fn send_written(e: End) -> Answer<Counter>;
     #[link_name = "stripring_reading_end_send"]
@@ -125,6 +130,14 @@ unsafe extern "C" {
         dst_len: usize,
     ) -> Answer<Portion>;
 
+    #[link_name = "stripring_scheduler_try_new"]
+    pub safe fn try_new(buf_len: u64) -> Answer<Scheduler>;
+    #[link_name = "stripring_scheduler_try_from_counters"]
+    pub safe fn try_from_counters(
+        buf_len: u64,
+        items_written: u64,
+        items_read: u64,
+    ) -> Answer<Scheduler>;
     #[link_name = "stripring_scheduler_data_avail"]
     pub safe fn data_avail(s: Scheduler) -> Answer<u64>;
     #[link_name = "stripring_scheduler_schedule_contiguous_operations"]

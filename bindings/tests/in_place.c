@@ -51,18 +51,23 @@ static void takes(stripring_scheduler s, uint64_t counter) {
   CHECK(same(&reading, refusal.number == 0 ? &r.end : &reader, sizeof reading));
 }
 
+static void of_record(stripring_scheduler s) {
+  for (size_t len = 0; len <= BYTES_LEN; len++) {
+    writes(s, RING_LEN, len);
+    writes(s, RING_LEN - 1, len);
+    reads(s, RING_LEN, len);
+    reads(s, RING_LEN - 1, len);
+  }
+  for (uint64_t counter = 0; counter <= 2 * RING_LEN; counter++)
+    takes(s, counter);
+}
+
 int main(void) {
   for (uint64_t written = 0; written <= 2 * RING_LEN; written++)
     for (uint64_t read = 0; read <= 2 * RING_LEN; read++) {
-      stripring_scheduler s = {RING_LEN, written, read};
-      for (size_t len = 0; len <= BYTES_LEN; len++) {
-        writes(s, RING_LEN, len);
-        writes(s, RING_LEN - 1, len);
-        reads(s, RING_LEN, len);
-        reads(s, RING_LEN - 1, len);
-      }
-      for (uint64_t counter = 0; counter <= 2 * RING_LEN; counter++)
-        takes(s, counter);
+      uint64_t fill = (written + 2 * RING_LEN - read) % (2 * RING_LEN);
+      of_record((stripring_scheduler){RING_LEN, written, read, fill});
+      of_record((stripring_scheduler){RING_LEN, written, read, fill + 1}); /* refused with 20 where not with 3 to 5 */
     }
   printf("in place: %u checks\n", held);
 }

@@ -27,8 +27,9 @@ static stripring_answer failed(uint64_t number) { return (stripring_answer){.kin
 static stripring_answer sent(uint64_t n) { return (stripring_answer){.kind = 3, .value = n}; }
 static stripring_answer done(void) { return (stripring_answer){.kind = 4}; }
 
+/* Nothing is read, so all that is written is the fill. */
 static stripring_receiver receiver(uint64_t written, stripring_state state, uint64_t pending) {
-  return (stripring_receiver){{RING_LEN, written, 0}, state, pending, 0};
+  return (stripring_receiver){{RING_LEN, written, 0, written}, state, pending, 0};
 }
 
 static stripring_outcome read_of(uint64_t n) { return (stripring_outcome){.kind = 0, .n = n}; }

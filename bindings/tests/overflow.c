@@ -32,7 +32,7 @@ static stripring_receiver receiver(uint8_t *ring, uint64_t ring_len, uint64_t at
   memset(ring, 0, ring_len);
   for (unsigned i = 0; i < HEADER_LEN; i++)
     ring[(at + i) % ring_len] = len >> (56 - 8 * i);
-  return (stripring_receiver){{ring_len, at, at}, {.kind = NORMAL}, 0, 0};
+  return stripring_receiver_new(stripring_scheduler_try_from_counters(ring_len, at, at).scheduler).receiver;
 }
 
 /* ---- what a read answers ---- */

@@ -9,17 +9,17 @@
 enum { READ, WRITE, RING_LEN = 10, ASKED = 9 };
 
 /* Data 4 and space 6, of which 3 are before the end of the memory. */
-static const stripring_scheduler PARTIAL = {RING_LEN, 7, 3};
-static const stripring_scheduler EMPTY = {RING_LEN, 3, 3};
-static const stripring_scheduler UNSOUND = {RING_LEN, 11, 0};
-static const stripring_scheduler OF_ONE = {1, 0, 0};
+static const stripring_scheduler PARTIAL = {RING_LEN, 7, 3, 4};
+static const stripring_scheduler EMPTY = {RING_LEN, 3, 3, 0};
+static const stripring_scheduler UNSOUND = {RING_LEN, 11, 0, 11};
+static const stripring_scheduler OF_ONE = {1, 0, 0, 0};
 
 static bool is(stripring_operation o, uint64_t typ, uint64_t off, uint64_t len) {
   return o.typ == typ && o.off == off && o.len == len;
 }
 
 static bool same(stripring_scheduler a, stripring_scheduler b) {
-  return a.buf_len == b.buf_len && a.items_written == b.items_written && a.items_read == b.items_read;
+  return a.buf_len == b.buf_len && a.items_written == b.items_written && a.items_read == b.items_read && a.fill == b.fill;
 }
 
 static void next_operation(void) {
@@ -50,7 +50,7 @@ static void list(void) {
 static void writes(void) {
   const uint8_t src[ASKED] = "abcdefghi";
   uint8_t ring[RING_LEN] = "0123456789";
-  const stripring_scheduler full = {RING_LEN, 13, 3};
+  const stripring_scheduler full = {RING_LEN, 13, 3, 10};
   stripring_copy_answer copy = stripring_copies_write(PARTIAL, ring, RING_LEN, src, ASKED);
   CHECK(copy.n == 6 && copy.remainder == 3 && same(copy.scheduler, full));
   CHECK(memcmp(ring, "def3456abc", RING_LEN) == 0);
@@ -69,7 +69,7 @@ static void writes(void) {
 static void reads(void) {
   const uint8_t ring[RING_LEN] = "0123456789";
   uint8_t dst[ASKED] = "abcdefghi";
-  const stripring_scheduler empty = {RING_LEN, 7, 7};
+  const stripring_scheduler empty = {RING_LEN, 7, 7, 0};
   stripring_copy_answer copy = stripring_copies_read(PARTIAL, ring, RING_LEN, dst, ASKED);
   CHECK(copy.n == 4 && copy.remainder == 5 && same(copy.scheduler, empty));
   CHECK(memcmp(dst, "3456efghi", ASKED) == 0);

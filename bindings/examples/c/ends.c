@@ -57,12 +57,6 @@ static bool is_full(stripring_scheduler s) {
   return full.value;
 }
 
-static bool is_empty(stripring_scheduler s) {
-  stripring_u64_answer empty = stripring_scheduler_is_empty(s);
-  demand(empty.refusal);
-  return empty.value;
-}
-
 /* False if the classifier is gone. Counters are taken before each write, or both sockets fill up with them in the end. */
 static bool wait_for_room(struct camera *c, stripring_writing_end *end) {
   do
@@ -91,7 +85,7 @@ void film_by_ends(struct camera *c) {
   for (size_t i = 0; i < c->picture->count; i++)
     if (!film_strip(c, &end, c->picture->strips[i]))
       return;
-  while (!is_empty(end.scheduler) && take_counter(c, &end, 0) == COUNTER)
+  while (end.scheduler.fill > 0 && take_counter(c, &end, 0) == COUNTER)
     ;
 }
 
@@ -114,8 +108,8 @@ void classify_by_ends(struct classifier *c) {
   stripring_written_counter counter;
   while (receive_counter(c->socket, 0, &counter.counter) == COUNTER) {
     demand(stripring_reading_end_take_in_place(&end, counter));
-    for (size_t n; (n = read_some(c, &end)) > 0;)
-      classified(c, n);
+    while (end.scheduler.fill > 0)
+      classified(c, read_some(c, &end));
     tell_camera(c, end);
   }
 }

@@ -20,6 +20,7 @@ pub struct Scheduler {
     pub buf_len: u64,
     pub items_written: u64,
     pub items_read: u64,
+    pub fill: u64,
 }
 
 #[repr(C)]
@@ -528,6 +529,11 @@ unsafe extern "C" {
         buf_len: u64,
         items_written: u64,
         items_read: u64,
+    ) -> SchedulerAnswer;
+    pub safe fn stripring_scheduler_try_with_counter(
+        s: Scheduler,
+        op: u64,
+        counter: u64,
     ) -> SchedulerAnswer;
     pub safe fn stripring_scheduler_demand_soundness(s: Scheduler) -> SchedulerAnswer;
     pub safe fn stripring_scheduler_try_register_read(s: Scheduler, len: u64) -> SchedulerAnswer;

@@ -68,6 +68,8 @@ pub enum Refusal {
     RunTooLong { run: u64 },
     /// 19: the runs reach this row, from 0, and not the end.
     RowsLeft { reached: u64 },
+    /// 20: the fill that a record holds is wrong.
+    HeldFillWrong,
     /// 39: a lent plan has fewer runs than it needs.
     PlanTooShort { needed: u64, lent: u64 },
 }
@@ -128,14 +130,15 @@ impl From<abi::Refusal> for Refusal {
             17 => Self::RunOutOfPlace { run: a },
             18 => Self::RunTooLong { run: a },
             19 => Self::RowsLeft { reached: a },
+            20 => Self::HeldFillWrong,
             39 => Self::PlanTooShort { needed: a, lent: b },
-            _ => unreachable!("the library refuses with 1 to 19 and 39, not {number}"),
+            _ => unreachable!("the library refuses with 1 to 20 and 39, not {number}"),
         }
     }
 }
 
 impl Refusal {
-    /// The number, 1 to 19 or 39.
+    /// The number, 1 to 20 or 39.
     pub fn number(self) -> u64 {
         self.flat().number
     }
@@ -177,6 +180,7 @@ impl Refusal {
             Self::RunOutOfPlace { run } => (17, run, 0, 0),
             Self::RunTooLong { run } => (18, run, 0, 0),
             Self::RowsLeft { reached } => (19, reached, 0, 0),
+            Self::HeldFillWrong => (20, 0, 0, 0),
             Self::PlanTooShort { needed, lent } => (39, needed, lent, 0),
         };
         abi::Refusal { number, a, b, c }
@@ -250,6 +254,7 @@ impl fmt::Display for Refusal {
             Self::RowsLeft { reached } => {
                 write!(f, "the runs reach row {reached} and not the end")
             }
+            Self::HeldFillWrong => write!(f, "the fill that a record holds is wrong"),
             Self::PlanTooShort { needed, lent } => {
                 write!(f, "a plan needs {needed} runs, and {lent} were lent")
             }

@@ -107,6 +107,7 @@ impl Iterator for Places {
 /// let mut bytes = [0; 3];
 /// assert_eq!((s.read(&ring, &mut bytes)?, &bytes), (3, b"abc"));
 /// assert_eq!((s.data_avail(), s.space_avail()), (1, 4));
+/// assert_eq!(s.fill(), 1); // the same as the data, without a call
 ///
 /// // A host that copies by itself asks where, and registers what it moved.
 /// let places = s.schedule(OperationType::Write, 6);
@@ -152,7 +153,12 @@ impl Scheduler {
         self.0.items_read
     }
 
-    /// How many bytes may be read.
+    /// How many bytes may be read: the fill that the record holds, and no call. It is right, since only calls make a record.
+    pub fn fill(&self) -> u64 {
+        self.0.fill
+    }
+
+    /// How many bytes may be read, with the record tested anew.
     pub fn data_avail(&self) -> u64 {
         let a = abi::stripring_scheduler_data_avail(self.0);
         sound(a.refusal, a.value)
@@ -177,6 +183,14 @@ impl Scheduler {
             operations: [first, second].into_iter().take(count as usize),
             remainder: a.remainder,
         }
+    }
+
+    /// Puts this counter in the place of its own of this type, and works the fill out anew. Refused with
+    /// [`Refusal::ItemsWrittenOutOfBounds`] or [`Refusal::ItemsReadOutOfBounds`], and [`Refusal::DataAvailOutOfBounds`].
+    pub fn try_with_counter(&mut self, op: OperationType, counter: u64) -> Result<(), Refusal> {
+        let a = abi::stripring_scheduler_try_with_counter(self.0, op.number(), counter);
+        self.0 = accepted(a.refusal, a.scheduler)?;
+        Ok(())
     }
 
     /// Registers that so many bytes were moved.

@@ -247,6 +247,7 @@ const RECEIVE: u64 = 0;
 const SEND: u64 = 1;
 const FINISHED: u64 = 3;
 
+/// Nothing is read, so all that is written is the fill.
 fn record(items_written: u64, state: u64, errno: u64, pending_ack_count: u64) -> abi::Receiver {
     let failure = abi::Failure {
         value: errno,
@@ -257,6 +258,7 @@ fn record(items_written: u64, state: u64, errno: u64, pending_ack_count: u64) ->
             buf_len: 10,
             items_written,
             items_read: 0,
+            fill: items_written,
         },
         state: abi::State {
             kind: state,

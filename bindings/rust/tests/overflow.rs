@@ -106,11 +106,7 @@ fn state(kind: u64, failure: abi::Failure) -> abi::State {
 
 /// Of an empty ring whose header goes round its end.
 fn receiver(state: abi::State) -> abi::Receiver {
-    let scheduler = abi::Scheduler {
-        buf_len: 64,
-        items_written: 60,
-        items_read: 60,
-    };
+    let scheduler = abi::stripring_scheduler_try_from_counters(64, 60, 60).scheduler;
     abi::Receiver {
         scheduler,
         state,

@@ -12,12 +12,8 @@ fn scheduler([l, written, read]: [u64; 3]) -> Scheduler {
     Scheduler::from_counters(l, written, read).unwrap()
 }
 
-fn flat([buf_len, items_written, items_read]: [u64; 3]) -> abi::Scheduler {
-    abi::Scheduler {
-        buf_len,
-        items_written,
-        items_read,
-    }
+fn flat([l, written, read]: [u64; 3]) -> abi::Scheduler {
+    abi::stripring_scheduler_try_from_counters(l, written, read).scheduler
 }
 
 fn write(off: u64, len: u64) -> abi::Operation {
@@ -43,7 +39,13 @@ fn none_leaves_all() {
 
 #[test]
 fn a_refused_call_leaves_nothing() {
-    let plan = abi::stripring_scheduler_schedule_writes(flat([10, 11, 0]), 9);
+    let unsound = abi::Scheduler {
+        buf_len: 10,
+        items_written: 11,
+        items_read: 0,
+        fill: 11,
+    };
+    let plan = abi::stripring_scheduler_schedule_writes(unsound, 9);
     assert_eq!(plan.refusal.number, 5);
     let refusal = plan.refusal;
     let wanted = abi::ScheduleAnswer {

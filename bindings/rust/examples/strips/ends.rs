@@ -84,7 +84,7 @@ pub fn film(camera: &mut Camera) -> Result<()> {
             return Ok(());
         }
     }
-    while end.space() < camera.ring_len && take_counter(camera, &mut end, true)? {}
+    while end.scheduler().fill() > 0 && take_counter(camera, &mut end, true)? {}
     Ok(())
 }
 
@@ -92,7 +92,7 @@ pub fn classify(classifier: &mut Classifier) -> Result<()> {
     let mut end = ReadingEnd::new(classifier.ring_len)?;
     while let Came::Counter(counter) = receive_counter(&classifier.socket, true)? {
         end.take(WrittenCounter(counter))?;
-        while end.data() > 0 {
+        while end.scheduler().fill() > 0 {
             let n = end.read(classifier.ring.lend(), classifier.copy.next())?;
             classifier.copy.took(n);
         }

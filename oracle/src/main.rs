@@ -26,6 +26,8 @@ mod tally;
 #[cfg(feature = "judge")]
 mod copies;
 #[cfg(feature = "judge")]
+mod copy_answers;
+#[cfg(feature = "judge")]
 mod ends;
 #[cfg(feature = "judge")]
 mod machine;

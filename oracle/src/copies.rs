@@ -1,13 +1,13 @@
 //! The copies, and those of the ends: the static library against the scheduler of sched.rs and a
 //! loop over single bytes.
 
+use crate::copy_answers::copied;
 use crate::memory::Memory;
 use crate::numbers::Random;
 use crate::sched_inputs::{any_scheduler, length, sound_scheduler};
-use crate::stripring::copy_calls;
+use crate::stripring::{copy_calls, record_of};
 use crate::tally::Tally;
-use oracle::rosenpass::sched::{OperationType, RingBufferScheduler};
-use oracle::sched_answers::{Answer, refusal, row};
+use oracle::sched_answers::row;
 
 /// Rings up to this length are tried on everything.
 const SMALL: u64 = 6;
@@ -86,39 +86,9 @@ fn compare(tally: &mut Tally, scheduler: [u64; 3], memory: &Memory) {
         let rust = row(&copied(writes, scheduler, &mut theirs));
         let mut ours = memory.clone();
         let (ring, other) = ours.parts();
-        let answer = call(scheduler, ring, other);
+        let answer = call(record_of(scheduler), ring, other);
         tally.compare([(rust, theirs), (answer, ours)], || {
             format!("{name} {scheduler:?} {memory:?}")
         });
     }
-}
-
-/// Schedules by the Rust, moves the bytes one by one, and registers by the Rust. What was asked and not
-/// moved is left over.
-fn copied(writes: bool, [l, written, read]: [u64; 3], memory: &mut Memory) -> Answer {
-    let scheduler = RingBufferScheduler::try_from_counters(l, written, read)?;
-    let (ring, other) = memory.parts();
-    if ring.len() as u64 != l {
-        return Err(refusal(&[9]));
-    }
-    let asked = other.len() as u64;
-    let operations = match writes {
-        true => scheduler.schedule_writes(asked),
-        false => scheduler.schedule_reads(asked),
-    };
-    let mut n = 0;
-    for op in &operations.container()[..] {
-        for place in op.off..op.off + op.len.u64() {
-            let (inside, outside) = (&mut ring[place as usize], &mut other[n]);
-            match op.typ {
-                OperationType::Write => *inside = *outside,
-                OperationType::Read => *outside = *inside,
-            }
-            n += 1;
-        }
-    }
-    let s = scheduler.try_register_operation(&operations)?;
-    let (n, left) = (n as u64, asked - n as u64);
-    let numbers = [s.buf_len(), s.items_written(), s.items_read(), n, left];
-    Ok(numbers.as_slice().into())
 }

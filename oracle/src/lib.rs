@@ -1,6 +1,7 @@
 //! The unchanged Rust of rosenpass, as a library, and its answers as plain numbers; and what stands in where the
 //! Rust has nothing.
 
+pub mod fill_model;
 pub mod lines;
 pub mod modular_answers;
 pub mod overflow;

@@ -5,9 +5,12 @@ use crate::memory::Memory;
 use crate::numbers::Random;
 use crate::receiver::{Pair, each_random, each_small, pairs, random_calls, small_calls};
 use crate::receiver_inputs::{Input, pick};
-use crate::stripring::{CallNumbers, CopyCall, StepNumbers, answered, begin, copy_calls};
+use crate::stripring::{
+    CallNumbers, CopyCall, STEP, StepNumbers, answered, begin, copy_calls, handed_lent,
+};
 use crate::tally::Tally;
-use oracle::receiver_answers::{Kind, OUTCOME, RECEIVER};
+use oracle::fill_model::Record;
+use oracle::receiver_answers::{Kind, OUTCOME, RECEIVER, SCHEDULER};
 use oracle::sched_answers::{Numbers, Row, row};
 use oracle::scripted_socket::Answer;
 use std::fmt::Debug;
@@ -15,14 +18,14 @@ use std::fmt::Debug;
 const SEED: u64 = 1;
 const M: u64 = u64::MAX;
 
-const RECEIVE: u64 = 0;
+pub const RECEIVE: u64 = 0;
 const SEND: u64 = 1;
 const SHUTDOWN: u64 = 2;
 const READ: u64 = 0;
 
 // Where the numbers of a call in progress begin, behind the receiver's.
 const SOURCE: usize = RECEIVER;
-const PHASE: usize = SOURCE + 3;
+pub const PHASE: usize = SOURCE + SCHEDULER;
 const ENDS_WITH: usize = PHASE + 5;
 const CAME_TO: usize = ENDS_WITH + OUTCOME;
 
@@ -66,7 +69,7 @@ impl Tried {
     /// a run that the Rust has an answer to.
     fn compare(&mut self, pair: &Pair, input: &Input) {
         let (call, ours) = pair;
-        let ran = ours(input.lent(&mut input.memory.clone()));
+        let ran = ours(handed_lent(input.lent(&mut input.memory.clone())));
         let mut driven = match Driven::begin(call.kind, input) {
             Ok(driven) => driven,
             Err(refused) => return self.same(pair, input, [ran, refused_row(refused)]),
@@ -116,7 +119,7 @@ impl Tried {
         let ((call, ours), came_to) = (pair, driven.row());
         let (mut theirs, mut our_memory) = (input.memory.clone(), input.memory.clone());
         let rust = row(&(call.answer)(input.lent(&mut theirs)));
-        let our = ours(input.lent(&mut our_memory));
+        let our = ours(handed_lent(input.lent(&mut our_memory)));
         let memory = &driven.memory;
         self.same(pair, &input, [(rust, &theirs), (came_to, memory)]);
         self.same(pair, &input, [(our, &our_memory), (came_to, memory)]);
@@ -167,22 +170,27 @@ impl Tried {
 
 /// The numbers of a call in progress.
 #[derive(Debug)]
-struct Call(CallNumbers);
+pub struct Call(pub CallNumbers);
 
 impl Call {
-    fn receiver(&self) -> &[u64] {
+    pub fn receiver(&self) -> &[u64] {
         &self.0[..SOURCE]
     }
 
-    fn source(&self) -> [u64; 3] {
-        [self.0[SOURCE], self.0[SOURCE + 1], self.0[SOURCE + 2]]
+    fn source(&self) -> Record {
+        let numbers = &self.0[SOURCE..PHASE];
+        numbers.try_into().expect("the numbers of a scheduler")
     }
 
-    fn phase(&self) -> u64 {
+    pub fn phase(&self) -> u64 {
         self.0[PHASE]
     }
 
-    fn max_new_fds(&self) -> u64 {
+    pub fn waits(&self) -> bool {
+        self.phase() <= SHUTDOWN
+    }
+
+    pub fn max_new_fds(&self) -> u64 {
         self.0[PHASE + 1]
     }
 
@@ -191,7 +199,7 @@ impl Call {
     }
 
     /// What it still ends with where it waits, what it came to where it is finished.
-    fn outcome(&self) -> &[u64] {
+    pub fn outcome(&self) -> &[u64] {
         match self.phase() {
             RECEIVE..=SHUTDOWN => &self.0[ENDS_WITH..CAME_TO],
             _ => &self.0[CAME_TO..],
@@ -212,7 +220,7 @@ struct Driven<'a> {
 impl<'a> Driven<'a> {
     fn begin(kind: Kind, input: &'a Input) -> Result<Self, Refused> {
         let mut memory = input.memory.clone();
-        let call = gone_on(begin(kind, input.lent(&mut memory)))?;
+        let call = gone_on(begin(kind, handed_lent(input.lent(&mut memory))))?;
         let mut driven = Self {
             input,
             memory,
@@ -225,7 +233,7 @@ impl<'a> Driven<'a> {
     }
 
     fn waits(&self) -> bool {
-        self.call.phase() <= SHUTDOWN
+        self.call.waits()
     }
 
     /// Of the next answer, from 1.
@@ -278,9 +286,9 @@ fn copies_read() -> CopyCall {
 }
 
 /// The refusal, and how many of the numbers beside it are not 0: where there are any, it is a difference.
-type Refused = [u64; 5];
+pub type Refused = [u64; 5];
 
-fn gone_on(step: StepNumbers) -> Result<Call, Refused> {
+pub fn gone_on(step: StepNumbers) -> Result<Call, Refused> {
     let [number, a, b, c, call @ ..] = step;
     let beside = call.iter().filter(|&&number| number != 0).count() as u64;
     match number {
@@ -290,14 +298,14 @@ fn gone_on(step: StepNumbers) -> Result<Call, Refused> {
 }
 
 fn accepted(call: CallNumbers) -> StepNumbers {
-    let mut step = [0; 36];
+    let mut step = [0; STEP];
     step[4..].copy_from_slice(&call);
     step
 }
 
 /// With nothing beside it.
 fn refusal(number: u64, a: u64) -> StepNumbers {
-    let mut step = [0; 36];
+    let mut step = [0; STEP];
     step[..2].copy_from_slice(&[number, a]);
     step
 }

@@ -1,5 +1,7 @@
 //! The judge: runs the unchanged Rust beside what it is compared with (see README.md).
 
+mod copy_answers;
+mod fill_paper;
 mod line_answers;
 mod line_kinds;
 mod line_rows;
@@ -27,6 +29,8 @@ mod tally;
 mod copies;
 #[cfg(feature = "judge")]
 mod ends;
+#[cfg(feature = "judge")]
+mod fill;
 #[cfg(feature = "judge")]
 mod machine;
 #[cfg(feature = "judge")]
@@ -61,8 +65,10 @@ fn main() -> ExitCode {
         #[cfg(feature = "judge")]
         ["machine"] => machine::run(),
         #[cfg(feature = "judge")]
+        ["fill"] => fill::run(),
+        #[cfg(feature = "judge")]
         ["planner"] => planner::run(),
-        ["sched-paper"] => sched_paper::run(),
+        ["sched-paper"] => sched_paper::run() & fill_paper::run(),
         ["receiver-paper"] => receiver_paper::run() & overflow_paper::run(),
         ["planner-paper"] => planner_paper::run(),
         ["record-modular"] => record_modular::run(),
@@ -81,7 +87,7 @@ fn main() -> ExitCode {
         ["pieces", length] => pieces::run(length),
         _ => {
             eprintln!(
-                "usage: oracle modular-u8|modular|sched|copies|receiver|machine|planner\
+                "usage: oracle modular-u8|modular|sched|copies|receiver|machine|fill|planner\
                 |sched-paper|receiver-paper|planner-paper\
                 |record-modular|record-sched|record-receiver\
                 |ringplan|ringplan-paper|ringplan-lines|ringplan-user-lines\
@@ -90,7 +96,7 @@ fn main() -> ExitCode {
             eprintln!("usage: oracle compare-answers NAME LINES RUST PROGRAM WHAT");
             eprintln!("usage: oracle pieces LENGTH");
             eprintln!(
-                "modular, sched, copies, receiver, machine and planner need a build with the feature judge"
+                "modular, sched, copies, receiver, machine, fill and planner need a build with the feature judge"
             );
             return ExitCode::from(2);
         }

@@ -4,9 +4,9 @@ use crate::memory::Memory;
 use crate::numbers::{Random, around};
 use crate::receiver_inputs::{Input, Receiver, State, put_header, receiver, values};
 use crate::sched_inputs::{inputs, tuples};
-use crate::stripring::{RunCall, run_calls, state_calls};
+use crate::stripring::{RunCall, handed, handed_lent, run_calls, state_calls};
 use crate::tally::Tally;
-use oracle::receiver_answers::{Kind, Part, RECEIVER, RUN_CALLS, STATE_CALLS};
+use oracle::receiver_answers::{Kind, Part, RECEIVER, RUN_CALLS, SCHEDULER, STATE_CALLS};
 use oracle::sched_answers::{Row, row};
 use oracle::scripted_socket::Answer;
 use std::collections::BTreeMap;
@@ -91,7 +91,11 @@ fn states() -> bool {
             .1;
         for input in inputs(call.takes, state_values) {
             let rust = row(&(call.answer)(&input.all));
-            tally.compare([rust, our(&input.all)], || {
+            let answer = match call.takes {
+                [Part::Scheduler, ..] => our(&handed(&input.all)),
+                _ => our(&input.all),
+            };
+            tally.compare([rust, answer], || {
                 format!("{} {:?}", call.name, input.used())
             });
         }
@@ -236,7 +240,7 @@ impl Tried {
         let mut theirs = input.memory.clone();
         let rust = row(&(call.answer)(input.lent(&mut theirs)));
         let mut our_memory = input.memory.clone();
-        let our = ours(input.lent(&mut our_memory));
+        let our = ours(handed_lent(input.lent(&mut our_memory)));
         self.count(kind(call.kind, &rust));
         let before = input.receiver[3];
         self.count_state(before, &rust);
@@ -252,7 +256,7 @@ impl Tried {
 
     /// A state that became another one.
     fn count_state(&mut self, before: u64, row: &Row) {
-        let (refused, after) = (row[0] != 0, row[7]);
+        let (refused, after) = (row[0] != 0, row[4 + SCHEDULER]);
         if !refused && before != after {
             let after = ["normal", "draining", "terminated"][after as usize];
             self.count(format!("became {after}"));

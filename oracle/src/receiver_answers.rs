@@ -4,8 +4,8 @@
 //! 1 InvalidChunkAnnouncement, 2 HeaderOverflow, 3 UnknownHeader, 4 InvalidChunkLength,
 //! 5 BodyOverflow. Only 2 and 5 have bytes and room; the Rust has one ControlOverflow for both, and
 //! which of them it is, with what numbers, says the model in overflow.rs. A state is zeros for Normal,
-//! or 1 for Draining, 2 for Terminated, and its failure. A receiver is L, written, read, its state, the
-//! count of pending acknowledgements, and 1 if a shutdown has succeeded.
+//! or 1 for Draining, 2 for Terminated, and its failure. A receiver is its scheduler, its state, the count
+//! of pending acknowledgements, and 1 if a shutdown has succeeded.
 //!
 //! The tests of what is handed in (1 to 5, 9, 12 with place 0, 13) stand before a call here, in the
 //! order of docs/PAPER.md: receiver.rs cannot be handed such a thing, or would panic.
@@ -27,7 +27,12 @@ use std::panic::{AssertUnwindSafe, catch_unwind, resume_unwind};
 // How many numbers each has.
 pub const FAILURE: usize = 4;
 pub const STATE: usize = 1 + FAILURE;
-pub const RECEIVER: usize = 3 + STATE + 2;
+/// With its fill, as it is answered.
+pub const SCHEDULER: usize = 4;
+/// As it is answered.
+pub const RECEIVER: usize = SCHEDULER + STATE + 2;
+/// Of a receiver as it is taken, whose scheduler is L and the two counters.
+pub const BY_COUNTERS: usize = RECEIVER - 1;
 /// See `RUN_CALLS`.
 pub const OUTCOME: usize = 3 + FAILURE;
 
@@ -105,8 +110,8 @@ pub enum Kind {
 }
 
 /// What is lent to it.
-pub struct Lent<'a> {
-    pub receiver: [u64; RECEIVER],
+pub struct Lent<'a, const N: usize = BY_COUNTERS> {
+    pub receiver: [u64; N],
     /// No call changes it. It is lent to be changed so that one which does is seen.
     pub ring: &'a mut [u8],
     pub destination: &'a mut [u8],

@@ -4,7 +4,7 @@
 use crate::memory::Memory;
 use crate::numbers::Random;
 use crate::sched_inputs::{data, sound_scheduler};
-use oracle::receiver_answers::{FAILURE, Kind, Lent, Part, RECEIVER, STATE};
+use oracle::receiver_answers::{BY_COUNTERS, FAILURE, Kind, Lent, Part, STATE};
 use oracle::scripted_socket::Answer;
 
 const M: u64 = u64::MAX;
@@ -23,8 +23,8 @@ const PAST: u64 = 3;
 type Failure = [u64; FAILURE];
 /// The numbers of a state.
 pub type State = [u64; STATE];
-/// The numbers of a receiver.
-pub type Receiver = [u64; RECEIVER];
+/// The numbers of a receiver, without the fill.
+pub type Receiver = [u64; BY_COUNTERS];
 
 /// Errnos that fit, interruption, blocked and the stream's end among them, the five violations, two numbers that
 /// none has, and a kind that none has. Of all but the overflows, 2 and 5, the last two numbers are not looked at.
@@ -83,20 +83,23 @@ impl Input {
     /// Of a ring of length l.
     pub fn random(random: &mut Random, kind: Kind, l: u64) -> Self {
         let scheduler = scheduler(random, l);
-        let ring = ring_length(random, l);
-        let length = chunk_length(random, l);
-        let at_hand = match data(scheduler) {
-            0 => length,
-            data => data,
-        };
-        let destination = destination_length(random, at_hand, ring);
-        let mut memory = Memory::new(random, ring, destination);
-        write_header(random, &mut memory, scheduler[2], length);
+        Self::over(random, kind, scheduler)
+    }
+
+    /// Over this scheduler.
+    pub fn over(random: &mut Random, kind: Kind, scheduler: [u64; 3]) -> Self {
+        let memory = lent_memory(random, scheduler);
         let state = state(random);
         let (pending, issued) = (pending(random), random.next() % 2);
         let receiver = receiver(scheduler, state, pending, issued);
+        Self::of(random, kind, receiver, memory)
+    }
+
+    /// Of this receiver and this memory.
+    pub fn of(random: &mut Random, kind: Kind, receiver: Receiver, memory: Memory) -> Self {
+        let [l, written, read, .., pending, _] = receiver;
         let max_new_fds = pick(random, &[0, 1, 2, 3, M]);
-        let announces = kind == Kind::Read && data(scheduler) == 0;
+        let announces = kind == Kind::Read && data([l, written, read]) == 0;
         Self {
             receiver,
             memory,
@@ -104,6 +107,21 @@ impl Input {
             answers: answers(random, kind, announces.then_some(max_new_fds), pending),
         }
     }
+}
+
+/// The ring, with a header where the next one is read, and a destination.
+pub fn lent_memory(random: &mut Random, scheduler: [u64; 3]) -> Memory {
+    let [l, _, read] = scheduler;
+    let ring = ring_length(random, l);
+    let length = chunk_length(random, l);
+    let at_hand = match data(scheduler) {
+        0 => length,
+        data => data,
+    };
+    let destination = destination_length(random, at_hand, ring);
+    let mut memory = Memory::new(random, ring, destination);
+    write_header(random, &mut memory, read, length);
+    memory
 }
 
 /// Every value of a part of the states' calls; Normal and none also with a failure that is not looked

@@ -2,6 +2,7 @@
 //! readings of the receiver apart, on the Rust.
 
 use crate::receiver_inputs::{Receiver, State, header_into, receiver as at};
+use crate::sched_inputs::data;
 use crate::tally::Tally;
 use oracle::overflow::Violation;
 use oracle::receiver_answers::{Lent, OUTCOME, RECEIVER, RUN_CALLS, STATE_CALLS};
@@ -83,9 +84,10 @@ fn wanted(want: &Want) -> Vec<u64> {
     match want {
         Refused(numbers) => numbers.to_vec(),
         Ended(receiver, outcome, used) => {
-            let [l, _, read, ..] = *receiver;
+            let [l, written, read, behind @ ..] = receiver;
             let places = (0..outcome[1]).map(|i| (read + 2 * l - outcome[1] + i) % l);
-            let numbers = [&[0], &receiver[..], outcome, &[*used]].concat();
+            let scheduler = [*l, *written, *read, data([*l, *written, *read])];
+            let numbers = [&[0], &scheduler[..], behind, outcome, &[*used]].concat();
             numbers.into_iter().chain(places).collect()
         }
     }

@@ -88,7 +88,9 @@ fn print_head() {
         "#   of the others receiver, outcome, how many answers were used; of a read then also every byte"
     );
     println!("#   of the destination. Before the call each is {BEFORE}, and after a refusal still");
-    println!("# scheduler: L written read");
+    println!(
+        "# scheduler: L written read; in an answer its fill behind them, the Rust's data_avail"
+    );
     println!(
         "# failure: 0, an errno and two numbers that are not looked at, in an answer 0; or 1, a"
     );

@@ -11,6 +11,7 @@ const M: u64 = u64::MAX;
 /// The greatest buffer.
 const H: u64 = 1 << 63;
 const LENGTHS: [u64; 5] = [0, 1, 3, 4, M];
+const COUNTERS: [u64; 6] = [0, 7, 10, 13, 19, 20];
 
 /// The sound ones empty, partly filled and full, in one piece and come round; then each refusal.
 pub const SCHEDULERS: [[u64; 3]; 22] = [
@@ -74,9 +75,9 @@ pub fn run() -> bool {
 fn chosen(part: Part) -> Vec<Vec<u64>> {
     match part {
         Part::Length => edges().into_iter().map(|l| vec![l]).collect(),
-        Part::Scheduler => SCHEDULERS.iter().map(|s| s.to_vec()).collect(),
+        Part::Counters | Part::Scheduler => SCHEDULERS.iter().map(|s| s.to_vec()).collect(),
         Part::List => LISTS.iter().map(|list| list.to_vec()).collect(),
-        _ => values(part, 10, &[], &LENGTHS),
+        _ => values(part, 10, &COUNTERS, &LENGTHS),
     }
 }
 
@@ -96,14 +97,18 @@ fn print_head() {
     println!("# layout: 0 DataFreeData, 1 FreeDataFree; fill state: 0 Empty, 1 Partial, 2 Full");
     println!("# where a type, a no or different is taken, all but 0 stands for 1");
     println!(
-        "# scheduler: L written read; block: type no offset length; operation: type offset length"
+        "# scheduler: L written read; in an answer its fill behind them, the Rust's data_avail"
     );
+    println!("# block: type no offset length; operation: type offset length");
     println!("# list: the count and each operation, with its start or its start and end before it");
     println!("# what is scheduled: the count, one place (next operation) or two (list), each an");
     println!("# operation or 0 0 0, and what is left over of n. The Rust does not answer that:");
     println!("# it is n less the lengths of its operations");
     println!("# where a list is taken, a count above 1 stands for two; only so many are looked at");
     println!("# diff: 0 for Same, 1 for Different, then old and new");
+    println!(
+        "# op 59 is not in sched.rs: its counters before and after are what op 2 is asked for"
+    );
 }
 
 fn takes(call: &Call) -> String {

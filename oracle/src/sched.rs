@@ -2,7 +2,7 @@
 
 use crate::numbers::{Random, around};
 use crate::sched_inputs::{Case, inputs, values};
-use crate::stripring::{NumberCall, sched_calls};
+use crate::stripring::{NumberCall, handed, sched_calls};
 use crate::tally::Tally;
 use oracle::sched_answers::{CALLS, Call, Numbers, Part, row};
 
@@ -86,7 +86,11 @@ fn compare_all(tally: &mut Tally, pairs: &[Pair], values: impl Fn(Part) -> Vec<V
 
 fn compare(tally: &mut Tally, (call, ours): &Pair, input: &Numbers) {
     let wanted = row(&(call.answer)(&input.all));
-    tally.compare([wanted, ours(&input.all)], || {
+    let answer = match call.takes {
+        [Part::Scheduler, ..] => ours(&handed(&input.all)),
+        _ => ours(&input.all),
+    };
+    tally.compare([wanted, answer], || {
         format!("{} {:?}", call.name, input.used())
     });
 }

@@ -3,6 +3,9 @@
 //! Enums are numbers, in the order in which sched.rs declares them: a type of operation 0 Read,
 //! 1 Write; of block 0 Free, 1 Data; a block's number 0 Zero, 1 One; a layout 0 DataFreeData,
 //! 1 FreeDataFree; a fill state 0 Empty, 1 Partial, 2 Full. In an input all but 0 stands for 1.
+//!
+//! A scheduler is L, written and read; in an answer its fill stands behind them, which is what the Rust
+//! works out anew.
 
 use crate::rosenpass::sched::{
     Bit, Block, BlockType, Diff, OperationType, RingBufferFromCountersError, RingBufferNewError,
@@ -24,6 +27,8 @@ pub struct Call<P: 'static = Part> {
 #[derive(Clone, Copy)]
 pub enum Part {
     Length,
+    /// Those that a scheduler is made of.
+    Counters,
     Scheduler,
     Type,
     Amount,
@@ -39,7 +44,7 @@ impl Part {
     pub fn numbers(self) -> &'static str {
         match self {
             Part::Length => "L",
-            Part::Scheduler => "L written read",
+            Part::Counters | Part::Scheduler => "L written read",
             Part::Type => "type",
             Part::Amount => "n",
             Part::Counter => "counter",
@@ -53,7 +58,7 @@ impl Part {
 }
 
 /// The most numbers that a call takes or answers.
-pub const MOST: usize = 18;
+pub const MOST: usize = 19;
 
 /// The numbers of what a call takes, one part after the other; the rest is 0.
 pub type Input = [u64; MOST];
@@ -127,8 +132,10 @@ pub const fn call<P>(
 // What the calls take; S is the scheduler.
 const NOTHING: &[Part] = &[];
 pub const LENGTH: &[Part] = &[Part::Length];
+pub const COUNTERS: &[Part] = &[Part::Counters];
 pub const S: &[Part] = &[Part::Scheduler];
 const S_TYPE: &[Part] = &[Part::Scheduler, Part::Type];
+const S_TYPE_COUNTER: &[Part] = &[Part::Scheduler, Part::Type, Part::Counter];
 const S_AMOUNT: &[Part] = &[Part::Scheduler, Part::Amount];
 const S_TYPE_AMOUNT: &[Part] = &[Part::Scheduler, Part::Type, Part::Amount];
 const S_OPERATION: &[Part] = &[Part::Scheduler, Part::Operation];
@@ -141,10 +148,10 @@ const DIFF: &[Part] = &[Part::Diff];
 
 /// A call's place here is its number in the recorded list.
 #[rustfmt::skip]
-pub const CALLS: [Call; 59] = [
+pub const CALLS: [Call; 60] = [
     call("scheduler_max_buf_len", NOTHING, |_| flat(RingBufferScheduler::MAX_BUF_LEN)),
     call("scheduler_try_new", LENGTH, |i| flat(RingBufferScheduler::try_new(i[0])?)),
-    call("scheduler_try_from_counters", S, |i| flat(s(i)?)),
+    call("scheduler_try_from_counters", COUNTERS, |i| flat(s(i)?)),
     // Private in sched.rs, where it is what try_from_counters tests.
     call("scheduler_demand_soundness", S, |i| flat(s(i)?)),
 
@@ -209,10 +216,22 @@ pub const CALLS: [Call; 59] = [
     call("diff_is_different", DIFF, |i| flat(diff(i).is_different())),
     call("diff_old_value", DIFF, |i| flat(diff(i).old_value())),
     call("diff_new_value", DIFF, |i| flat(diff(i).new_value())),
+
+    call("scheduler_try_with_counter", S_TYPE_COUNTER, with_counter),
 ];
 
 pub fn s(i: &[u64]) -> Result<RingBufferScheduler, Refusal> {
     Ok(RingBufferScheduler::try_from_counters(i[0], i[1], i[2])?)
+}
+
+/// Not in sched.rs: the counters before and those after are made a scheduler by it.
+fn with_counter(i: &Input) -> Answer {
+    let [l, written, read, _, new, ..] = *i;
+    s(i)?;
+    flat(match typ(i) {
+        OperationType::Read => s(&[l, written, new])?,
+        OperationType::Write => s(&[l, new, read])?,
+    })
 }
 
 /// The type that follows the scheduler.

@@ -41,9 +41,11 @@ impl Flat for BufferLayout {
     }
 }
 
+/// Its fill too, which the Rust holds nowhere: it is the data that the Rust works out.
 impl Flat for RingBufferScheduler {
     fn push_to(self, numbers: &mut Numbers) {
         numbers.push(&[self.buf_len(), self.items_written(), self.items_read()]);
+        numbers.push(&[self.data_avail()]);
     }
 }
 

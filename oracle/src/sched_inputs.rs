@@ -30,7 +30,7 @@ pub fn values(part: Part, l: u64, counters: &[u64], lengths: &[u64]) -> Vec<Vec<
     let offsets = &[l.wrapping_add(1)];
     match part {
         Part::Length => tuples(&[&[l]]),
-        Part::Scheduler => tuples(&[&[l], counters, counters]),
+        Part::Counters | Part::Scheduler => tuples(&[&[l], counters, counters]),
         Part::Type => tuples(&[bits]),
         Part::Amount => tuples(&[lengths]),
         Part::Counter => tuples(&[counters]),
@@ -73,6 +73,11 @@ impl Case {
             0 => any_scheduler(random, l),
             _ => sound_scheduler(random, l.wrapping_sub(1) % MAX_BUF_LEN + 1),
         };
+        Self::over(random, scheduler)
+    }
+
+    /// With this scheduler.
+    pub fn over(random: &mut Random, scheduler: [u64; 3]) -> Self {
         Self {
             scheduler,
             counter: [counter(random, scheduler)],
@@ -94,7 +99,7 @@ impl Case {
     fn part(&self, part: Part) -> &[u64] {
         match part {
             Part::Length => &self.scheduler[..1],
-            Part::Scheduler => &self.scheduler,
+            Part::Counters | Part::Scheduler => &self.scheduler,
             Part::Type => &self.operation[..1],
             Part::Amount => &self.operation[2..],
             Part::Counter => &self.counter,

@@ -1,7 +1,19 @@
 //! The static library's calls. Each is total, so each is safe to call.
 
+mod in_place;
+mod record;
+mod runs;
+
+pub use in_place::{
+    LentCopyCall, LentTakeCall, READ_IN_PLACE, TAKE_READ_IN_PLACE, TAKE_WRITTEN_IN_PLACE,
+    WRITE_IN_PLACE,
+};
+pub use record::{handed, handed_lent, lent_over, record_of, with_record};
+pub use runs::{CALL, CallNumbers, RunCall, STEP, StepNumbers, answered, begin, run_calls};
+
+use oracle::fill_model::Record;
 use oracle::planner_model::Image;
-use oracle::receiver_answers::{FAILURE, Kind, Lent, RECEIVER, STATE};
+use oracle::receiver_answers::{FAILURE, RECEIVER, SCHEDULER, STATE};
 use oracle::sched_answers::{Input, Row};
 
 /// `some` is 1 with the value, or 0 with the value 0.
@@ -61,7 +73,7 @@ impl From<Option<u64>> for OptionNumber {
 #[repr(C)]
 struct Flat<const N: usize>([u64; N]);
 
-type Scheduler = Flat<3>;
+type Scheduler = Flat<SCHEDULER>;
 type Operation = Flat<3>;
 type Operations = Flat<7>;
 type Diff = Flat<3>;
@@ -147,9 +159,9 @@ macro_rules! number_calls {
 
 number_calls! { sched_calls:
     scheduler_max_buf_len() -> u64;
-    scheduler_try_new(u64) -> Answer<7>;
-    scheduler_try_from_counters(u64, u64, u64) -> Answer<7>;
-    scheduler_demand_soundness(Scheduler) -> Answer<7>;
+    scheduler_try_new(u64) -> Answer<8>;
+    scheduler_try_from_counters(u64, u64, u64) -> Answer<8>;
+    scheduler_demand_soundness(Scheduler) -> Answer<8>;
     scheduler_items_read(Scheduler) -> Answer<5>;
     scheduler_items_written(Scheduler) -> Answer<5>;
     scheduler_read_off(Scheduler) -> Answer<5>;
@@ -184,13 +196,13 @@ number_calls! { sched_calls:
     scheduler_schedule_next_write(Scheduler, u64) -> Answer<9>;
     scheduler_schedule_reads(Scheduler, u64) -> Answer<12>;
     scheduler_schedule_writes(Scheduler, u64) -> Answer<12>;
-    scheduler_try_register_read(Scheduler, u64) -> Answer<7>;
-    scheduler_try_register_write(Scheduler, u64) -> Answer<7>;
+    scheduler_try_register_read(Scheduler, u64) -> Answer<8>;
+    scheduler_try_register_write(Scheduler, u64) -> Answer<8>;
     scheduler_schedule_next_contiguous_operation(Scheduler, u64, u64) -> Answer<9>;
     scheduler_schedule_contiguous_operations(Scheduler, u64, u64) -> Answer<12>;
-    scheduler_try_register_operation_manually(Scheduler, u64, u64) -> Answer<7>;
-    scheduler_try_register_operation(Scheduler, Operation) -> Answer<7>;
-    scheduler_try_register_operations(Scheduler, Operations) -> Answer<7>;
+    scheduler_try_register_operation_manually(Scheduler, u64, u64) -> Answer<8>;
+    scheduler_try_register_operation(Scheduler, Operation) -> Answer<8>;
+    scheduler_try_register_operations(Scheduler, Operations) -> Answer<8>;
     operations_try_new(Operations) -> Answer<11>;
     operations_container(Operations) -> Answer<11>;
     operations_into_container(Operations) -> Answer<11>;
@@ -205,26 +217,27 @@ number_calls! { sched_calls:
     diff_is_different(Diff) -> bool;
     diff_old_value(Diff) -> u64;
     diff_new_value(Diff) -> u64;
+    scheduler_try_with_counter(Scheduler, u64, u64) -> Answer<8>;
 }
 
 type End = Scheduler;
 type Counter = Flat<1>;
 
 number_calls! { end_calls:
-    writing_end_new(u64) -> Answer<7>;
-    writing_end_from_counters(u64, u64, u64) -> Answer<7>;
-    writing_end_from_scheduler(Scheduler) -> Answer<7>;
+    writing_end_new(u64) -> Answer<8>;
+    writing_end_from_counters(u64, u64, u64) -> Answer<8>;
+    writing_end_from_scheduler(Scheduler) -> Answer<8>;
     writing_end_send(End) -> Answer<5>;
-    writing_end_take(End, Counter) -> Answer<7>;
-    reading_end_new(u64) -> Answer<7>;
-    reading_end_from_counters(u64, u64, u64) -> Answer<7>;
-    reading_end_from_scheduler(Scheduler) -> Answer<7>;
+    writing_end_take(End, Counter) -> Answer<8>;
+    reading_end_new(u64) -> Answer<8>;
+    reading_end_from_counters(u64, u64, u64) -> Answer<8>;
+    reading_end_from_scheduler(Scheduler) -> Answer<8>;
     reading_end_send(End) -> Answer<5>;
-    reading_end_take(End, Counter) -> Answer<7>;
+    reading_end_take(End, Counter) -> Answer<8>;
 }
 
 /// The library's answer to a scheduler or an end, a ring, and a source or a destination.
-pub type CopyCall = fn([u64; 3], &mut [u8], &mut [u8]) -> Row;
+pub type CopyCall = fn(Record, &mut [u8], &mut [u8]) -> Row;
 
 /// Declares calls that copy, and makes a table of their names without `stripring_`, of whether they write into the ring, and
 /// of their answers.
@@ -234,13 +247,13 @@ macro_rules! copy_calls {
             unsafe extern "C" {
                 $(
                     #[link_name = concat!("stripring_", stringify!($name))]
-                    fn $name(_: Scheduler, _: *mut u8, _: usize, _: *mut u8, _: usize) -> Answer<9>;
+                    fn $name(_: Scheduler, _: *mut u8, _: usize, _: *mut u8, _: usize) -> Answer<10>;
                 )*
             }
-            vec![$((stringify!($name), $writes, |scheduler, ring, other| {
+            vec![$((stringify!($name), $writes, |record, ring, other| {
                 let (r, o) = (ring.as_mut_ptr(), other.as_mut_ptr());
                 // SAFETY: two slices that do not overlap, each with its length.
-                unsafe { $name(Flat(scheduler), r, ring.len(), o, other.len()) }.row()
+                unsafe { $name(Flat(record), r, ring.len(), o, other.len()) }.row()
             })),*]
         }
     };
@@ -258,7 +271,7 @@ type State = Flat<STATE>;
 type Receiver = Flat<RECEIVER>;
 
 number_calls! { state_calls:
-    receiver_new(Scheduler) -> Answer<14>;
+    receiver_new(Scheduler) -> Answer<15>;
     state_failure(State) -> Answer<9>;
     state_with_failure(State, Failure) -> Answer<9>;
     state_with_potential_failure(State, u64, Failure) -> Answer<9>;
@@ -266,100 +279,6 @@ number_calls! { state_calls:
     state_advance_state_towards_termination(State, State) -> Answer<9>;
     failure_normalize(Failure) -> Answer<8>;
     failure_advance_failure_towards_error(Failure, Failure) -> Answer<8>;
-}
-
-/// The library's answer to what is lent to a call over a run of the socket's answers.
-pub type RunCall = fn(Lent) -> Row;
-
-/// Declares such calls, of which the first take a ring and a destination, and makes a table of their
-/// names without `stripring_` and of their answers.
-macro_rules! run_calls {
-    (reading: $($read:ident)*; others: $($other:ident)*;) => {
-        pub fn run_calls() -> Vec<(&'static str, RunCall)> {
-            unsafe extern "C" {
-                $(
-                    #[link_name = concat!("stripring_", stringify!($read))]
-                    fn $read(
-                        _: Receiver, _: *const u8, _: usize, _: *mut u8, _: usize,
-                        max_new_fds: u64, _: *const [u64; 3], _: usize,
-                    ) -> Answer<22>;
-                )*
-                $(
-                    #[link_name = concat!("stripring_", stringify!($other))]
-                    fn $other(_: Receiver, _: *const [u64; 3], _: usize) -> Answer<22>;
-                )*
-            }
-            vec![
-                $((stringify!($read), |lent| {
-                    let Lent { receiver, ring, destination, max_new_fds, answers } = lent;
-                    let (r, d, a) = (ring.as_mut_ptr(), destination.as_mut_ptr(), answers.as_ptr());
-                    // SAFETY: three slices that do not overlap, each with its length.
-                    unsafe {
-                        $read(
-                            Flat(receiver), r, ring.len(), d, destination.len(),
-                            max_new_fds, a, answers.len(),
-                        )
-                    }.row()
-                }),)*
-                $((stringify!($other), |lent| {
-                    let Lent { receiver, answers, .. } = lent;
-                    // SAFETY: a slice with its length.
-                    unsafe { $other(Flat(receiver), answers.as_ptr(), answers.len()) }.row()
-                }),)*
-            ]
-        }
-    };
-}
-
-/// A call in progress: the receiver, the scheduler that a read copies its bytes by, and the phase.
-pub type CallNumbers = [u64; 32];
-
-/// What a call of the machine answers: the refusal, and the call.
-pub type StepNumbers = [u64; 36];
-
-type CallInProgress = Flat<32>;
-type SocketAnswer = Flat<3>;
-type Step = Answer<36>;
-
-unsafe extern "C" {
-    safe fn stripring_call_begin_read(
-        _: Receiver,
-        ring_len: usize,
-        max_new_fds: u64,
-        dst_len: u64,
-    ) -> Step;
-    safe fn stripring_call_begin_service(_: Receiver) -> Step;
-    safe fn stripring_call_begin_shutdown(_: Receiver) -> Step;
-    fn stripring_call_answered(
-        _: CallInProgress,
-        _: *const u8,
-        _: usize,
-        _: SocketAnswer,
-        place: u64,
-    ) -> Step;
-}
-
-/// Begins what a call over a run does at once; of the answers nothing is looked at.
-pub fn begin(kind: Kind, lent: Lent) -> StepNumbers {
-    let receiver = Flat(lent.receiver);
-    match kind {
-        Kind::Read => {
-            let (ring_len, dst_len) = (lent.ring.len(), lent.destination.len() as u64);
-            stripring_call_begin_read(receiver, ring_len, lent.max_new_fds, dst_len).0
-        }
-        Kind::Service => stripring_call_begin_service(receiver).0,
-        Kind::Shutdown => stripring_call_begin_shutdown(receiver).0,
-    }
-}
-
-pub fn answered(call: CallNumbers, ring: &[u8], answer: [u64; 3], place: u64) -> StepNumbers {
-    // SAFETY: a slice with its length.
-    unsafe { stripring_call_answered(Flat(call), ring.as_ptr(), ring.len(), Flat(answer), place).0 }
-}
-
-run_calls! {
-    reading: receiver_read_with_fds receiver_read_with_fds_impl;
-    others: receiver_service_chunk_acknowledgements receiver_shutdown;
 }
 
 unsafe extern "C" {

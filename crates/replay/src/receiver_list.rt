@@ -82,6 +82,7 @@ fn made(line: &[u64], a: ReceiverAnswer) -> bool {
             s.buf_len,
             s.items_written,
             s.items_read,
+            s.fill,
             state.kind,
             f.kind,
             f.value,

@@ -83,7 +83,7 @@ fn ended(line: &[u64], from: usize, a: EndedAnswer, dst: &[u8]) -> bool {
     if a.refusal.number != 0 {
         return told(line, from, a);
     }
-    let bytes_at = least(after(from, 19) as u64, line.len());
+    let bytes_at = least(after(from, 20) as u64, line.len());
     told(&line[0..bytes_at], from, a) && ends_in_bytes(line, bytes_at, dst)
 }
 
@@ -97,6 +97,7 @@ fn told(line: &[u64], from: usize, a: EndedAnswer) -> bool {
             a.receiver.scheduler.buf_len,
             a.receiver.scheduler.items_written,
             a.receiver.scheduler.items_read,
+            a.receiver.scheduler.fill,
             a.receiver.state.kind,
             a.receiver.state.failure.kind,
             a.receiver.state.failure.value,

@@ -22,7 +22,12 @@ pub fn amount(line: &[u64], from: usize, a: U64Answer) -> bool {
 pub fn scheduler(line: &[u64], from: usize, a: SchedulerAnswer) -> bool {
     let e = a.refusal;
     let s = a.scheduler;
-    answers(line, from, e, &[s.buf_len, s.items_written, s.items_read])
+    answers(
+        line,
+        from,
+        e,
+        &[s.buf_len, s.items_written, s.items_read, s.fill],
+    )
 }
 
 pub fn block(line: &[u64], from: usize, a: BlockAnswer) -> bool {

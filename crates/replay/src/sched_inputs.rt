@@ -5,12 +5,24 @@ use flat::structs::Diff;
 use flat::structs::Operation;
 use flat::structs::Operations;
 use flat::structs::Scheduler;
+use stripring::scheduler::stripring_scheduler_try_from_counters;
 
+// A line has a scheduler's length and counters, and no fill.
 pub fn scheduler_at(line: &[u64]) -> Scheduler {
+    by_counters(at(line, 1), at(line, 2), at(line, 3))
+}
+
+// As a host makes it. Of counters that are refused the fill is 0: their number is told whatever it is.
+fn by_counters(buf_len: u64, items_written: u64, items_read: u64) -> Scheduler {
+    let a = stripring_scheduler_try_from_counters(buf_len, items_written, items_read);
+    if a.refusal.number == 0 {
+        return a.scheduler;
+    }
     Scheduler {
-        buf_len: at(line, 1),
-        items_written: at(line, 2),
-        items_read: at(line, 3),
+        buf_len,
+        items_written,
+        items_read,
+        fill: 0,
     }
 }
 

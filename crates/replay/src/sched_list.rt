@@ -45,18 +45,15 @@ pub fn agrees(line: &[u64]) -> bool {
 }
 
 fn from_0(op: u64, line: &[u64]) -> bool {
+    let a = at(line, 1);
     let s = scheduler_at(line);
     match op {
         0 => number(line, 1, scheduler::stripring_scheduler_max_buf_len()),
-        1 => scheduler(line, 2, scheduler::stripring_scheduler_try_new(s.buf_len)),
+        1 => scheduler(line, 2, scheduler::stripring_scheduler_try_new(a)),
         2 => scheduler(
             line,
             4,
-            scheduler::stripring_scheduler_try_from_counters(
-                s.buf_len,
-                s.items_written,
-                s.items_read,
-            ),
+            scheduler::stripring_scheduler_try_from_counters(a, at(line, 2), at(line, 3)),
         ),
         3 => scheduler(line, 4, scheduler::stripring_scheduler_demand_soundness(s)),
         _ => amount(line, 4, scheduler::stripring_scheduler_items_read(s)),
@@ -231,7 +228,9 @@ fn from_45(op: u64, line: &[u64]) -> bool {
 }
 
 fn from_50(op: u64, line: &[u64]) -> bool {
-    let s = scheduler_at(line);
+    let a = at(line, 1);
+    let b = at(line, 2);
+    let c = at(line, 3);
     match op {
         50 => ranges(
             line,
@@ -239,21 +238,9 @@ fn from_50(op: u64, line: &[u64]) -> bool {
             list::stripring_operations_with_outside_buffer_range(list_at(line, 1)),
         ),
         51 => operation(line, 1, operation::stripring_operation_default()),
-        52 => operation(
-            line,
-            4,
-            operation::stripring_operation_new(s.buf_len, s.items_written, s.items_read),
-        ),
-        53 => block_made(
-            line,
-            5,
-            block::stripring_block_new(s.buf_len, s.items_written, s.items_read, at(line, 4)),
-        ),
-        _ => diff(
-            line,
-            3,
-            diff::stripring_diff_new(s.buf_len, s.items_written),
-        ),
+        52 => operation(line, 4, operation::stripring_operation_new(a, b, c)),
+        53 => block_made(line, 5, block::stripring_block_new(a, b, c, at(line, 4))),
+        _ => diff(line, 3, diff::stripring_diff_new(a, b)),
     }
 }
 
@@ -264,6 +251,14 @@ fn from_55(op: u64, line: &[u64]) -> bool {
         56 => number(line, 4, diff::stripring_diff_is_different(d) as u64),
         57 => number(line, 4, diff::stripring_diff_old_value(d)),
         58 => number(line, 4, diff::stripring_diff_new_value(d)),
-        _ => false,
+        _ => scheduler(
+            line,
+            6,
+            scheduler::stripring_scheduler_try_with_counter(
+                scheduler_at(line),
+                at(line, 4),
+                at(line, 5),
+            ),
+        ),
     }
 }

@@ -8,5 +8,6 @@ pub mod LentRead
 mod LendingScheduler
 pub mod Says
 pub mod Promised
+pub mod PromisedFill
 pub mod PromisedValues
 pub mod PromisedNumber

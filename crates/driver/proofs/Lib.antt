@@ -9,4 +9,5 @@ pub mod Rows
 pub mod Says
 pub mod Promised
 pub mod PromisedSum
+pub mod PromisedFill
 pub mod PromisedRun

@@ -6,6 +6,7 @@ pub mod Shared
 pub mod Plain
 pub mod Says
 pub mod Promised
+pub mod PromisedFill
 pub mod Bridge
 pub mod Witness
 pub mod PromisedValues

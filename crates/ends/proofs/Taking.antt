@@ -1,6 +1,6 @@
 -- Taking a counter: held fills compare as the space of a writing end and the data of a reading end do.
-use Prim.Native.Nat.{ℕ, _<_, _≤_}
-use mathlib.Core.Path.{_≡_, sym, ap, _∙_}
+use Prim.Native.Nat.{_<_, _≤_}
+use mathlib.Core.Path.{_≡_}
 use borrow.Author.Tests.{lt-ltb, le-ltb}
 use native.Mathlib.Omega.{arith}
 use Rattle.operations.specs.declared.counter.Counter.{Counter}

@@ -1,7 +1,7 @@
 -- What the calls do to a record whose counters are positions seen modulo 2L: the positions w and r count all bytes since the
 -- counters stood at c. All arithmetic modulo 2L is here; what is built on it speaks of positions alone.
 use Prim.Native.Nat.{ℕ, _+_, _*_, _-_, _%_, _^_, _≤_, _<_, min}
-use mathlib.Core.Path.{_≡_, refl, sym, ap, _∙_}
+use mathlib.Core.Path.{_≡_, refl}
 use mathlib.Core.List.{List, _++_}
 use native.Mathlib.Nat.{mod-lt, mod-mod, mod-add-mod, mod-mod-of-dvd, dvd-mul-left, add-assoc}
 use native.Mathlib.Omega.{arith}
@@ -9,9 +9,8 @@ use borrow.Author.Tests.{eq-eqb, le-ltb}
 use lib.ListN.{length, take, drop}
 use Rattle.modular.proofs.Laws.{sub-unique, add-is}
 use Rattle.operations.specs.Portion.{portionOf}
-use Rattle.operations.specs.declared.operation.OperationType.the-variants.{Read, Write}
 use Rattle.sched.specs.declared.scheduler.RingBufferScheduler.{RingBufferScheduler}
-use Rattle.sched.specs.Scheduler.{schedulerOf, IsSound, soundOf, dataIn, spaceIn, offsetIn, advancedIn}
+use Rattle.sched.specs.Scheduler.{schedulerOf, IsSound, dataIn, spaceIn}
 use Rattle.sched.proofs.Laws.{sound-is}
 use Rattle.copies.specs.declared.Copied.the-variants as copied
 use Rattle.copies.specs.Ring.{put, get}

@@ -1,6 +1,6 @@
 // The reading end.
 ghost use mathlib.Core.Path.{_≡_};
-ghost use Rattle.sched.specs.Scheduler.{soundOf, schedulerOf};
+ghost use Rattle.sched.specs.Scheduler.{schedulerOf};
 ghost use Rattle.ends.specs.Ends.{readingEndFrom, readingEndOf, gotLeft, gotOf, readSentOf, takeWrittenOf};
 use crate::refusal::Refusal;
 use crate::writing_end::WrittenCounter;

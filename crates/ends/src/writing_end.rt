@@ -1,6 +1,6 @@
 // The writing end.
 ghost use mathlib.Core.Path.{_≡_};
-ghost use Rattle.sched.specs.Scheduler.{soundOf, schedulerOf};
+ghost use Rattle.sched.specs.Scheduler.{schedulerOf};
 ghost use Rattle.ends.specs.Ends.{writingEndFrom, writingEndOf, wroteLeft, wroteOf, writtenSentOf, takeReadOf};
 use crate::reading_end::ReadCounter;
 use crate::refusal::Refusal;

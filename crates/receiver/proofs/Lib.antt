@@ -20,3 +20,4 @@ pub mod HandedSum
 pub mod PromisedCalls
 pub mod PromisedMachine
 pub mod PromisedOverflow
+pub mod PromisedFill

@@ -17,7 +17,7 @@ use Rattle.copies.specs.declared.Ready.the-variants as ready
 use Rattle.copies.specs.declared.refusal.Refusal.the-variants.{Scheduler, RingMemory}
 use Rattle.copies.specs.Ring.{put, get}
 
--- 1 to 5, then 9 where the lent ring memory is not L bytes
+-- 1 to 5 and 20, then 9 where the lent ring memory is not L bytes
 unfoldable pub readyFrom : ℕ → Checked → Ready
 readyFrom n (checked.Sound s) = cond (eqb n (s .«buf_len»)) (ready.Sound s) (ready.Refused RingMemory)
 readyFrom n (checked.Refused e) = ready.Refused (Scheduler e)

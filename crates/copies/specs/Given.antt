@@ -1,4 +1,4 @@
--- The paper's table of the numbers that refuse a copy: when each is given, and with which values. 1 to 5 are the scheduler's,
+-- The paper's table of the numbers that refuse a copy: when each is given, and with which values. 1 to 5 and 20 are the scheduler's,
 -- then comes 9, and there is no other.
 use Prim.Native.Nat.{ℕ, _<_}
 use mathlib.Core.Path.{_≡_}

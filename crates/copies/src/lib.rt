@@ -40,7 +40,7 @@ pub enum Copied {
     Refused(Refusal),
 }
 
-// 1 to 5, then 9.
+// 1 to 5 and 20, then 9.
 pub fn demand_ring_memory(scheduler: RingBufferScheduler, ring_len: usize) -> Ready
     ensures { λ r. ⌜ r ≡ readyOf scheduler «ring_len» ⌝ }
 {
@@ -55,7 +55,7 @@ pub fn demand_ring_memory(scheduler: RingBufferScheduler, ring_len: usize) -> Re
     }
 }
 
-// Moves the first bytes of `src` into the ring, as many as there is space for: 1 to 5, then 9, and then it is not refused any more.
+// Moves the first bytes of `src` into the ring, as many as there is space for: 1 to 5 and 20, then 9, and then it is not refused any more.
 pub fn write(scheduler: RingBufferScheduler, ring: &mut [u8], src: &[u8]) -> Copied
     ensures { λ r. ⌜ left r (now (ring .exit)) ≡ writeOf scheduler (now (ring .entry)) (now (src .entry)) ⌝ }
 {

@@ -63,7 +63,7 @@ a-refused-answer-leaves-the-call :
 unfolding flushCall readyFrom countedOf soundOf subMod addMod fitsErrno interruptedOf sentOf
 a-refused-answer-leaves-the-call = (refl, refl, refl, refl, refl)
 
--- 1 to 5, then 12 with place 0, in every phase
+-- 1 to 5 and 20, then 12 with place 0, in every phase
 an-answer-tests-the-record-anew :
     (answeredOf (waits (ring 10 11 0) (Draining (Io 5000)) 3 (Send 3 (telling doneOutcome))) [] (sends 3) 1 ≡
     Refused (Copy (Scheduler (DataAvailOutOfBounds 10 (record { 0 = 11 }) (record { 0 = 0 }))))) ×

@@ -64,7 +64,7 @@ retries-promised κs a z p =
     let k = retries-by (a .0 .phase) (a .1 .0) in
     ((λ h. k .0 (sym e ∙ h)), (λ w h. e ∙ k .1 w h))
 
--- ---- a new receiver: 1 to 5, then this scheduler, normal, with nothing pending, not shut down
+-- ---- a new receiver: 1 to 5 and 20, then this scheduler, normal, with nothing pending, not shut down
 module _ (s : RingBufferScheduler) where
   abbrev Fresh : ReceiverAnswer → Type 0
   Fresh (made.Of q) = (q .scheduler ≡ s) × (q .state ≡ Normal) × (q .«pending_ack_count» ≡ 0) × (q .«notification_socket_shutdown_issued» ≡ false)

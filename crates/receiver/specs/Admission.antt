@@ -1,4 +1,4 @@
--- The tests before every call of the receiver: 1 to 5, then 9 where the ring is looked at, then 12 with place 0 where a stored errno
+-- The tests before every call of the receiver: 1 to 5 and 20, then 9 where the ring is looked at, then 12 with place 0 where a stored errno
 -- does not fit.
 use mathlib.Core.Bool.{Bool, true, false}
 use Rattle.sched.specs.declared.scheduler.Checked.{Checked}
@@ -17,7 +17,7 @@ use Rattle.receiver.specs.declared.admission.Memory.the-variants.{Of, No
 use Rattle.receiver.specs.declared.receiver.ReceiverState.{ReceiverState}
 use Rattle.states.specs.declared.refusal.Refusal.the-variants.{Copy, Misfit}
 
--- 1 to 5
+-- 1 to 5 and 20
 abbrev pub soundReady : Checked → Ready
 soundReady (checked.Sound s) = ready.Sound s
 soundReady (checked.Refused e) = ready.Refused (Scheduler e)

@@ -271,7 +271,7 @@ abbrev pub answeredFrom : Step → List ℕ → Answer → ℕ → Step
 answeredFrom (step.Of c) ring a place = steppedOf c ring a place
 answeredFrom (step.Refused r) ring a place = step.Refused r
 
--- 1 to 5, 9 where the ring is looked at, 12 with place 0, as of every call
+-- 1 to 5, 20, 9 where the ring is looked at, 12 with place 0, as of every call
 abbrev pub answeredOf : Call → List ℕ → Answer → ℕ → Step
 answeredOf c ring a place =
     admittedStep (admissionOf (c .receiver) (looksAt (c .phase) a (length ring))) (answeredFrom (resumedOf c) ring a place)

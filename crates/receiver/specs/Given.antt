@@ -1,4 +1,4 @@
--- The paper's table of the numbers that refuse a call of the receiver: when each is given, and with which values. 1 to 5 are the
+-- The paper's table of the numbers that refuse a call of the receiver: when each is given, and with which values. 1 to 5 and 20 are the
 -- scheduler's, 9 is given where the ring is looked at, then 12 with place 0, and then what a call can have beside.
 use Prim.Native.Nat.{ℕ, _-_, _^_, _<_}
 use mathlib.Core.Path.{_≡_}
@@ -32,7 +32,7 @@ use Rattle.states.specs.declared.state.OperationalState.{OperationalState}
 use Rattle.states.specs.declared.state.OperationalState.the-variants.{Normal, Draining, Terminated}
 
 -- ---- before every call
--- 1 to 5; and 9, of a ring of so many bytes that is looked at
+-- 1 to 5 and 20; and 9, of a ring of so many bytes that is looked at
 abbrev pub GivenRing : RingBufferScheduler → Memory → ℕ → List ℕ → Type 0
 GivenRing s memory.None = Given s
 GivenRing s (memory.Of n) = GivenCopy s n

@@ -67,7 +67,7 @@ abbrev pub failedOutcome : Failure → Outcome
 failedOutcome f = record { came = came.Failed f; beside = noneBeside }
 
 -- ---- making one
--- 1 to 5, then a stream that is normal, with nothing pending
+-- 1 to 5 and 20, then a stream that is normal, with nothing pending
 abbrev pub receiverFrom : Checked → ReceiverAnswer
 receiverFrom (checked.Sound s) = made.Of (receiver s Normal 0 false)
 receiverFrom (checked.Refused e) = made.Refused (Copy (Scheduler e))

@@ -1,4 +1,4 @@
-// The tests before every call of the receiver: 1 to 5, then 9 where the ring is looked at, then 12 with place 0.
+// The tests before every call of the receiver: 1 to 5 and 20, then 9 where the ring is looked at, then 12 with place 0.
 ghost use mathlib.Core.Path.{_≡_};
 ghost use Rattle.receiver.specs.Admission.{readyWith, admissionOf};
 use crate::receiver::ReceiverState;

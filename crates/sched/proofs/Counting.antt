@@ -4,7 +4,7 @@ use mathlib.Core.Path.{_≡_, refl, sym, ap, subst, _∙_}
 use mathlib.Core.Logic.{⊎-elim}
 use native.Mathlib.Nat.{mod-eq-of-lt, mod-lt, mod-mod}
 use native.Mathlib.Omega.{arith}
-use Rattle.modular.proofs.Laws.{sub-back, sub-unique, sub-of-sum, sub-to-sum, add-is, lt-or-le}
+use Rattle.modular.proofs.Laws.{sub-back, sub-unique, lt-or-le}
 use Rattle.operations.specs.declared.list.OperationsAnswer.{OperationsAnswer}
 use Rattle.operations.specs.declared.list.OperationsAnswer.the-variants as operations
 use Rattle.operations.specs.declared.list.ScheduledOperations.{ScheduledOperations}

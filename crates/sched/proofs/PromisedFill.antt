@@ -2,7 +2,6 @@
 -- refuses it, 20 among them. One that is built of counters holds these, and is refused as they are.
 use Prim.Native.Nat.{ℕ}
 use mathlib.Core.Path.{_≡_, refl, sym, ap, subst, _∙_}
-use mathlib.Core.List.{List}
 use native.Mathlib.Omega.{arith}
 use Rattle.modular.proofs.Saying.{Keeps}
 use Rattle.operations.specs.Given.{numberIn}
@@ -18,7 +17,7 @@ use Rattle.sched.specs.declared.scheduler.Checked.{Checked}
 use Rattle.sched.specs.declared.scheduler.Checked.the-variants as checked
 use Rattle.sched.specs.declared.scheduler.RingBufferScheduler.{RingBufferScheduler}
 use Rattle.sched.specs.Counter.{dataOf}
-use Rattle.sched.specs.Given.{Given, Passes, ofChecked}
+use Rattle.sched.specs.Given.{Passes, ofChecked}
 use Rattle.sched.specs.Promise.{Taken, Built, Replaced, MovedBy, MovedByList, by-none, by-one, by-two}
 use Rattle.sched.specs.Scheduler.{recordOf, schedulerOf, Counted, IsSound, soundOf, dataIn, withCounterOf, registerOf, moveIn, moveOf}
 use Rattle.sched.proofs.Counting.{taken-sound, sound-taken, registered-moved, list-moved}

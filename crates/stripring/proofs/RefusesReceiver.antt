@@ -1,4 +1,4 @@
--- "Given exactly when", 1 to 5, 9 and 11 to 13, of every export of the receiver, of a call in progress, and of states and failures:
+-- "Given exactly when", 1 to 5, 20, 9 and 11 to 13, of every export of the receiver, of a call in progress, and of states and failures:
 -- whatever its attached contract allows carries a refusal exactly when the table gives it, of what the host's numbers stand for.
 use Prim.Native.Nat.{ℕ}
 use mathlib.Core.Path.{_≡_, refl, sym, subst, _∙_}

@@ -50,6 +50,9 @@ any-bits =
       operations = λ o. refl;
       besides = λ o. refl;
       endings = λ e. refl;
+      schedulers = λ s. (refl, refl, refl, refl);
+      writing-ends = λ e. (refl, refl, refl, refl);
+      reading-ends = λ e. (refl, refl, refl, refl);
       receivers = λ r. ((refl, refl, refl, refl), refl, refl, refl);
       calls = λ c. (refl, (refl, refl, refl, refl), refl);
     }

@@ -20,8 +20,11 @@ use Rattle.flat.specs.List.{operationsAt}
 use Rattle.flat.specs.Operation.{typeAt, operationAt}
 use Rattle.flat.specs.Outcome.{outcomeAt}
 use Rattle.flat.specs.Receiver.{yesAt, receiverAt}
-use Rattle.flat.specs.Stands.{SchedulerStands, FailureRead}
+use Rattle.flat.specs.ReadingEnd.{readingEndAt}
+use Rattle.flat.specs.Scheduler.{schedulerAt}
+use Rattle.flat.specs.Stands.{SchedulerStands, WritingEndStands, ReadingEndStands, FailureRead}
 use Rattle.flat.specs.State.{stateAt}
+use Rattle.flat.specs.WritingEnd.{writingEndAt}
 use Rattle.flat.specs.declared.structs.Call.{Call}
 use Rattle.flat.specs.declared.structs.Diff.{Diff}
 use Rattle.flat.specs.declared.structs.Ending.{Ending}
@@ -30,8 +33,11 @@ use Rattle.flat.specs.declared.structs.Operation.{Operation}
 use Rattle.flat.specs.declared.structs.Operations.{Operations}
 use Rattle.flat.specs.declared.structs.Outcome.{Outcome}
 use Rattle.flat.specs.declared.structs.Phase.{Phase}
+use Rattle.flat.specs.declared.structs.ReadingEnd.{ReadingEnd}
 use Rattle.flat.specs.declared.structs.Receiver.{Receiver}
+use Rattle.flat.specs.declared.structs.Scheduler.{Scheduler}
 use Rattle.flat.specs.declared.structs.State.{State}
+use Rattle.flat.specs.declared.structs.WritingEnd.{WritingEnd}
 
 -- of two, 0 is the first and any other number the second
 abbrev pub OfTwo : {A : Type 0} → (ℕ → A) → A → A → Type 0
@@ -62,6 +68,9 @@ pub record AnyBits : Type 0 where
   pub operations : (o : Operation) → operationAt o ≡ record { typ = typeAt (o .typ); off = record { 0 = o .off }; len = o .len }
   pub besides : (o : Outcome) → outcomeAt o .beside ≡ record { fds = o .fds }
   pub endings : (e : Ending) → endingAt e ≡ record { outcome = outcomeAt (e .outcome); told = yesAt (e .told) }
+  pub schedulers : (s : Scheduler) → SchedulerStands s (schedulerAt s)
+  pub writing-ends : (e : WritingEnd) → WritingEndStands e (writingEndAt e)
+  pub reading-ends : (e : ReadingEnd) → ReadingEndStands e (readingEndAt e)
   pub receivers : (r : Receiver) →
       SchedulerStands (r .scheduler) (receiverAt r .scheduler) × (receiverAt r .state ≡ stateAt (r .state)) × (receiverAt r .«pending_ack_count» ≡ r .«pending_ack_count») ×
       (receiverAt r .«notification_socket_shutdown_issued» ≡ yesAt (r .«notification_socket_shutdown_issued»))

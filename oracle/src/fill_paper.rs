@@ -94,6 +94,7 @@ const CALLED: &[(&str, Record, &[u64], &[u64])] = &[
     ("scheduler_data_avail", [10, 7, 3, 5], &[], &[20]),
     ("scheduler_data_avail", [10, 7, 3, 4], &[], &[0, 4]),
     ("scheduler_data_avail", [10, 11, 0, 11], &[], &[5, 10, 11, 0]),
+    ("scheduler_data_avail", [10, 11, 0, 4], &[], &[5, 10, 11, 0]),
 
     // The fill is by 2L: full and empty are two, and the space is another number.
     ("scheduler_demand_soundness", [10, 10, 0, 10], &[], &[0, 10, 10, 0, 10]),

@@ -32,7 +32,7 @@ module _ (s : RingBufferScheduler) (ring bytes : List ℕ) where
   reads-hold _ _ _ (promise.Reads.moves p after memory e l m c o) = passes after (moved-sound s Read (p .len) after m)
 
 -- ---- of the calls by value
-abbrev HoldingIn : Copied → Type 0
+abbrev pub HoldingIn : Copied → Type 0
 HoldingIn (copied.Moved u p) = Passes u
 HoldingIn (copied.Refused e) = Unit {0}
 

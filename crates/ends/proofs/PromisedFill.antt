@@ -47,19 +47,19 @@ use Rattle.ends.proofs.reading_end.ReadingEnd.read.Reads as read
 use Rattle.ends.proofs.reading_end.ReadingEnd.take.Kinds as takeR-kinds
 use Rattle.ends.proofs.reading_end.ReadingEnd.take.Reads as takeR
 
-abbrev HoldingW : WritingEndAnswer → Type 0
+abbrev pub HoldingW : WritingEndAnswer → Type 0
 HoldingW (writing.Of e) = Passes (e .scheduler)
 HoldingW (writing.Refused r) = Unit {0}
 
-abbrev HoldingR : ReadingEndAnswer → Type 0
+abbrev pub HoldingR : ReadingEndAnswer → Type 0
 HoldingR (reading.Of e) = Passes (e .scheduler)
 HoldingR (reading.Refused r) = Unit {0}
 
-abbrev WroteHolding : Wrote → Type 0
+abbrev pub WroteHolding : Wrote → Type 0
 WroteHolding (wrote.Moved e p) = Passes (e .scheduler)
 WroteHolding (wrote.Refused r) = Unit {0}
 
-abbrev GotHolding : Got → Type 0
+abbrev pub GotHolding : Got → Type 0
 GotHolding (got.Moved e p) = Passes (e .scheduler)
 GotHolding (got.Refused r) = Unit {0}
 

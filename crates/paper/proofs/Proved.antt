@@ -22,6 +22,7 @@ table =
       held-fill-wrong-number = refl;
       held-fill = λ z ws says. says;
       overfull-before-fill = λ z ws says. says;
+      overfull-before-a-wrong-fill = λ z ws says. says;
       fill-before-memory = λ z ws says. says;
       built-fill = λ z ws says. says;
       kept-fill = λ z ws says. says;

@@ -128,6 +128,7 @@ pub record Table : Type 0 where
   pub held-fill-wrong-number : numberOf HeldFillWrong ≡ 20
   pub held-fill : Answers data-kinds.ps data-kinds.r data-avail.Learnt (holding 10 7 3 4, tt) (λ z. z ≡ amount.Of 4)
   pub overfull-before-fill : Answers sound-kinds.ps sound-kinds.r demand-soundness.Learnt (holding 10 11 0 11, tt) (λ z. z ≡ checked.Refused (DataAvailOutOfBounds 10 (counter 11) (counter 0)))
+  pub overfull-before-a-wrong-fill : Answers sound-kinds.ps sound-kinds.r demand-soundness.Learnt (holding 10 11 0 4, tt) (λ z. z ≡ checked.Refused (DataAvailOutOfBounds 10 (counter 11) (counter 0)))
   pub fill-before-memory : Answers memory-kinds.ps memory-kinds.r memory.Learnt (holding 10 7 3 5, (9, tt)) (λ z. z ≡ ready.Refused (Scheduler HeldFillWrong))
   pub built-fill : Answers made-kinds.ps made-kinds.r made.Learnt (10, (counter 0, (counter 11, tt))) (λ z. z ≡ checked.Sound (holding 10 0 11 9))
   pub kept-fill : Answers register-kinds.ps register-kinds.r register.Learnt (holding 10 19 12 7, (3, tt)) (λ z. z ≡ registered.Advanced (holding 10 2 12 10))

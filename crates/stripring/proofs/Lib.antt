@@ -22,3 +22,4 @@ pub mod RefusesReceiver
 pub mod RefusesPlanner
 pub mod PromisedPlanner
 pub mod PromisedOverflow
+pub mod PromisedFill

@@ -1,5 +1,6 @@
 -- Of the record with the new counter, by the fills.
 use mathlib.Core.Path.{sym, _∙_}
+use native.Mathlib.Omega.{arith}
 use Rattle.ends.proofs.Taking.{space-shrinks, space-stays, space-refused}
 use borrow.Author.Needs.{needs}
 use Rattle.ends.proofs.writing_end.WritingEnd.take.Statement.{statement}
@@ -8,12 +9,12 @@ use Rattle.ends.proofs.writing_end.WritingEnd.take.Tie as tie
 returns : tie.Need-returns
 returns c =
     let at-next = c .before .before .before .before in
-    space-shrinks _ _ _ (sym (at-next .before .before .try-with-counter .ensures) ∙ at-next .next .given .1) (c .if1 .taken)
+    space-shrinks _ _ _ (sym (at-next .before .before .try-with-counter .ensures) ∙ at-next .next .given .1) (omega (arith, c .if1 .taken))
 
 returns-2 : tie.Need-returns-2
 returns-2 c =
     let at-next = c .before .before .before .before in
-    space-stays _ _ _ (sym (at-next .before .before .try-with-counter .ensures) ∙ at-next .next .given .1) (c .if1 .left)
+    space-stays _ _ _ (sym (at-next .before .before .try-with-counter .ensures) ∙ at-next .next .given .1) (omega (arith, c .if1 .left))
 
 returns-3 : tie.Need-returns-3
 returns-3 c = space-refused _ _ _ (sym (c .before .before .before .try-with-counter .ensures) ∙ c .before .e .given .1)

@@ -10,6 +10,7 @@ use Rattle.sched.specs.declared.scheduler.Checked.{Checked}
 use Rattle.sched.specs.declared.scheduler.Checked.the-variants as checked
 use Rattle.sched.specs.declared.scheduler.RingBufferScheduler.{RingBufferScheduler}
 use Rattle.sched.specs.Given.{Passes}
+use Rattle.sched.specs.Scheduler.{schedulerOf}
 use Rattle.sched.proofs.PromisedFill as sched
 use Rattle.copies.specs.declared.Copied.{Copied}
 use Rattle.copies.specs.declared.Copied.the-variants as copied
@@ -25,7 +26,7 @@ use Rattle.ends.specs.declared.reading_end.ReadingEndAnswer.{ReadingEndAnswer}
 use Rattle.ends.specs.declared.reading_end.ReadingEndAnswer.the-variants as reading
 use Rattle.ends.specs.declared.reading_end.Got.{Got}
 use Rattle.ends.specs.declared.reading_end.Got.the-variants as got
-use Rattle.ends.specs.Ends.{wroteOf, gotOf}
+use Rattle.ends.specs.Ends.{writingEndOf, readingEndOf, wroteOf, gotOf, takeReadOf, takeWrittenOf}
 use Rattle.ends.proofs.PromisedFill.{HoldingW, HoldingR, WroteHolding, GotHolding}
 use Rattle.ends.proofs.PromisedFill as ends
 use Rattle.ends.proofs.PromisedValues.{number-some as end-some}
@@ -143,46 +144,46 @@ try-register-operations-passes κs a z (ws, p) = rw (try-register-operations-say
 
 -- ---- the ends
 pub writing-end-new-passes : Keeps 0 writing-end-new-kinds.ps writing-end-new-kinds.r writing-end-new.Learnt (λ κs a z. z .refusal .number ≡ 0 → PassesAt (z .end .scheduler))
-writing-end-new-passes κs a z (ws, p) = rw (writing-end-new-says κs a z ws p) (of-writing _ (ends.WritingEnd-new-passes tt (a .0, tt) _ ((tt, tt), refl)))
+writing-end-new-passes κs a z (ws, p) = rw (writing-end-new-says κs a z ws p) (of-writing (writingEndOf (schedulerOf (a .0) (record { 0 = 0 }) (record { 0 = 0 }))) (ends.WritingEnd-new-passes tt (a .0, tt) (writingEndOf (schedulerOf (a .0) (record { 0 = 0 }) (record { 0 = 0 }))) ((tt, tt), refl)))
 
 pub writing-end-from-counters-passes : Keeps 0 writing-end-from-counters-kinds.ps writing-end-from-counters-kinds.r writing-end-from-counters.Learnt (λ κs a z. z .refusal .number ≡ 0 → PassesAt (z .end .scheduler))
-writing-end-from-counters-passes κs a z (ws, p) = rw (writing-end-from-counters-says κs a z ws p) (of-writing _ (ends.WritingEnd-from-counters-passes tt (a .0, (record { 0 = a .1 .0 }, (record { 0 = a .1 .1 .0 }, tt))) _ ((tt, (tt, (tt, tt))), refl)))
+writing-end-from-counters-passes κs a z (ws, p) = rw (writing-end-from-counters-says κs a z ws p) (of-writing (writingEndOf (schedulerOf (a .0) (record { 0 = a .1 .0 }) (record { 0 = a .1 .1 .0 }))) (ends.WritingEnd-from-counters-passes tt (a .0, (record { 0 = a .1 .0 }, (record { 0 = a .1 .1 .0 }, tt))) (writingEndOf (schedulerOf (a .0) (record { 0 = a .1 .0 }) (record { 0 = a .1 .1 .0 }))) ((tt, (tt, (tt, tt))), refl)))
 
 pub writing-end-from-scheduler-passes : Keeps 0 writing-end-from-scheduler-kinds.ps writing-end-from-scheduler-kinds.r writing-end-from-scheduler.Learnt (λ κs a z. z .refusal .number ≡ 0 → PassesAt (z .end .scheduler))
-writing-end-from-scheduler-passes κs a z (ws, p) = rw (writing-end-from-scheduler-says κs a z ws p) (of-writing _ (ends.WritingEnd-from-scheduler-passes tt (schedulerAt (a .0), tt) _ ((tt, tt), refl)))
+writing-end-from-scheduler-passes κs a z (ws, p) = rw (writing-end-from-scheduler-says κs a z ws p) (of-writing (writingEndOf (schedulerAt (a .0))) (ends.WritingEnd-from-scheduler-passes tt (schedulerAt (a .0), tt) (writingEndOf (schedulerAt (a .0))) ((tt, tt), refl)))
 
 pub writing-end-take-passes : Keeps 0 writing-end-take-kinds.ps writing-end-take-kinds.r writing-end-take.Learnt (λ κs a z. z .refusal .number ≡ 0 → PassesAt (z .end .scheduler))
-writing-end-take-passes κs a z (ws, p) = rw (writing-end-take-says κs a z ws p) (of-writing _ (ends.WritingEnd-take-passes tt (writingEndAt (a .0), (readCounterAt (a .1 .0), tt)) _ ((tt, (tt, tt)), refl)))
+writing-end-take-passes κs a z (ws, p) = rw (writing-end-take-says κs a z ws p) (of-writing (takeReadOf (writingEndAt (a .0)) (readCounterAt (a .1 .0))) (ends.WritingEnd-take-passes tt (writingEndAt (a .0), (readCounterAt (a .1 .0), tt)) (takeReadOf (writingEndAt (a .0)) (readCounterAt (a .1 .0))) ((tt, (tt, tt)), refl)))
 
 pub reading-end-new-passes : Keeps 0 reading-end-new-kinds.ps reading-end-new-kinds.r reading-end-new.Learnt (λ κs a z. z .refusal .number ≡ 0 → PassesAt (z .end .scheduler))
-reading-end-new-passes κs a z (ws, p) = rw (reading-end-new-says κs a z ws p) (of-reading _ (ends.ReadingEnd-new-passes tt (a .0, tt) _ ((tt, tt), refl)))
+reading-end-new-passes κs a z (ws, p) = rw (reading-end-new-says κs a z ws p) (of-reading (readingEndOf (schedulerOf (a .0) (record { 0 = 0 }) (record { 0 = 0 }))) (ends.ReadingEnd-new-passes tt (a .0, tt) (readingEndOf (schedulerOf (a .0) (record { 0 = 0 }) (record { 0 = 0 }))) ((tt, tt), refl)))
 
 pub reading-end-from-counters-passes : Keeps 0 reading-end-from-counters-kinds.ps reading-end-from-counters-kinds.r reading-end-from-counters.Learnt (λ κs a z. z .refusal .number ≡ 0 → PassesAt (z .end .scheduler))
-reading-end-from-counters-passes κs a z (ws, p) = rw (reading-end-from-counters-says κs a z ws p) (of-reading _ (ends.ReadingEnd-from-counters-passes tt (a .0, (record { 0 = a .1 .0 }, (record { 0 = a .1 .1 .0 }, tt))) _ ((tt, (tt, (tt, tt))), refl)))
+reading-end-from-counters-passes κs a z (ws, p) = rw (reading-end-from-counters-says κs a z ws p) (of-reading (readingEndOf (schedulerOf (a .0) (record { 0 = a .1 .0 }) (record { 0 = a .1 .1 .0 }))) (ends.ReadingEnd-from-counters-passes tt (a .0, (record { 0 = a .1 .0 }, (record { 0 = a .1 .1 .0 }, tt))) (readingEndOf (schedulerOf (a .0) (record { 0 = a .1 .0 }) (record { 0 = a .1 .1 .0 }))) ((tt, (tt, (tt, tt))), refl)))
 
 pub reading-end-from-scheduler-passes : Keeps 0 reading-end-from-scheduler-kinds.ps reading-end-from-scheduler-kinds.r reading-end-from-scheduler.Learnt (λ κs a z. z .refusal .number ≡ 0 → PassesAt (z .end .scheduler))
-reading-end-from-scheduler-passes κs a z (ws, p) = rw (reading-end-from-scheduler-says κs a z ws p) (of-reading _ (ends.ReadingEnd-from-scheduler-passes tt (schedulerAt (a .0), tt) _ ((tt, tt), refl)))
+reading-end-from-scheduler-passes κs a z (ws, p) = rw (reading-end-from-scheduler-says κs a z ws p) (of-reading (readingEndOf (schedulerAt (a .0))) (ends.ReadingEnd-from-scheduler-passes tt (schedulerAt (a .0), tt) (readingEndOf (schedulerAt (a .0))) ((tt, tt), refl)))
 
 pub reading-end-take-passes : Keeps 0 reading-end-take-kinds.ps reading-end-take-kinds.r reading-end-take.Learnt (λ κs a z. z .refusal .number ≡ 0 → PassesAt (z .end .scheduler))
-reading-end-take-passes κs a z (ws, p) = rw (reading-end-take-says κs a z ws p) (of-reading _ (ends.ReadingEnd-take-passes tt (readingEndAt (a .0), (writtenCounterAt (a .1 .0), tt)) _ ((tt, (tt, tt)), refl)))
+reading-end-take-passes κs a z (ws, p) = rw (reading-end-take-says κs a z ws p) (of-reading (takeWrittenOf (readingEndAt (a .0)) (writtenCounterAt (a .1 .0))) (ends.ReadingEnd-take-passes tt (readingEndAt (a .0), (writtenCounterAt (a .1 .0), tt)) (takeWrittenOf (readingEndAt (a .0)) (writtenCounterAt (a .1 .0))) ((tt, (tt, tt)), refl)))
 
 pub writing-end-write-passes : Keeps 2 writing-end-write-kinds.ps writing-end-write-kinds.r writing-end-write.Learnt (λ κs a z. z .refusal .number ≡ 0 → PassesAt (z .end .scheduler))
 writing-end-write-passes κs a z (ws, p) =
     rw (writing-end-write-says κs a z ws p .0)
-    (of-wrote _ (ends.WritingEnd-write-passes κs (writingEndAt (a .0), (a .1 .0, (a .1 .1 .0, tt))) _ (tt, (wroteOf (writingEndAt (a .0)) (a .1 .0 .now) (a .1 .1 .0 .now) .memory, (tt, tt))) refl))
+    (of-wrote (wroteOf (writingEndAt (a .0)) (a .1 .0 .now) (a .1 .1 .0 .now) .answer) (ends.WritingEnd-write-passes κs (writingEndAt (a .0), (a .1 .0, (a .1 .1 .0, tt))) (wroteOf (writingEndAt (a .0)) (a .1 .0 .now) (a .1 .1 .0 .now) .answer) (tt, (wroteOf (writingEndAt (a .0)) (a .1 .0 .now) (a .1 .1 .0 .now) .memory, (tt, tt))) refl))
 
 pub reading-end-read-passes : Keeps 2 reading-end-read-kinds.ps reading-end-read-kinds.r reading-end-read.Learnt (λ κs a z. z .refusal .number ≡ 0 → PassesAt (z .end .scheduler))
 reading-end-read-passes κs a z (ws, p) =
     rw (reading-end-read-says κs a z ws p .0)
-    (of-got _ (ends.ReadingEnd-read-passes κs (readingEndAt (a .0), (a .1 .0, (a .1 .1 .0, tt))) _ (tt, (tt, (gotOf (readingEndAt (a .0)) (a .1 .0 .now) (a .1 .1 .0 .now) .memory, tt))) refl))
+    (of-got (gotOf (readingEndAt (a .0)) (a .1 .0 .now) (a .1 .1 .0 .now) .answer) (ends.ReadingEnd-read-passes κs (readingEndAt (a .0), (a .1 .0, (a .1 .1 .0, tt))) (gotOf (readingEndAt (a .0)) (a .1 .0 .now) (a .1 .1 .0 .now) .answer) (tt, (tt, (gotOf (readingEndAt (a .0)) (a .1 .0 .now) (a .1 .1 .0 .now) .memory, tt))) refl))
 
 -- ---- copies
 pub copies-write-passes : Keeps 2 copies-write-kinds.ps copies-write-kinds.r copies-write.Learnt (λ κs a z. z .refusal .number ≡ 0 → PassesAt (z .scheduler))
 copies-write-passes κs a z (ws, p) =
     rw (copies-write-says κs a z ws p .0)
-    (of-copied _ (copies.write-passes κs (schedulerAt (a .0), (a .1 .0, (a .1 .1 .0, tt))) _ (tt, (writeOf (schedulerAt (a .0)) (a .1 .0 .now) (a .1 .1 .0 .now) .memory, (tt, tt))) refl))
+    (of-copied (writeOf (schedulerAt (a .0)) (a .1 .0 .now) (a .1 .1 .0 .now) .answer) (copies.write-passes κs (schedulerAt (a .0), (a .1 .0, (a .1 .1 .0, tt))) (writeOf (schedulerAt (a .0)) (a .1 .0 .now) (a .1 .1 .0 .now) .answer) (tt, (writeOf (schedulerAt (a .0)) (a .1 .0 .now) (a .1 .1 .0 .now) .memory, (tt, tt))) refl))
 
 pub copies-read-passes : Keeps 2 copies-read-kinds.ps copies-read-kinds.r copies-read.Learnt (λ κs a z. z .refusal .number ≡ 0 → PassesAt (z .scheduler))
 copies-read-passes κs a z (ws, p) =
     rw (copies-read-says κs a z ws p .0)
-    (of-copied _ (copies.read-passes κs (schedulerAt (a .0), (a .1 .0, (a .1 .1 .0, tt))) _ (tt, (tt, (readOf (schedulerAt (a .0)) (a .1 .0 .now) (a .1 .1 .0 .now) .memory, tt))) refl))
+    (of-copied (readOf (schedulerAt (a .0)) (a .1 .0 .now) (a .1 .1 .0 .now) .answer) (copies.read-passes κs (schedulerAt (a .0), (a .1 .0, (a .1 .1 .0, tt))) (readOf (schedulerAt (a .0)) (a .1 .0 .now) (a .1 .1 .0 .now) .answer) (tt, (tt, (readOf (schedulerAt (a .0)) (a .1 .0 .now) (a .1 .1 .0 .now) .memory, tt))) refl))

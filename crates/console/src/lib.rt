@@ -1,24 +1,26 @@
 // A program over planline: the lines of standard input are asked, and the answers are standard output. Bytes are only moved here: what a
 // line is, and what its answer is, planline says.
+#![tactic(auto)]
+
 use libc::{STDIN_FILENO, STDOUT_FILENO};
 use planline::{Cut, Question, answer_last, answer_next};
 
 // Whether the input has more. A read or a write that fails is told on standard error where it happens, and ends the run.
-#[derive(Drop)]
+#[derive(Clone, Copy)]
 enum Source {
     Open,
     Ended,
     Failed,
 }
 
-#[derive(Drop)]
+#[derive(Clone, Copy)]
 struct Reading {
     held: usize,
     source: Source,
 }
 
 // How far the piece is answered, and whether all text that had to make room was written.
-#[derive(Drop)]
+#[derive(Clone, Copy)]
 struct Progress {
     cut: Cut,
     is_written: bool,

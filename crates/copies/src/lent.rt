@@ -7,14 +7,14 @@ use crate::{Copied, Refusal, read, write};
 use sched::{Portion, RingBufferScheduler};
 
 // How many bytes were moved and how many left over, or why none were.
-#[derive(Drop)]
+#[derive(Clone, Copy)]
 pub enum Told {
     Moved(Portion),
     Refused(Refusal),
 }
 
 // The scheduler after a copy, which is the old one where it was refused, and what the caller is told.
-#[derive(Drop)]
+#[derive(Clone, Copy)]
 pub struct Kept {
     pub scheduler: RingBufferScheduler,
     pub told: Told,

@@ -1,6 +1,8 @@
 // Byte copies between the ring's lent memory and a caller's slice, by value over the scheduler (`lent`: over a lent one). A copy asks the
 // scheduler once, which tests its record and answers where, how many, and the scheduler after. The lent memory is written last, once
 // nothing can be refused any more.
+#![tactic(auto)]
+
 ghost use Rattle.std.specs.Prelude.{◌≡◌, ◌++◌, ◌+◌, ◌≤◌, ◌<◌, length, take, drop};
 ghost use Rattle.copies.specs.Ring.{put, get};
 ghost use Rattle.copies.specs.Copies.{pasted, part, left, ready_of, moved_by, write_of, read_of};
@@ -16,14 +18,14 @@ pub use number::big_endian;
 pub use refusal::Refusal;
 
 // A sound scheduler over ring memory of its length, or why it is none.
-#[derive(Drop)]
+#[derive(Clone, Copy)]
 pub enum Ready {
     Sound(RingBufferScheduler),
     Refused(Refusal),
 }
 
 // The scheduler after the copy, how many bytes were moved and how many left over, or why none were.
-#[derive(Drop)]
+#[derive(Clone, Copy)]
 pub enum Copied {
     Moved {
         scheduler: RingBufferScheduler,

@@ -4,7 +4,7 @@ ghost use Rattle.copies.specs.Ring.{get};
 ghost use Rattle.copies.specs.Number.{number_from, big_endian_of};
 
 // The number so far, and the place of its next byte.
-#[derive(Drop)]
+#[derive(Clone, Copy)]
 struct Front {
     n: u64,
     next: usize,

@@ -6,7 +6,7 @@ ghost use Rattle.copies.specs.Refusal.{number_of, values_of};
 use sched::Values;
 
 // Why a copy refuses: what the scheduler refuses, or 9.
-#[derive(Drop)]
+#[derive(Clone, Copy)]
 pub enum Refusal {
     Scheduler(sched::Refusal),
     RingMemory,

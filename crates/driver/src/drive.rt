@@ -7,14 +7,14 @@ use receiver::{Beside, Call, Came, Ended, Outcome, Phase, Step};
 use sched::RingBufferScheduler;
 use states::{Answer, Failure, Refusal};
 
-#[derive(Drop)]
+#[derive(Clone, Copy)]
 pub enum Fetched {
     Got(Answer),
     Missing,
 }
 
 // What a call has come to, and how many answers it used.
-#[derive(Drop)]
+#[derive(Clone, Copy)]
 pub struct Driven {
     pub step: Step,
     pub used: u64,

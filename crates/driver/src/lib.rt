@@ -1,4 +1,6 @@
 // The receiver's calls over a whole run of the socket's answers: one after the other is fetched and handed to the call in progress.
+#![tactic(auto)]
+
 mod drive;
 mod run;
 

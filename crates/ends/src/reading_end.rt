@@ -9,28 +9,28 @@ use copies::Copied;
 use sched::{Checked, Counter, CounterAnswer, OperationType, Portion, RingBufferScheduler};
 
 // How many bytes this end has read, modulo twice the ring's length.
-#[derive(Drop)]
+#[derive(Clone, Copy)]
 pub struct ReadCounter(pub Counter);
 
-#[derive(Drop)]
+#[derive(Clone, Copy)]
 pub enum ReadCounterAnswer {
     Of(ReadCounter),
     Refused(Refusal),
 }
 
-#[derive(Drop)]
+#[derive(Clone, Copy)]
 pub struct ReadingEnd {
     pub scheduler: RingBufferScheduler,
 }
 
-#[derive(Drop)]
+#[derive(Clone, Copy)]
 pub enum ReadingEndAnswer {
     Of(ReadingEnd),
     Refused(Refusal),
 }
 
 // The end after a copy, how many bytes it moved and how many were left over, or why none.
-#[derive(Drop)]
+#[derive(Clone, Copy)]
 pub enum Got {
     Moved { end: ReadingEnd, portion: Portion },
     Refused(Refusal),

@@ -6,7 +6,7 @@ ghost use Rattle.ends.specs.Refusal.{number_of, values_of};
 use sched::Values;
 
 // What a copy or the scheduler refuses, or 10.
-#[derive(Drop)]
+#[derive(Clone, Copy)]
 pub enum Refusal {
     Copy(copies::Refusal),
     RanBack,

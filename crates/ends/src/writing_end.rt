@@ -9,28 +9,28 @@ use copies::Copied;
 use sched::{Checked, Counter, CounterAnswer, OperationType, Portion, RingBufferScheduler};
 
 // How many bytes this end has written, modulo twice the ring's length.
-#[derive(Drop)]
+#[derive(Clone, Copy)]
 pub struct WrittenCounter(pub Counter);
 
-#[derive(Drop)]
+#[derive(Clone, Copy)]
 pub enum WrittenCounterAnswer {
     Of(WrittenCounter),
     Refused(Refusal),
 }
 
-#[derive(Drop)]
+#[derive(Clone, Copy)]
 pub struct WritingEnd {
     pub scheduler: RingBufferScheduler,
 }
 
-#[derive(Drop)]
+#[derive(Clone, Copy)]
 pub enum WritingEndAnswer {
     Of(WritingEnd),
     Refused(Refusal),
 }
 
 // The end after a copy, how many bytes it moved and how many were left over, or why none.
-#[derive(Drop)]
+#[derive(Clone, Copy)]
 pub enum Wrote {
     Moved { end: WritingEnd, portion: Portion },
     Refused(Refusal),

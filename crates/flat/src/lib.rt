@@ -1,5 +1,7 @@
 // The flat form of every value that a host hands in or is answered: numbers, and structs of them. A function that is named after a value reads a
 // host's numbers, any bits; one that begins `flat_` writes them.
+#![tactic(auto)]
+
 pub mod block;
 pub mod call;
 pub mod copy;

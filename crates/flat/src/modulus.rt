@@ -6,7 +6,7 @@ use modular::{OptionModulus, OptionNumber};
 
 // A number where `some` is 1; none where it is 0, and then `value` is 0.
 #[repr(C)]
-#[derive(Drop)]
+#[derive(Clone, Copy)]
 pub struct OptionU64 {
     pub some: u64,
     pub value: u64,

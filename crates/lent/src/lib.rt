@@ -1,5 +1,7 @@
 // The calls that change a lent end: its record is copied out, the call is made by value, and the end after it is stored back.
 // Where the call is refused the end is what it was, and no byte changes.
+#![tactic(auto)]
+
 ghost use Rattle.std.specs.Prelude.{◌≡◌};
 ghost use Rattle.lent.specs.Lent.{told_wrote, writer_after, WriteLeaves, told_got, reader_after, ReadLeaves, taken_of_writing, writer_took, TakeReadLeaves, taken_of_reading, reader_took, TakeWrittenLeaves};
 
@@ -10,39 +12,39 @@ use ends::{
 use sched::Portion;
 
 // How many bytes were moved and how many left over, or why none were.
-#[derive(Drop)]
+#[derive(Clone, Copy)]
 pub enum Told {
     Moved(Portion),
     Refused(Refusal),
 }
 
 // Whether a counter is taken.
-#[derive(Drop)]
+#[derive(Clone, Copy)]
 pub enum Taken {
     Accepted,
     Refused(Refusal),
 }
 
 // The end after a call, which is the old one where it was refused, and what the caller is told.
-#[derive(Drop)]
+#[derive(Clone, Copy)]
 pub struct KeptWriter {
     pub end: WritingEnd,
     pub told: Told,
 }
 
-#[derive(Drop)]
+#[derive(Clone, Copy)]
 pub struct KeptReader {
     pub end: ReadingEnd,
     pub told: Told,
 }
 
-#[derive(Drop)]
+#[derive(Clone, Copy)]
 pub struct TookWriter {
     pub end: WritingEnd,
     pub taken: Taken,
 }
 
-#[derive(Drop)]
+#[derive(Clone, Copy)]
 pub struct TookReader {
     pub end: ReadingEnd,
     pub taken: Taken,

@@ -4,7 +4,7 @@ ghost use Rattle.lines.specs.Cut.{hold_of, took, take_in, take_of};
 ghost use Rattle.lines.specs.Text.{filled};
 
 // How many bytes are held, the next index of the piece, and whether what is held is a whole line.
-#[derive(Drop)]
+#[derive(Clone, Copy)]
 pub struct Took {
     pub held: usize,
     pub next: usize,

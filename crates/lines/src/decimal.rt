@@ -10,7 +10,7 @@ use crate::text::has_room;
 const MOST_DIGITS: usize = 20;
 
 // A number, and the index behind it.
-#[derive(Drop)]
+#[derive(Clone, Copy)]
 pub enum Number {
     Of { n: u64, next: usize },
     Bad,

@@ -1,5 +1,7 @@
 // Text in lent buffers: decimal numbers in and out, lines out of the pieces of an input, text behind an index. Every call answers for any
 // index; where there is no room, it changes nothing.
+#![tactic(auto)]
+
 mod cut;
 mod decimal;
 mod field;

@@ -1,18 +1,20 @@
 // Modular arithmetic with a modulus from 1 to 2^64: the port of rosenpass's modular.rs to plain calls on u64.
+#![tactic(auto)]
+
 ghost use Rattle.std.specs.Prelude.{◌≡◌, ◌%◌};
 ghost use Rattle.modular.specs.Modulus.{whole_of, full_range, try_new_of, is_full_range_of, modulus_of, contains_of, double_at, try_new_number_of, neg_mod, sub_mod, add_mod};
 
 // The raw number is the modulus; raw 0 is the full range, 2^64. So every raw number is a modulus.
-#[derive(Drop)]
+#[derive(Clone, Copy)]
 pub struct Modulus(pub u64);
 
-#[derive(Drop)]
+#[derive(Clone, Copy)]
 pub enum OptionModulus {
     Some(Modulus),
     None,
 }
 
-#[derive(Drop)]
+#[derive(Clone, Copy)]
 pub enum OptionNumber {
     Some(u64),
     None,

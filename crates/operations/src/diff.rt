@@ -2,7 +2,7 @@
 ghost use Rattle.std.specs.Prelude.{◌≡◌};
 ghost use Rattle.operations.specs.Diff.{diff_of, is_same_of, is_different_of, old_value_of, new_value_of};
 
-#[derive(Drop)]
+#[derive(Clone, Copy)]
 pub enum Diff {
     Same(u64),
     Different(u64, u64),

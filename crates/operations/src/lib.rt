@@ -1,5 +1,7 @@
 // What a scheduler is asked in and answers with: counters and offsets, operations and lists of them, and why it refuses. Plain values,
 // each tested by the call that takes it.
+#![tactic(auto)]
+
 mod counter;
 mod diff;
 mod list;

@@ -6,55 +6,55 @@ use crate::counter::AmountAnswer;
 use crate::operation::{OperationType, ScheduledOperation};
 use crate::refusal::Refusal;
 
-#[derive(Drop)]
+#[derive(Clone, Copy)]
 pub enum ScheduledOperations {
     None,
     One(ScheduledOperation),
     Two(ScheduledOperation, ScheduledOperation),
 }
 
-#[derive(Drop)]
+#[derive(Clone, Copy)]
 pub enum OperationsAnswer {
     Of(ScheduledOperations),
     Refused(Refusal),
 }
 
 // An operation, and where it starts in the linear buffer outside the ring.
-#[derive(Drop)]
+#[derive(Clone, Copy)]
 pub struct CumulativeOffset {
     pub start: u64,
     pub op: ScheduledOperation,
 }
 
-#[derive(Drop)]
+#[derive(Clone, Copy)]
 pub enum CumulativeOffsets {
     None,
     One(CumulativeOffset),
     Two(CumulativeOffset, CumulativeOffset),
 }
 
-#[derive(Drop)]
+#[derive(Clone, Copy)]
 pub enum CumulativeOffsetsAnswer {
     Of(CumulativeOffsets),
     Refused(Refusal),
 }
 
 // An operation, and where it starts and ends in the linear buffer outside the ring.
-#[derive(Drop)]
+#[derive(Clone, Copy)]
 pub struct OutsideRange {
     pub start: u64,
     pub end: u64,
     pub op: ScheduledOperation,
 }
 
-#[derive(Drop)]
+#[derive(Clone, Copy)]
 pub enum OutsideRanges {
     None,
     One(OutsideRange),
     Two(OutsideRange, OutsideRange),
 }
 
-#[derive(Drop)]
+#[derive(Clone, Copy)]
 pub enum OutsideRangesAnswer {
     Of(OutsideRanges),
     Refused(Refusal),

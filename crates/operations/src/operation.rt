@@ -5,7 +5,7 @@ ghost use Rattle.operations.specs.Refusal.{type_number};
 
 use crate::counter::Offset;
 
-#[derive(Drop)]
+#[derive(Clone, Copy)]
 pub enum OperationType {
     Read,
     Write,
@@ -24,7 +24,7 @@ impl OperationType {
 }
 
 // A slice of the ring buffer that is to be read or written. Its offset may be any number: registering does not look at it.
-#[derive(Drop)]
+#[derive(Clone, Copy)]
 pub struct ScheduledOperation {
     pub typ: OperationType,
     pub off: Offset,

@@ -2,7 +2,7 @@
 ghost use Rattle.std.specs.Prelude.{◌≡◌, min};
 ghost use Rattle.operations.specs.Portion.{portion_of};
 
-#[derive(Drop)]
+#[derive(Clone, Copy)]
 pub struct Portion {
     pub len: u64,
     pub remainder: u64,

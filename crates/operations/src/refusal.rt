@@ -6,7 +6,7 @@ use crate::counter::Counter;
 use crate::operation::OperationType;
 use crate::values::Values;
 
-#[derive(Drop)]
+#[derive(Clone, Copy)]
 pub enum Refusal {
     // 1
     ZeroBufferLength,

@@ -3,7 +3,7 @@ ghost use Rattle.std.specs.Prelude.{◌≡◌, [], ◌∷◌};
 ghost use Rattle.operations.specs.Refusal.{packed};
 
 // The first `len` of a, b and c; the others are 0.
-#[derive(Drop)]
+#[derive(Clone, Copy)]
 pub struct Values {
     pub len: u64,
     pub a: u64,

@@ -13,7 +13,7 @@ use lines::{has_room, take_line};
 const MOST_HELD: usize = 121;
 
 // Where a step got to: how many bytes are held, the next index of the piece, and the index behind the text.
-#[derive(Drop)]
+#[derive(Clone, Copy)]
 pub struct Cut {
     pub held: usize,
     pub next: usize,

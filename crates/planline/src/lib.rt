@@ -1,4 +1,6 @@
 // A line that asks for a plan, its answer as text, and the answers to the lines of an input that comes in pieces.
+#![tactic(auto)]
+
 mod cut;
 mod plan;
 mod ring;

@@ -8,14 +8,14 @@ use planner::Strips;
 use sched::ScheduledOperations;
 
 // Whom the lines ask: the scheduler of a ring, or the planner of an image's strips.
-#[derive(Drop)]
+#[derive(Clone, Copy)]
 pub enum Question {
     Ring,
     Strips,
 }
 
 // What is printed for a line: a refusal by its number alone.
-#[derive(Drop)]
+#[derive(Clone, Copy)]
 pub enum Plan {
     Bad,
     Refused(u64),

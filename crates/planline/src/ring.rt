@@ -7,7 +7,7 @@ use crate::plan::Plan;
 use lines::{Number, last, spaced};
 use sched::{Checked, Counter, OperationType, RingBufferScheduler, ScheduledAnswer};
 
-#[derive(Drop)]
+#[derive(Clone, Copy)]
 pub struct Asked {
     pub buf_len: u64,
     pub written: u64,
@@ -16,13 +16,13 @@ pub struct Asked {
     pub max_len: u64,
 }
 
-#[derive(Drop)]
+#[derive(Clone, Copy)]
 pub enum Parsed {
     Of(Asked),
     Bad,
 }
 
-#[derive(Drop)]
+#[derive(Clone, Copy)]
 pub enum Kind {
     Of(OperationType),
     Bad,

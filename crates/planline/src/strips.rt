@@ -7,14 +7,14 @@ use crate::plan::Plan;
 use lines::{Number, last, spaced};
 use planner::{Outlined, outline};
 
-#[derive(Drop)]
+#[derive(Clone, Copy)]
 pub struct AskedStrips {
     pub rows: u64,
     pub row_bytes: u64,
     pub buf_len: u64,
 }
 
-#[derive(Drop)]
+#[derive(Clone, Copy)]
 pub enum ParsedStrips {
     Of(AskedStrips),
     Bad,

@@ -1,5 +1,7 @@
 // How an image is cut into strips for a ring: a plan with the fewest strips, and a check of a plan from anywhere. A plan is a lent slice of
 // numbers, two to a run: its first row, and how many rows it has. A number left over at the end of the slice is no run.
+#![tactic(auto)]
+
 mod plan;
 mod quotient;
 mod refusal;

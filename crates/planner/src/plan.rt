@@ -8,7 +8,7 @@ use crate::refusal::Refusal;
 use crate::strips::{Outlined, Strips, least, outline};
 
 // How many runs there are, from the front of the plan on.
-#[derive(Drop)]
+#[derive(Clone, Copy)]
 pub enum Proposed {
     Runs(u64),
     Refused(Refusal),

@@ -4,7 +4,7 @@ ghost use Rattle.std.specs.Prelude.{◌≡◌, ◌*◌, ◌/◌, ◌%◌, ◌^�
 // The quotients are below it; an image has fewer rows.
 pub(crate) const RANGE: u64 = 1 << 16;
 
-#[derive(Drop)]
+#[derive(Clone, Copy)]
 pub(crate) struct Division {
     pub quotient: u64,
     pub remainder: u64,

@@ -5,7 +5,7 @@ ghost use Rattle.planner.specs.Refusal.{number_of, values_of};
 
 use sched::Values;
 
-#[derive(Drop)]
+#[derive(Clone, Copy)]
 pub enum Refusal {
     // 1 and 2
     Scheduler(sched::Refusal),

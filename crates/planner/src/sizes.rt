@@ -9,7 +9,7 @@ const MAX_ROWS: u64 = 65535;
 
 const MAX_ROW_BYTES: u64 = 1 << 20;
 
-#[derive(Drop)]
+#[derive(Clone, Copy)]
 pub enum Sizes {
     Fit,
     Refused(Refusal),

@@ -9,14 +9,14 @@ use crate::sizes::{Sizes, demand_sizes};
 use sched::HEADER_LEN;
 
 // Each strip but the last has `height` rows; one strip alone has them too.
-#[derive(Drop)]
+#[derive(Clone, Copy)]
 pub struct Strips {
     pub count: u64,
     pub height: u64,
     pub last: u64,
 }
 
-#[derive(Drop)]
+#[derive(Clone, Copy)]
 pub enum Outlined {
     Of(Strips),
     Refused(Refusal),

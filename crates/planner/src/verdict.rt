@@ -8,7 +8,7 @@ use crate::refusal::Refusal;
 use crate::sizes::{Sizes, demand_sizes};
 use crate::strips::height_of;
 
-#[derive(Drop)]
+#[derive(Clone, Copy)]
 pub enum Verdict {
     Accepted,
     Refused(Refusal),

@@ -7,14 +7,14 @@ use copies::{Ready, demand_ring_memory};
 use sched::{Checked, RingBufferScheduler};
 use states::Refusal;
 
-#[derive(Drop)]
+#[derive(Clone, Copy)]
 pub enum Admission {
     Passed,
     Refused(Refusal),
 }
 
 // The ring memory that a call looks at, by its length.
-#[derive(Drop)]
+#[derive(Clone, Copy)]
 pub enum Memory {
     Of(usize),
     None,

@@ -16,7 +16,7 @@ const FORMATS: u64 = 4611686018427387904;
 const LENGTHS: u64 = 281474976710656;
 
 // The scheduler with the chunk written, and what comes beside it; or what is wrong.
-#[derive(Drop)]
+#[derive(Clone, Copy)]
 pub enum Announced {
     Chunk {
         scheduler: RingBufferScheduler,

@@ -14,21 +14,21 @@ use states::{Answer, Failure, OperationalState, Received, Refusal};
 
 // How a call ends that still services acknowledgements or shuts down: with this outcome, and a failure on the way is told in its place
 // or dropped.
-#[derive(Drop)]
+#[derive(Clone, Copy)]
 pub struct Ending {
     pub outcome: Outcome,
     pub told: bool,
 }
 
 // What a read that waits for its announcement wants: at most so many descriptors, and so many bytes.
-#[derive(Drop)]
+#[derive(Clone, Copy)]
 pub struct Wanted {
     pub max_new_fds: u64,
     pub dst_len: u64,
 }
 
 // What the host does next, and then answers.
-#[derive(Drop)]
+#[derive(Clone, Copy)]
 pub enum Phase {
     // it receives a byte from the socket, with at most so many descriptors as are wanted
     Receive(Wanted),
@@ -41,7 +41,7 @@ pub enum Phase {
 }
 
 // The record can be taken from a call at any time: it counts what was received, sent and shut down so far.
-#[derive(Drop)]
+#[derive(Clone, Copy)]
 pub struct Call {
     pub receiver: ReceiverState,
     // the scheduler that a read copies its bytes by
@@ -50,7 +50,7 @@ pub struct Call {
 }
 
 // What a call of the machine comes to: the call as it goes on, or why it is refused.
-#[derive(Drop)]
+#[derive(Clone, Copy)]
 pub enum Step {
     Of(Call),
     Refused(Refusal),

@@ -9,7 +9,7 @@ use sched::RingBufferScheduler;
 use states::{Answer, Failure, OperationalState, PotentialFailure, Refusal, Sent, Shut};
 
 // The record so far, the scheduler that a read copies its bytes by, and how the call ends.
-#[derive(Drop)]
+#[derive(Clone, Copy)]
 pub struct Going {
     pub receiver: ReceiverState,
     pub source: RingBufferScheduler,

@@ -5,7 +5,7 @@ ghost use Rattle.receiver.specs.Receiver.{with_scheduler, with_state, with_pendi
 use sched::{Checked, RingBufferScheduler};
 use states::{Failure, OperationalState, Refusal, batch_of};
 
-#[derive(Drop)]
+#[derive(Clone, Copy)]
 pub struct ReceiverState {
     pub scheduler: RingBufferScheduler,
     pub state: OperationalState,
@@ -13,14 +13,14 @@ pub struct ReceiverState {
     pub notification_socket_shutdown_issued: bool,
 }
 
-#[derive(Drop)]
+#[derive(Clone, Copy)]
 pub enum ReceiverAnswer {
     Of(ReceiverState),
     Refused(Refusal),
 }
 
 // What a call came to: bytes read, done, or a failure.
-#[derive(Drop)]
+#[derive(Clone, Copy)]
 pub enum Came {
     Read(u64),
     Done,
@@ -28,20 +28,20 @@ pub enum Came {
 }
 
 // What every outcome carries beside what it came to: a count of descriptors.
-#[derive(Drop)]
+#[derive(Clone, Copy)]
 pub struct Beside {
     pub fds: u64,
 }
 
 // What an accepted call answers.
-#[derive(Drop)]
+#[derive(Clone, Copy)]
 pub struct Outcome {
     pub came: Came,
     pub beside: Beside,
 }
 
 // The record after a call, what it answers and how many of the socket's answers it used; or why it is refused.
-#[derive(Drop)]
+#[derive(Clone, Copy)]
 pub enum Ended {
     Accepted {
         receiver: ReceiverState,

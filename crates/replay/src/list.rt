@@ -6,7 +6,7 @@ use crate::{Calls, agrees};
 use libc::STDOUT_FILENO;
 
 // What the lines so far came to; `lines` counts the text too.
-#[derive(Drop)]
+#[derive(Clone, Copy)]
 struct Tally {
     lines: u64,
     answers: u64,

@@ -1,4 +1,6 @@
 // Replays the lists of answers that the original Rust gave, each in a file of data/, against the calls that a host links.
+#![tactic(auto)]
+
 mod lent_run;
 mod line;
 mod list;
@@ -11,7 +13,7 @@ mod sched_list;
 
 // Whose calls the lines of a list are. A new list is a name here, an arm in the next and a line of main; a new call of a list is a row of the
 // table in its module.
-#[derive(Drop)]
+#[derive(Clone, Copy)]
 pub enum Calls {
     Modular,
     Sched,

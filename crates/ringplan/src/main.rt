@@ -1,4 +1,6 @@
 // Answers each line of standard input with the scheduler's plan.
+#![tactic(auto)]
+
 use planline::Question;
 
 fn main() {

@@ -7,7 +7,7 @@ use sched::{AmountAnswer, Counter, RingBufferScheduler};
 
 // The scheduler of an end after a call, how many bytes were moved and how many of those asked were left over, and the refusal's number:
 // 0 where the call is accepted.
-#[derive(Drop)]
+#[derive(Clone, Copy)]
 pub struct Told {
     pub scheduler: RingBufferScheduler,
     pub n: u64,

@@ -8,7 +8,7 @@ use ends::{Got, ReadingEnd, WritingEnd, Wrote};
 use sched::RingBufferScheduler;
 
 // What a copy is told, and what it leaves where it goes: of a write the ring, of a read the destination.
-#[derive(Drop)]
+#[derive(Clone, Copy)]
 pub struct Copied {
     pub told: Told,
     pub left: [u8; 12],
@@ -110,7 +110,7 @@ fn flat(lent: Lent) -> Told {
 }
 
 // The scheduler that was lent, after the call, and what the call told.
-#[derive(Drop)]
+#[derive(Clone, Copy)]
 pub struct Lent {
     pub scheduler: RingBufferScheduler,
     pub told: copies::Told,

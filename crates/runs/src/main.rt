@@ -1,4 +1,6 @@
 // Drives a writing and a reading end over small rings, through many random events, and checks demand 3 on real bytes.
+#![tactic(auto)]
+
 mod calls;
 mod copy;
 mod events;

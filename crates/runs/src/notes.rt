@@ -1,7 +1,7 @@
 // What one end has sent and the other has taken of it. The last 16 notes are kept, each in the place of the 16th before it.
 use crate::numbers::{add, rem, sub};
 
-#[derive(Drop)]
+#[derive(Clone, Copy)]
 pub struct Note {
     // How many were sent before it.
     pub number: u64,
@@ -11,7 +11,7 @@ pub struct Note {
     pub taken: bool,
 }
 
-#[derive(Drop)]
+#[derive(Clone, Copy)]
 pub struct Notes {
     kept: [Note; 16],
     pub sent: u64,

@@ -66,7 +66,7 @@ pub const HELD: usize = 43;
 
 const COUNTS: usize = 45;
 
-#[derive(Drop)]
+#[derive(Clone, Copy)]
 pub struct Report {
     counts: [u64; COUNTS],
 }

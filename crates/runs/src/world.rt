@@ -5,7 +5,7 @@ use crate::report::Report;
 use crate::{calls, memory, report};
 use sched::{Counter, RingBufferScheduler};
 
-#[derive(Drop)]
+#[derive(Clone, Copy)]
 pub struct World {
     // The records of the two ends.
     pub writer: RingBufferScheduler,

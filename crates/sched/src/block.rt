@@ -4,20 +4,20 @@ ghost use Rattle.sched.specs.Block.{block_of};
 
 use operations::{Offset, Refusal};
 
-#[derive(Drop)]
+#[derive(Clone, Copy)]
 pub enum Bit {
     Zero,
     One,
 }
 
-#[derive(Drop)]
+#[derive(Clone, Copy)]
 pub enum BlockType {
     Free,
     Data,
 }
 
 // With `typ`, `no` says which block this is: Zero is the first that is used, One the one that comes round.
-#[derive(Drop)]
+#[derive(Clone, Copy)]
 pub struct Block {
     pub typ: BlockType,
     pub no: Bit,
@@ -33,41 +33,41 @@ impl Block {
     }
 }
 
-#[derive(Drop)]
+#[derive(Clone, Copy)]
 pub struct Blocks(pub Block, pub Block, pub Block);
 
-#[derive(Drop)]
+#[derive(Clone, Copy)]
 pub enum BufferLayout {
     DataFreeData,
     FreeDataFree,
 }
 
-#[derive(Drop)]
+#[derive(Clone, Copy)]
 pub enum BufferFillState {
     Empty,
     Partial,
     Full,
 }
 
-#[derive(Drop)]
+#[derive(Clone, Copy)]
 pub enum BlockAnswer {
     Of(Block),
     Refused(Refusal),
 }
 
-#[derive(Drop)]
+#[derive(Clone, Copy)]
 pub enum BlocksAnswer {
     Of(Blocks),
     Refused(Refusal),
 }
 
-#[derive(Drop)]
+#[derive(Clone, Copy)]
 pub enum LayoutAnswer {
     Of(BufferLayout),
     Refused(Refusal),
 }
 
-#[derive(Drop)]
+#[derive(Clone, Copy)]
 pub enum FillStateAnswer {
     Of(BufferFillState),
     Refused(Refusal),

@@ -1,4 +1,6 @@
 // The scheduler of a ring buffer: the port of rosenpass's sched.rs. It moves no bytes; it says which may be moved, and counts them.
+#![tactic(auto)]
+
 mod block;
 mod chunk;
 mod counter;

@@ -10,7 +10,7 @@ use operations::{
 };
 
 // The scheduler after an operation, or why there is none.
-#[derive(Drop)]
+#[derive(Clone, Copy)]
 pub enum Registered {
     Advanced(RingBufferScheduler),
     Refused(Refusal),
@@ -18,14 +18,14 @@ pub enum Registered {
 
 // All that is asked and there, scheduled and registered at once: how many items from `off` on, which may go round the buffer's end, how
 // many are left over, and the scheduler after them.
-#[derive(Drop)]
+#[derive(Clone, Copy)]
 pub struct Move {
     pub off: Offset,
     pub portion: Portion,
     pub scheduler: RingBufferScheduler,
 }
 
-#[derive(Drop)]
+#[derive(Clone, Copy)]
 pub enum MoveAnswer {
     Of(Move),
     Refused(Refusal),

@@ -8,33 +8,33 @@ use operations::{
 };
 
 // The next operation; none where nothing can be moved.
-#[derive(Drop)]
+#[derive(Clone, Copy)]
 pub enum NextOperation {
     Some(ScheduledOperation),
     None,
 }
 
 // The next operation, and how many of the items asked are left over after it.
-#[derive(Drop)]
+#[derive(Clone, Copy)]
 pub struct Next {
     pub operation: NextOperation,
     pub remainder: u64,
 }
 
-#[derive(Drop)]
+#[derive(Clone, Copy)]
 pub enum NextOperationAnswer {
     Of(Next),
     Refused(Refusal),
 }
 
 // All operations, and how many of the items asked are left over after them.
-#[derive(Drop)]
+#[derive(Clone, Copy)]
 pub struct Scheduled {
     pub operations: ScheduledOperations,
     pub remainder: u64,
 }
 
-#[derive(Drop)]
+#[derive(Clone, Copy)]
 pub enum ScheduledAnswer {
     Of(Scheduled),
     Refused(Refusal),

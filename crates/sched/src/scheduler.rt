@@ -9,7 +9,7 @@ use operations::{
     AmountAnswer, BoolAnswer, Counter, CounterAnswer, Offset, OffsetAnswer, OperationType, Refusal,
 };
 
-#[derive(Drop)]
+#[derive(Clone, Copy)]
 pub struct RingBufferScheduler {
     pub buf_len: u64,
     pub items_written: Counter,
@@ -19,7 +19,7 @@ pub struct RingBufferScheduler {
 }
 
 // A sound scheduler, or why it is none.
-#[derive(Drop)]
+#[derive(Clone, Copy)]
 pub enum Checked {
     Sound(RingBufferScheduler),
     Refused(Refusal),

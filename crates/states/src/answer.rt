@@ -8,7 +8,7 @@ use crate::state::Failure;
 // Kind 0: received a byte, `value`, with a count of descriptors. 1: closed. 2: failed with the errno `value`. 3: sent `value`
 // bytes. 4: done. Numbers that a kind does not use are not looked at.
 #[repr(C)]
-#[derive(Drop)]
+#[derive(Clone, Copy)]
 pub struct Answer {
     pub kind: u64,
     pub value: u64,
@@ -16,21 +16,21 @@ pub struct Answer {
 }
 
 // What the answer to a receive says; closed is failure 32.
-#[derive(Drop)]
+#[derive(Clone, Copy)]
 pub enum Received {
     Byte { byte: u64, fds: u64 },
     Failed(u64),
     Misfit,
 }
 
-#[derive(Drop)]
+#[derive(Clone, Copy)]
 pub enum Sent {
     Sent(u64),
     Failed(u64),
     Misfit,
 }
 
-#[derive(Drop)]
+#[derive(Clone, Copy)]
 pub enum Shut {
     Done,
     Failed(u64),

@@ -1,4 +1,6 @@
 // The states of the receiver of a stream, the failures in them, the socket's answers, and why a call refuses.
+#![tactic(auto)]
+
 mod answer;
 mod refusal;
 mod state;

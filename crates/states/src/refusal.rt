@@ -5,7 +5,7 @@ ghost use Rattle.states.specs.Refusal.{number_of, values_of};
 
 use sched::Values;
 
-#[derive(Drop)]
+#[derive(Clone, Copy)]
 pub enum Refusal {
     Copy(copies::Refusal),
     // 11

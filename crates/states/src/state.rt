@@ -7,7 +7,7 @@ use crate::refusal::Refusal;
 use sched::HEADER_LEN;
 
 // How many bytes were needed, and the room for them.
-#[derive(Drop)]
+#[derive(Clone, Copy)]
 pub struct Overflow {
     pub needed: u64,
     pub room: u64,
@@ -24,7 +24,7 @@ fn behind_header(buf_len: u64) -> u64
 }
 
 // The other process has broken the protocol. The two overflows are one in the Rust, `ControlOverflow`.
-#[derive(Drop)]
+#[derive(Clone, Copy)]
 pub enum Violation {
     InvalidChunkAnnouncement,
     HeaderOverflow(Overflow),
@@ -94,38 +94,38 @@ impl Violation {
 }
 
 // Why a stream fails: an errno by its Linux number, or a violation of the protocol.
-#[derive(Drop)]
+#[derive(Clone, Copy)]
 pub enum Failure {
     Io(u64),
     Protocol(Violation),
 }
 
-#[derive(Drop)]
+#[derive(Clone, Copy)]
 pub enum OperationalState {
     Normal,
     Draining(Failure),
     Terminated(Failure),
 }
 
-#[derive(Drop)]
+#[derive(Clone, Copy)]
 pub enum PotentialFailure {
     Some(Failure),
     None,
 }
 
-#[derive(Drop)]
+#[derive(Clone, Copy)]
 pub enum FailureAnswer {
     Of(Failure),
     Refused(Refusal),
 }
 
-#[derive(Drop)]
+#[derive(Clone, Copy)]
 pub enum PotentialFailureAnswer {
     Of(PotentialFailure),
     Refused(Refusal),
 }
 
-#[derive(Drop)]
+#[derive(Clone, Copy)]
 pub enum StateAnswer {
     Of(OperationalState),
     Refused(Refusal),

@@ -1,4 +1,6 @@
 // Answers each line of standard input with the planner's strips.
+#![tactic(auto)]
+
 use planline::Question;
 
 fn main() {

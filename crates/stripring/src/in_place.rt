@@ -10,25 +10,25 @@ use flat::structs::{MovedAnswer, ReadCounter, ReadingEnd, Refusal, WritingEnd, W
 use flat::writing_end::{flat_writing_end, writing_end, written_counter};
 
 // The struct after a call, and what the host is told.
-#[derive(Drop)]
+#[derive(Clone, Copy)]
 pub struct KeptWriter {
     pub end: WritingEnd,
     pub told: MovedAnswer,
 }
 
-#[derive(Drop)]
+#[derive(Clone, Copy)]
 pub struct TookWriter {
     pub end: WritingEnd,
     pub refusal: Refusal,
 }
 
-#[derive(Drop)]
+#[derive(Clone, Copy)]
 pub struct KeptReader {
     pub end: ReadingEnd,
     pub told: MovedAnswer,
 }
 
-#[derive(Drop)]
+#[derive(Clone, Copy)]
 pub struct TookReader {
     pub end: ReadingEnd,
     pub refusal: Refusal,

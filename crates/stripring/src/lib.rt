@@ -1,5 +1,7 @@
 // The face of the libraries for C and Rust: numbers and flat structs in and out, so that any bits of a host's are legal input.
 // The modules are public for `replay`, which calls what a host calls.
+#![tactic(auto)]
+
 pub mod block;
 pub mod call;
 pub mod copy;

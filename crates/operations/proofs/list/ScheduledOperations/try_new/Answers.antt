@@ -1,0 +1,12 @@
+-- None and one are taken as they are, two are tested.
+use borrow.Author.Rules.{rules}
+use Rattle.operations.proofs.list.ScheduledOperations.try_new.Goals as goal
+
+pub returns-in-None : goal.returns-in-None
+returns-in-None c = rw c.in-None.is
+
+pub returns-in-One : goal.returns-in-One
+returns-in-One c = rw c.in-One.is
+
+pub returns-in-Two : goal.returns-in-Two
+returns-in-Two c = rw (c.in-Two.is, c.sound_two_of.ensures)

@@ -1,0 +1,6 @@
+-- The block's length.
+use Rattle.std.proofs.Common.{rules}
+use Rattle.sched.proofs.scheduler.RingBufferScheduler.block_2_len.Goals as goal
+
+pub returns : goal.returns
+returns c = rw (c.len_from.ensures, c.block_2.ensures)

@@ -1,0 +1,14 @@
+-- The tests' refusal is passed on; else the answer is of the scheduler that they took.
+use Rattle.std.proofs.Common.{sym, ◌∙◌, rules}
+use Rattle.sched.proofs.Laws.{sound}
+use Rattle.sched.proofs.scheduler.RingBufferScheduler.fill_state.Goals as goal
+
+pub fill_state_in-requires : goal.fill_state_in-requires
+fill_state_in-requires c = sound _ _ (sym c.in-Sound.is ∙ c.demand_soundness.ensures)
+
+pub returns-in-Sound : goal.returns-in-Sound
+returns-in-Sound c =
+    rw (← (sym c.in-Sound.is ∙ c.demand_soundness.ensures), c.fill_state_in.ensures)
+
+pub returns-in-Refused : goal.returns-in-Refused
+returns-in-Refused c = rw (← (sym c.in-Refused.is ∙ c.demand_soundness.ensures))

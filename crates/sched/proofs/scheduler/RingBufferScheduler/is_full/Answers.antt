@@ -1,0 +1,6 @@
+-- No space.
+use Rattle.std.proofs.Common.{rules}
+use Rattle.sched.proofs.scheduler.RingBufferScheduler.is_full.Goals as goal
+
+pub returns : goal.returns
+returns c = rw (c.is_zero_from.ensures, c.space_avail.ensures)

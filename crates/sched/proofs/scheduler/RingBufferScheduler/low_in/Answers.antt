@@ -1,0 +1,12 @@
+-- The smaller of the two offsets.
+use Rattle.sched.proofs.LayoutLaws.{low_first, low_second}
+use Rattle.std.proofs.Common.{rules}
+use Rattle.sched.proofs.scheduler.RingBufferScheduler.low_in.Goals as goal
+
+pub returns-then-read-write : goal.returns-then-read-write
+returns-then-read-write c =
+    low_first _ _ _ _ c.offset_in-read.ensures c.offset_in-write.ensures c.if-read-write.true
+
+pub returns : goal.returns
+returns c =
+    low_second _ _ _ _ c.offset_in-read.ensures c.offset_in-write.ensures c.if-read-write.false

@@ -1,0 +1,16 @@
+-- 6 above the greatest length; else the scheduler after it.
+use Rattle.std.proofs.Common.{rules, le-ltb, lt-ltb}
+use Rattle.sched.specs.Scheduler.{register_in}
+use Rattle.sched.proofs.scheduler.RingBufferScheduler.register_in.Goals as goal
+
+pub returns-then-len-greatest : goal.returns-then-len-greatest
+unfolding register_in
+returns-then-len-greatest c = rw (← c.greatest_in-greatest.ensures, lt-ltb _ _ c.if-len-greatest.true)
+
+pub advanced_in-requires : goal.advanced_in-requires
+advanced_in-requires c =
+    (c.requires, rw (← c.greatest_in-greatest.ensures) c.if-len-greatest.false)
+
+pub returns : goal.returns
+unfolding register_in
+returns c = rw (← c.greatest_in-greatest.ensures, le-ltb _ _ c.if-len-greatest.false, c.advanced_in.ensures)

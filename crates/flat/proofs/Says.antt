@@ -19,8 +19,8 @@ use Rattle.flat.proofs.block.block_type.Kinds as block_type_kinds
 use Rattle.flat.proofs.block.block_type.Reads as block_type
 use Rattle.flat.proofs.block.bit.Kinds as bit_kinds
 use Rattle.flat.proofs.block.bit.Reads as bit
-use Rattle.flat.proofs.block.flat_block_lem.Kinds as flat_block_kinds
-use Rattle.flat.proofs.block.flat_block_lem.Reads as flat_block_lem
+use Rattle.flat.proofs.block.flat_block.Kinds as flat_block_kinds
+use Rattle.flat.proofs.block.flat_block.Reads as flat_block_lem
 use Rattle.flat.proofs.block.flat_block_answer.Kinds as flat_block_answer_kinds
 use Rattle.flat.proofs.block.flat_block_answer.Reads as flat_block_answer_lem
 use Rattle.flat.proofs.block.flat_blocks.Kinds as flat_blocks_kinds
@@ -31,8 +31,8 @@ use Rattle.flat.proofs.block.flat_fill_state.Kinds as flat_fill_state_kinds
 use Rattle.flat.proofs.block.flat_fill_state.Reads as flat_fill_state_lem
 use Rattle.flat.proofs.call.call.Kinds as call_kinds
 use Rattle.flat.proofs.call.call.Reads as call
-use Rattle.flat.proofs.call.flat_step_lem.Kinds as flat_step_kinds
-use Rattle.flat.proofs.call.flat_step_lem.Reads as flat_step_lem
+use Rattle.flat.proofs.call.flat_step.Kinds as flat_step_kinds
+use Rattle.flat.proofs.call.flat_step.Reads as flat_step_lem
 use Rattle.flat.proofs.copy.flat_copied.Kinds as flat_copied_kinds
 use Rattle.flat.proofs.copy.flat_copied.Reads as flat_copied_lem
 use Rattle.flat.proofs.counter.flat_counter.Kinds as flat_counter_kinds

@@ -24,8 +24,8 @@ use Rattle.lines.proofs.NumberLaws.{stands_number, number_stands, printed_stands
 use Rattle.lines.proofs.NumeralLaws.{decimal_numeral}
 use Rattle.lines.proofs.Says.{number_at_says, spaced_says, last_says, put_decimal_says, put_says, has_room_says, take_line_says}
 use Rattle.lines.proofs.TextLaws.{appended}
-use Rattle.lines.proofs.decimal.number_at_lem.Kinds as number_at_kinds
-use Rattle.lines.proofs.decimal.number_at_lem.Reads as number_at_lem
+use Rattle.lines.proofs.decimal.number_at.Kinds as number_at_kinds
+use Rattle.lines.proofs.decimal.number_at.Reads as number_at_lem
 use Rattle.lines.proofs.decimal.put_decimal.Kinds as put_decimal_kinds
 use Rattle.lines.proofs.decimal.put_decimal.Reads as put_decimal
 use Rattle.lines.proofs.field.spaced.Kinds as spaced_kinds
@@ -34,8 +34,8 @@ use Rattle.lines.proofs.field.last.Kinds as last_kinds
 use Rattle.lines.proofs.field.last.Reads as last
 use Rattle.lines.proofs.text.put.Kinds as put_kinds
 use Rattle.lines.proofs.text.put.Reads as put
-use Rattle.lines.proofs.text.has_room_lem.Kinds as has_room_kinds
-use Rattle.lines.proofs.text.has_room_lem.Reads as has_room_lem
+use Rattle.lines.proofs.text.has_room.Kinds as has_room_kinds
+use Rattle.lines.proofs.text.has_room.Reads as has_room_lem
 use Rattle.lines.proofs.cut.take_line.Kinds as take_line_kinds
 use Rattle.lines.proofs.cut.take_line.Reads as take_line
 

@@ -1,7 +1,7 @@
 -- Field by field.
 use borrow.Author.Rules.{rules}
-use Rattle.flat.proofs.block.flat_block_lem.Statement.{statement}
-use Rattle.flat.proofs.block.flat_block_lem.Tie as tie
+use Rattle.flat.proofs.block.flat_block.Statement.{statement}
+use Rattle.flat.proofs.block.flat_block.Tie as tie
 
 returns : tie.Need-returns
 returns c = rw (c.bit-number.ensures, c.before.block-type-number.ensures)

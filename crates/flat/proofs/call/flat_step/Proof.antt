@@ -1,7 +1,7 @@
 -- By what the call came to.
 use borrow.Author.Rules.{rules}
-use Rattle.flat.proofs.call.flat_step_lem.Statement.{statement}
-use Rattle.flat.proofs.call.flat_step_lem.Tie as tie
+use Rattle.flat.proofs.call.flat_step.Statement.{statement}
+use Rattle.flat.proofs.call.flat_step.Tie as tie
 
 returns : tie.Need-returns
 returns c = rw (c.before.before.before.step.given.1, c.flat-call.ensures, c.before.no-refusal.ensures)

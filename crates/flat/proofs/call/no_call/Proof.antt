@@ -1,7 +1,7 @@
 -- Field by field.
 use borrow.Author.Rules.{rules}
-use Rattle.flat.proofs.call.no_call_lem.Statement.{statement}
-use Rattle.flat.proofs.call.no_call_lem.Tie as tie
+use Rattle.flat.proofs.call.no_call.Statement.{statement}
+use Rattle.flat.proofs.call.no_call.Tie as tie
 
 returns : tie.Need-returns
 returns c = rw (c.no-phase.ensures, c.before.no-scheduler.ensures, c.before.before.no-receiver.ensures)

@@ -2,8 +2,8 @@
 use native.Mathlib.Omega.{arith}
 use borrow.Author.Tests.{le-leb, lt-leb}
 use Rattle.lines.specs.Decimal.{is_digit}
-use Rattle.lines.proofs.decimal.is_digit_lem.Statement.{statement}
-use Rattle.lines.proofs.decimal.is_digit_lem.Tie as tie
+use Rattle.lines.proofs.decimal.is_digit.Statement.{statement}
+use Rattle.lines.proofs.decimal.is_digit.Tie as tie
 
 returns : tie.Need-returns
 unfolding is_digit

@@ -5,8 +5,8 @@ use native.Mathlib.Omega.{arith}
 use borrow.Author.Rules.{rules}
 use Rattle.lines.specs.Decimal.{number_in}
 use Rattle.lines.proofs.DecimalLaws.{digit_bounds, front_end, front_zero, front_digit, front_other, number_there}
-use Rattle.lines.proofs.decimal.number_at_lem.Statement.{statement}
-use Rattle.lines.proofs.decimal.number_at_lem.Tie as tie
+use Rattle.lines.proofs.decimal.number_at.Statement.{statement}
+use Rattle.lines.proofs.decimal.number_at.Tie as tie
 
 returns : tie.Need-returns
 returns c = ap (number_in c.before.before.args.line.now) (sym (front_end c.before.before.args.line.now c.before.before.args.at (omega arith)))

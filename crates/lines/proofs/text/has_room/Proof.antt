@@ -6,8 +6,8 @@ use native.Mathlib.Omega.{arith}
 use borrow.Author.Tests.{lt-leb}
 use borrow.Author.Rules.{rules}
 use Rattle.lines.proofs.TextLaws.{same_leb}
-use Rattle.lines.proofs.text.has_room_lem.Statement.{statement}
-use Rattle.lines.proofs.text.has_room_lem.Tie as tie
+use Rattle.lines.proofs.text.has_room.Statement.{statement}
+use Rattle.lines.proofs.text.has_room.Tie as tie
 
 returns : tie.Need-returns
 returns c = sym (lt-leb (c.before.args.at + c.before.args.longest) (length c.before.args.out.now) (omega arith))

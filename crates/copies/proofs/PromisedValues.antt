@@ -16,7 +16,7 @@ use Rattle.copies.proofs.refusal.Refusal.values.Kinds as values_kinds
 use Rattle.copies.proofs.refusal.Refusal.values.Reads as values
 
 pub number_some : (e : Refusal) → 0 < number_of e
-number_some (Scheduler e) = goal.number-some e
+number_some (Scheduler e) = goal.number_some e
 number_some RingMemory = omega arith
 
 pub values_back : (e : Refusal) → unpacked (packed (values_of e)) ≡ values_of e

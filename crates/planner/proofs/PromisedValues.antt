@@ -16,7 +16,7 @@ use Rattle.planner.proofs.refusal.Refusal.values.Kinds as values_kinds
 use Rattle.planner.proofs.refusal.Refusal.values.Reads as values
 
 pub number_some : (e : Refusal) → 0 < number_of e
-number_some (Scheduler e) = goal.number-some e
+number_some (Scheduler e) = goal.number_some e
 number_some (SizeOutOfBounds rows bytes) = omega arith
 number_some (NoPlan bytes L) = omega arith
 number_some (EmptyRun k) = omega arith

@@ -35,15 +35,14 @@ part_length : (xs : List ℕ) (a n : ℕ) → a + n ≤ length xs → length (pa
 part_length xs a n h = length-take-le n (drop a xs) (omega (arith, length-drop a xs))
 
 -- what a copy of a part of ys, up to e, into a lent part of xs, up to f, leaves of xs
-pub paste_copy : (xs ys last : List ℕ) (a b n e f : ℕ) → e ≡ a + n → f ≡ b + n → a + n ≤ length ys → b + n ≤ length xs →
-    last ≡ take (length (part ys a (e - a))) (part ys a (e - a)) ++ drop (length (part ys a (e - a))) (part xs b (f - b)) →
+pub paste_copy : (xs ys last : List ℕ) (a b n e f : ℕ) → e ≡ a + n → f ≡ b + n → a + n ≤ length ys →
+    last ≡ part ys a (e - a) →
     take b xs ++ (last ++ drop (f - b) (drop b xs)) ≡ pasted xs b (part ys a n)
-paste_copy xs ys last a b n e f pe pf ha hb p =
+paste_copy xs ys last a b n e f pe pf ha p =
     let i : e - a ≡ n = omega arith in
     let j : f - b ≡ n = omega arith in
     let q : length (part ys a n) ≡ n = part_length ys a n ha in
-    let z : drop n (part xs b n) ≡ [] = drop_of_length-le (part xs b n) {i = n} (omega (arith, length-take n (drop b xs))) in
-    rw (p, i, j, take-length (part ys a n), q, z, append-nil, drop-drop)
+    rw (p, i, j, q, drop-drop)
 
 -- ---- n bytes from the place `at` of a ring of l bytes, before its end or round it
 module _ (l at n : ℕ) (inside : at < l) (most : n ≤ l) where

@@ -122,5 +122,5 @@ fn copy_part(from: &[u8], a: usize, to: &mut [u8], b: usize, n: usize)
 {
     let c = a + n;
     let d = b + n;
-    bytes::copy(&from[a..c], &mut to[b..d]);
+    to[b..d].copy_from_slice(&from[a..c]);
 }

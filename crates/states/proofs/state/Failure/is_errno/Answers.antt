@@ -1,0 +1,6 @@
+-- The cases of the definition.
+use borrow.Author.Rules.{rules}
+use Rattle.states.proofs.state.Failure.is_errno.Goals as goal
+
+pub returns-in-Io : goal.returns-in-Io
+returns-in-Io c = rw c.in-Io.is

@@ -1,0 +1,6 @@
+-- The scheduler's tests.
+use borrow.Author.Rules.{rules}
+use Rattle.ends.proofs.writing_end.WritingEnd.from_scheduler.Goals as goal
+
+pub returns : goal.returns
+returns c = rw (c.checked.ensures, c.demand_soundness.ensures)

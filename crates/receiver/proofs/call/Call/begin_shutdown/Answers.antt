@@ -1,0 +1,11 @@
+-- Draining with 32, of a record that passes its tests.
+use mathlib.Core.Path.{sym, ◌∙◌}
+use borrow.Author.Rules.{rules}
+use Rattle.receiver.proofs.call.Call.begin_shutdown.Goals as goal
+
+pub returns-in-Passed : goal.returns-in-Passed
+returns-in-Passed c =
+    rw (← (sym c.in-Passed.is ∙ c.admit.ensures), c.advance_operational_state_towards_termination.ensures, c.telling.ensures)
+
+pub returns-in-Refused : goal.returns-in-Refused
+returns-in-Refused c = rw (← (sym c.in-Refused.is ∙ c.admit.ensures))

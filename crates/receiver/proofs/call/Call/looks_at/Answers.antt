@@ -1,0 +1,6 @@
+-- By the phase.
+use borrow.Author.Rules.{rules}
+use Rattle.receiver.proofs.call.Call.looks_at.Goals as goal
+
+pub returns-in-Receive : goal.returns-in-Receive
+returns-in-Receive c = rw (c.in-Receive.is, c.looks_by.ensures, c.received.ensures)

@@ -1,0 +1,6 @@
+-- By the parts.
+use borrow.Author.Rules.{rules}
+use Rattle.receiver.proofs.going.Going.told.Goals as goal
+
+pub returns : goal.returns
+returns c = rw c.met-ending.ensures

@@ -1,0 +1,6 @@
+-- Nothing beside it.
+use borrow.Author.Rules.{rules}
+use Rattle.receiver.proofs.receiver.Outcome.done.Goals as goal
+
+pub returns : goal.returns
+returns c = rw c.none.ensures

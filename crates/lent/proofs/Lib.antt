@@ -1,5 +1,3 @@
 mod LentLaws
-pub mod LentTake
-mod LendingEnds
 pub mod Says
 pub mod PromisedLent

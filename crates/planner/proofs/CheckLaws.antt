@@ -1,5 +1,5 @@
 -- The ways that the check goes: every run is good and the last row is reached or not, or one run is the first that is not good.
-use Prim.Native.Nat.{ℕ, zero, suc, ◌+◌, ◌-◌, ◌*◌, ◌≤◌, ◌<◌}
+use Prim.Native.Nat.{ℕ, zero, suc, ◌+◌, ◌*◌, ◌≤◌, ◌<◌}
 use mathlib.Core.Path.{◌≡◌, refl, sym, ap, ◌∙◌}
 use mathlib.Core.Bool.{Bool, true, false, cond}
 use mathlib.Core.List.{List, [], ◌∷◌}
@@ -17,7 +17,7 @@ use Rattle.planner.specs.declared.refusal.Refusal.{Refusal}
 use Rattle.planner.specs.declared.refusal.Refusal.TheVariants.{EmptyRun, RunOutOfPlace, RunTooLong, RowsLeft}
 use Rattle.planner.specs.Check.{past_end, run_of, or_else, check_from}
 use Rattle.planner.specs.Given.{Good, Fault, fault_16, fault_17, fault_18}
-use Rattle.planner.specs.Promise.{runs_in, first_at, count_at, behind, IsPlan}
+use Rattle.planner.specs.Promise.{first_at, count_at, behind}
 use Rattle.planner.specs.Refusal.{number_of, values_of}
 use Rattle.planner.proofs.LoopLaws.{past, not_past}
 

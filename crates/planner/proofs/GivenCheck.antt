@@ -1,21 +1,18 @@
 -- 16 to 19 are given exactly when specs/Given.antt says so, of the first run that is wrong: over the definitions.
-use Prim.Native.Nat.{ℕ, zero, suc, ◌+◌, ◌-◌, ◌*◌, ◌<◌, ◌≤◌}
-use mathlib.Core.Path.{◌≡◌, refl, sym, ap, ◌∙◌}
+use Prim.Native.Nat.{ℕ, zero, suc, ◌+◌, ◌-◌, ◌<◌, ◌≤◌}
+use mathlib.Core.Path.{◌≡◌, refl, ap, ◌∙◌}
 use mathlib.Core.List.{List, [], ◌∷◌}
 use mathlib.Core.Logic.{⊎_elim}
 use native.Mathlib.Nat.{zero-add}
 use native.Mathlib.Omega.{arith}
 use Rattle.modular.proofs.Laws.{lt_or_le}
-use Rattle.planner.specs.declared.refusal.Refusal.{Refusal}
-use Rattle.planner.specs.declared.refusal.Refusal.TheVariants.{RowsLeft}
 use Rattle.planner.specs.declared.sizes.Sizes.{Sizes}
 use Rattle.planner.specs.declared.sizes.Sizes.TheVariants as sizes
 use Rattle.planner.specs.declared.verdict.Verdict.{Verdict}
-use Rattle.planner.specs.declared.verdict.Verdict.TheVariants as verdict
 use Rattle.planner.specs.Check.{check_in, checked_from, check_of}
-use Rattle.planner.specs.Given.{Told, told, Exactly, GivenSizes, Good, Fault, fault_16, fault_17, fault_18, GivenCheck, by_sizes, bad_run, given_19, accepted, of_verdict}
-use Rattle.planner.specs.Promise.{Fitting, runs_in, first_at, count_at, behind, IsPlan}
-use Rattle.planner.specs.Refusal.{number_of, values_of}
+use Rattle.planner.specs.Given.{told, Exactly, Good, Fault, fault_16, fault_17, fault_18, GivenCheck, by_sizes, bad_run, given_19, accepted, of_verdict}
+use Rattle.planner.specs.Promise.{Fitting, runs_in, behind, IsPlan}
+use Rattle.planner.specs.Refusal.{number_of}
 use Rattle.planner.specs.Sizes.{sizes_of}
 use Rattle.planner.proofs.CheckLaws.{AllGood, Walked, ends, stops, faults, walked}
 use Rattle.planner.proofs.GivenSizes.{of_sizes, sizes_only, sizes_always, fit_only, refused_not}

@@ -1,5 +1,5 @@
 -- 39 is given exactly where the lent plan has no room for the fewest runs there are: over the definitions.
-use Prim.Native.Nat.{ℕ, ◌+◌, ◌<◌, ◌≤◌}
+use Prim.Native.Nat.{ℕ, ◌<◌, ◌≤◌}
 use mathlib.Core.Path.{◌≡◌, refl, sym, ap, subst}
 use mathlib.Core.Bool.{Bool, true, false, cond}
 use mathlib.Core.List.{List, [], ◌∷◌}
@@ -11,7 +11,7 @@ use Rattle.planner.specs.declared.plan.Proposed.TheVariants as proposed
 use Rattle.planner.specs.declared.refusal.Refusal.TheVariants.{PlanTooShort}
 use Rattle.planner.specs.declared.sizes.Sizes.{Sizes}
 use Rattle.planner.specs.declared.sizes.Sizes.TheVariants as sizes
-use Rattle.planner.specs.Given.{Told, told, Exactly, GivenSizes, fit, GivenPlan, before_39, given_39, room, of_outlined, of_proposed}
+use Rattle.planner.specs.Given.{told, Exactly, GivenSizes, GivenPlan, before_39, given_39, room, of_outlined, of_proposed}
 use Rattle.planner.specs.Plan.{Proposal, proposal, propose_in, propose_from, propose_of}
 use Rattle.planner.specs.Promise.{Fitting, runs_in, IsPlan, Fewest}
 use Rattle.planner.specs.Sizes.{sizes_of}

@@ -1,7 +1,7 @@
 -- The sentences of the request that go over several calls: which plans the check accepts, that those of the planner are among them and that
 -- none of them has fewer runs, and that 15 is given where no plan exists at all.
-use Prim.Native.Nat.{ℕ, zero, suc, ◌+◌, ◌*◌, ◌<◌, ◌≤◌}
-use mathlib.Core.Path.{◌≡◌, refl, sym, ap, ◌∙◌}
+use Prim.Native.Nat.{ℕ, zero, ◌+◌, ◌*◌, ◌<◌, ◌≤◌}
+use mathlib.Core.Path.{◌≡◌, refl, ap}
 use mathlib.Core.List.{List, [], ◌∷◌}
 use mathlib.Core.Logic.{⊎_elim}
 use lib.ListN.{take}
@@ -20,7 +20,6 @@ use Rattle.planner.specs.declared.verdict.Verdict.TheVariants as verdict
 use Rattle.planner.specs.Given.{Told, told, Exactly, GivenSizes, fit, given_1, given_2, given_14, given_15, GivenPlan, before_39, given_39, room, Fault, fault_16, fault_17, fault_18, GivenCheck, by_sizes, bad_run, given_19, accepted, of_outlined, of_proposed, of_verdict}
 use Rattle.planner.specs.Promise.{Bounded, Fitting, runs_in, count_at, behind, IsPlan, Fewest, NoPlanExists, Proposes, runs}
 use Rattle.planner.specs.Promise as promise
-use Rattle.planner.specs.Refusal.{number_of}
 use Rattle.planner.proofs.PromisedValues.{number_some}
 use Rattle.planner.proofs.PlanLaws.{own, own_plan}
 use Rattle.planner.proofs.Promised.{propose_promised}

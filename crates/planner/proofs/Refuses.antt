@@ -1,7 +1,4 @@
 -- Each number is given exactly when specs/Given.antt says so, of the calls: of every outcome that an attached contract allows.
-use Prim.Native.Nat.{ℕ, ◌+◌, ◌<◌}
-use mathlib.Core.Path.{◌≡◌}
-use mathlib.Core.List.{List}
 use Rattle.modular.proofs.Saying.{Keeps}
 use Rattle.planner.specs.Given.{Exactly, GivenSizes, GivenPlan, GivenCheck, of_outlined, of_proposed, of_verdict}
 use Rattle.planner.proofs.GivenCheck.{check_given}

@@ -1,9 +1,9 @@
 -- Strips of one height: where each begins, how many there are, and how many rows fit.
-use Prim.Native.Nat.{ℕ, suc, ◌+◌, ◌-◌, ◌*◌, ◌/◌, ◌%◌, ◌^◌, ◌≤◌, ◌<◌, min}
-use mathlib.Core.Path.{◌≡◌, refl, sym, ap, ◌∙◌}
+use Prim.Native.Nat.{ℕ, ◌+◌, ◌-◌, ◌*◌, ◌/◌, ◌^◌, ◌≤◌, ◌<◌}
+use mathlib.Core.Path.{◌≡◌, refl}
 use mathlib.Core.Bool.{true, false}
 use mathlib.Core.Logic.{⊎_elim}
-use native.Mathlib.Nat.{le-div_iff_mul-le, div-add-mod', mod-lt, mul-le-mul_right, suc-mul, add-mul}
+use native.Mathlib.Nat.{le-div_iff_mul-le, mul-le-mul_right}
 use native.Mathlib.Omega.{arith}
 use Rattle.modular.proofs.Laws.{lt_or_le}
 use Rattle.sched.specs.Chunk.{body_fits}

@@ -13,7 +13,7 @@ use Rattle.lines.specs.Answer.{texts_of, Step, is_ready, step_of, last_of}
 use Rattle.lines.specs.Cut.{Taken, take_of}
 use Rattle.lines.specs.Lines.{last_lines, lines_from, lines_of, joined, Clean}
 use Rattle.lines.specs.Promise.{Part, feed, no_feed}
-use Rattle.lines.specs.Run.{Place, place, Moves, ends, steps, writes, Run, last, next, Start}
+use Rattle.lines.specs.Run.{Place, Moves, ends, steps, writes, Run, last, next, Start}
 use Rattle.lines.specs.Text.{Filled, text_in, append_of}
 use Rattle.lines.proofs.AnswerLaws.{ready_long, ready_there, last_none, last_there, ready_whole, ready_part}
 use Rattle.lines.proofs.CutLaws.{InPlace, Holds, holds_place, Cut, cut, take_again, take_in_place}

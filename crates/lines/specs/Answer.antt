@@ -1,6 +1,6 @@
 -- The answers to the lines of an input, as a program makes them piece by piece: `text` is a line's answer with its line feed,
 -- `longest` the length of the longest one, and of a line at most `most` bytes are held.
-use Rattle.std.specs.Prelude.{ℕ, ◌+◌, Bool, false, cond, List, [], ◌∷◌, ◌++◌, eqb, leb, length}
+use Rattle.std.specs.Prelude.{ℕ, Bool, false, cond, List, [], ◌∷◌, ◌++◌, eqb, leb, length}
 use Rattle.lines.specs.Cut.{Taken, capped, take_of}
 use Rattle.lines.specs.Text.{Filled, filled, text_in, has_room, append_of}
 

@@ -1,8 +1,5 @@
 mod Turns
 pub mod DriveLaws
-pub mod Thin
-pub mod Begun
-pub mod Reading
 pub mod Used
 pub mod Along
 pub mod Rows

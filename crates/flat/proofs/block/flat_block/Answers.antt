@@ -1,0 +1,6 @@
+-- Field by field.
+use borrow.Author.Rules.{rules}
+use Rattle.flat.proofs.block.flat_block.Goals as goal
+
+pub returns : goal.returns
+returns c = rw (c.bit_number.ensures, c.block_type_number.ensures)

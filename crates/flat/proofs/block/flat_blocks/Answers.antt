@@ -1,0 +1,11 @@
+-- The two cases of the definition.
+use borrow.Author.Rules.{rules}
+use Rattle.flat.proofs.block.flat_blocks.Goals as goal
+
+pub returns-in-Of : goal.returns-in-Of
+returns-in-Of c =
+    rw (c.in-Of.is, c.flat_block-in-Of-2.ensures, c.flat_block-in-Of.ensures, c.flat_block.ensures, c.no_refusal.ensures)
+
+pub returns-in-Refused : goal.returns-in-Refused
+returns-in-Refused c =
+    rw (c.in-Refused.is, c.no_block-in-Refused-2.ensures, c.no_block-in-Refused.ensures, c.no_block.ensures, c.flat_refusal.ensures)

@@ -1,0 +1,6 @@
+-- Field by field.
+use borrow.Author.Rules.{rules}
+use Rattle.flat.proofs.call.call.Goals as goal
+
+pub returns : goal.returns
+returns c = rw (c.phase.ensures, c.scheduler.ensures, c.receiver_state.ensures)

@@ -1,0 +1,6 @@
+-- Field by field.
+use borrow.Author.Rules.{rules}
+use Rattle.flat.proofs.call.flat_call.Goals as goal
+
+pub returns : goal.returns
+returns c = rw (c.flat_phase.ensures, c.flat_scheduler.ensures, c.flat_receiver.ensures)

@@ -1,0 +1,6 @@
+-- Field by field.
+use borrow.Author.Rules.{rules}
+use Rattle.flat.proofs.call.flat_ending.Goals as goal
+
+pub returns : goal.returns
+returns c = rw (c.flat_outcome.ensures, c.bool_number.ensures)

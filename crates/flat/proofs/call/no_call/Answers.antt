@@ -1,0 +1,6 @@
+-- Field by field.
+use borrow.Author.Rules.{rules}
+use Rattle.flat.proofs.call.no_call.Goals as goal
+
+pub returns : goal.returns
+returns c = rw (c.no_phase.ensures, c.no_scheduler.ensures, c.no_receiver.ensures)

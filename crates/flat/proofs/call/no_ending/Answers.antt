@@ -1,0 +1,6 @@
+-- Zeros.
+use borrow.Author.Rules.{rules}
+use Rattle.flat.proofs.call.no_ending.Goals as goal
+
+pub returns : goal.returns
+returns c = rw c.no_outcome.ensures

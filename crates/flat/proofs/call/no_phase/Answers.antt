@@ -1,0 +1,6 @@
+-- Field by field.
+use borrow.Author.Rules.{rules}
+use Rattle.flat.proofs.call.no_phase.Goals as goal
+
+pub returns : goal.returns
+returns c = rw (c.no_outcome.ensures, c.no_ending.ensures)

@@ -1,0 +1,6 @@
+-- The number, with no refusal.
+use borrow.Author.Rules.{rules}
+use Rattle.flat.proofs.counter.u64_of.Goals as goal
+
+pub returns : goal.returns
+returns c = rw c.no_refusal.ensures

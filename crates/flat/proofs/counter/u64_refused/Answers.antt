@@ -1,0 +1,6 @@
+-- The refusal's flat form, with 0.
+use borrow.Author.Rules.{rules}
+use Rattle.flat.proofs.counter.u64_refused.Goals as goal
+
+pub returns : goal.returns
+returns c = rw c.flat_refusal.ensures

@@ -1,0 +1,6 @@
+-- Zeros.
+use borrow.Author.Rules.{rules}
+use Rattle.flat.proofs.list.no_range.Goals as goal
+
+pub returns : goal.returns
+returns c = rw c.no_operation.ensures

@@ -1,0 +1,6 @@
+-- Field by field.
+use borrow.Author.Rules.{rules}
+use Rattle.flat.proofs.operation.operation.Goals as goal
+
+pub returns : goal.returns
+returns c = rw (c.new.ensures, c.operation_type.ensures)

@@ -1,0 +1,6 @@
+-- Zeros.
+use borrow.Author.Rules.{rules}
+use Rattle.flat.proofs.outcome.no_outcome.Goals as goal
+
+pub returns : goal.returns
+returns c = rw c.no_failure.ensures

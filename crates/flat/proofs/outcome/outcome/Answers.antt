@@ -1,0 +1,6 @@
+-- What it came to, and what stands beside it.
+use borrow.Author.Rules.{rules}
+use Rattle.flat.proofs.outcome.outcome.Goals as goal
+
+pub returns : goal.returns
+returns c = rw (c.came.ensures, c.beside.ensures)

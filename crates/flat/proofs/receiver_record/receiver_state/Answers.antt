@@ -1,0 +1,6 @@
+-- Field by field.
+use borrow.Author.Rules.{rules}
+use Rattle.flat.proofs.receiver_record.receiver_state.Goals as goal
+
+pub returns : goal.returns
+returns c = rw (c.yes.ensures, c.state.ensures, c.scheduler.ensures)

@@ -1,0 +1,6 @@
+-- Zeros.
+use borrow.Author.Rules.{rules}
+use Rattle.flat.proofs.writing_end.no_writing_end.Goals as goal
+
+pub returns : goal.returns
+returns c = rw c.no_scheduler.ensures

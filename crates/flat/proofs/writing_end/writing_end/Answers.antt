@@ -1,0 +1,6 @@
+-- Field by field.
+use borrow.Author.Rules.{rules}
+use Rattle.flat.proofs.writing_end.writing_end.Goals as goal
+
+pub returns : goal.returns
+returns c = rw c.scheduler.ensures

@@ -200,12 +200,12 @@ module _ (q : Question) where
   next_is : (piece : List ℕ) (s : Place) (i : ℕ) (x : Step) → NextCall piece s i x → x ≡ step_of q s.held i piece s.out
   next_is piece s i x c =
       let left = answer_next_says c.κs c.a c.z c.ws c.allowed in
-      c.leaves ∙ rw (left.0, left.1, c.asks, c.lent-line, c.lent-piece.0, c.lent-piece.1, c.lent_out)
+      c.leaves ∙ rw (left.0, left.1, c.asks, c.lent_line, c.lent_piece.0, c.lent_piece.1, c.lent_out)
 
   last_is : (s : Place) (o : Filled) → LastCall s o → o ≡ last_of q s.held s.out
   last_is s o c =
       let left = answer_last_says c.κs c.a c.z c.ws c.allowed in
-      c.leaves ∙ rw (left.0, left.1, c.asks, c.lent-line, c.lent_out)
+      c.leaves ∙ rw (left.0, left.1, c.asks, c.lent_line, c.lent_out)
 
   run_is : (pieces : List (List ℕ)) (s : Place) (text : List ℕ) → Start most_held s → Run most_held longest NextCall LastCall pieces s text → text ≡ texts_of q (lines_of (joined pieces))
   run_is = run_text (line_text q) most_held longest (omega arith) (text_kept q) (λ line. plan_text_short (plan_of q line)) NextCall LastCall next_is last_is

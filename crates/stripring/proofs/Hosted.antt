@@ -6,7 +6,8 @@ use mathlib.Core.List.{List, []}
 use native.Mathlib.Omega.{arith}
 use borrow.Author.Tests.{ne_eqb}
 use contract.Lifetimes.{Lfts}
-use denote.Ref.{Bor}
+use denote.Bor.{Bor}
+use denote.MutBor.{MutBor}
 use denote.Triple.Clauses.{at_exit}
 use borrow.Fn.Kinds.{ended_of}
 use Rattle.modular.proofs.Saying.{Says, Leaves}
@@ -133,23 +134,29 @@ reading_back (reading.Of e) = refl
 reading_back (reading.Refused e) = refused_back e _ reading.Refused
 
 -- ---- the outcomes that the exports' contracts allow on these values, wherever the memory is that is lent
-abbrev Place : Type 0
-Place = (ℕ × ℕ) × ℕ
+abbrev Address : Type 0
+Address = ℕ × ℕ
 
-abbrev lent : Place → List ℕ → Bor (List ℕ)
+abbrev Place : Type 0
+Place = Address × ℕ
+
+abbrev lent : Place → List ℕ → MutBor (List ℕ)
 lent at bytes = record { ref_ptr = at.0; ghost_name = at.1; now = bytes }
+
+abbrev shown : Address → List ℕ → Bor (List ℕ)
+shown at bytes = record { ref_ptr = at; now = bytes }
 
 abbrev pub MayWrite : WritingEnd → List ℕ → List ℕ → WroteAnswerLeft → Type 0
 MayWrite e ring src x =
-    (κs : Lfts 2) × (p : Place) × (q : Place) ×
-    write.Learnt κs (e, (lent p ring, (lent q src, tt))) x.answer
-    (at_exit (ended_of 2 write_kinds.ps write_kinds.r) κs (e, (lent p ring, (lent q src, tt))) (tt, (x.memory, (tt, tt))))
+    (κs : Lfts 2) × (p : Place) × (q : Address) ×
+    write.Learnt κs (e, (lent p ring, (shown q src, tt))) x.answer
+    (at_exit (ended_of 2 write_kinds.ps write_kinds.r) κs (e, (lent p ring, (shown q src, tt))) (tt, (x.memory, (tt, tt))))
 
 abbrev pub MayRead : ReadingEnd → List ℕ → List ℕ → GotAnswerLeft → Type 0
 MayRead e ring dst x =
-    (κs : Lfts 2) × (p : Place) × (q : Place) ×
-    read.Learnt κs (e, (lent p ring, (lent q dst, tt))) x.answer
-    (at_exit (ended_of 2 read_kinds.ps read_kinds.r) κs (e, (lent p ring, (lent q dst, tt))) (tt, (tt, (x.memory, tt))))
+    (κs : Lfts 2) × (p : Address) × (q : Place) ×
+    read.Learnt κs (e, (shown p ring, (lent q dst, tt))) x.answer
+    (at_exit (ended_of 2 read_kinds.ps read_kinds.r) κs (e, (shown p ring, (lent q dst, tt))) (tt, (tt, (x.memory, tt))))
 
 abbrev pub MaySendW : WritingEnd → WrittenCounterAnswer → Type 0
 MaySendW e z = send_w.Learnt tt (e, tt) z (at_exit (ended_of 0 send_w_kinds.ps send_w_kinds.r) tt (e, tt) (tt, tt))
@@ -214,8 +221,8 @@ flatly =
 pub some_calls : FlatAllowed flatly
 some_calls =
     record {
-      write = λ e ring src. (([], ([], tt)), ((0, 0), 0), ((0, 0), 0), refl);
-      read = λ e ring dst. (([], ([], tt)), ((0, 0), 0), ((0, 0), 0), refl);
+      write = λ e ring src. (([], ([], tt)), ((0, 0), 0), (0, 0), refl);
+      read = λ e ring dst. (([], ([], tt)), (0, 0), ((0, 0), 0), refl);
       send_w = λ e. refl;
       send_r = λ e. refl;
       take_w = λ e n. refl;

@@ -1,7 +1,4 @@
-pub mod FlatRun
-pub mod FlatReading
 mod InPlaceLaws
-mod InPlaceTypes
 pub mod SaysEnds
 pub mod PromisedInPlace
 pub mod SaysReceiver

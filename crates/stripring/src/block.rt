@@ -7,8 +7,7 @@ use flat::block::{bit, block_type, flat_block};
 use flat::structs::Block;
 use sched::Offset;
 
-#[unsafe(no_mangle)]
-pub extern "C" fn stripring_block_new(typ: u64, no: u64, off: u64, len: u64) -> Block
+pub fn stripring_block_new(typ: u64, no: u64, off: u64, len: u64) -> Block
     ensures { result ≡ flat_block (block_of (block_type_at typ) (bit_at no) (record { 0 = off }) len) }
 {
     flat_block(sched::Block::new(block_type(typ), bit(no), Offset(off), len))

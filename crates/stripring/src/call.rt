@@ -10,8 +10,7 @@ use flat::receiver_record::receiver_state;
 use flat::structs::{Call, Receiver, StepAnswer};
 use states::Answer;
 
-#[unsafe(no_mangle)]
-pub extern "C" fn stripring_call_begin_read(
+pub fn stripring_call_begin_read(
     receiver: Receiver,
     ring_len: usize,
     max_new_fds: u64,
@@ -22,28 +21,20 @@ pub extern "C" fn stripring_call_begin_read(
     flat_step(receiver::Call::begin_read(receiver_state(receiver), ring_len, max_new_fds, dst_len))
 }
 
-#[unsafe(no_mangle)]
-pub extern "C" fn stripring_call_begin_service(receiver: Receiver) -> StepAnswer
+pub fn stripring_call_begin_service(receiver: Receiver) -> StepAnswer
     ensures { result ≡ flat_step (begin_service_of (receiver_at receiver)) }
 {
     flat_step(receiver::Call::begin_service(receiver_state(receiver)))
 }
 
-#[unsafe(no_mangle)]
-pub extern "C" fn stripring_call_begin_shutdown(receiver: Receiver) -> StepAnswer
+pub fn stripring_call_begin_shutdown(receiver: Receiver) -> StepAnswer
     ensures { result ≡ flat_step (begin_shutdown_of (receiver_at receiver)) }
 {
     flat_step(receiver::Call::begin_shutdown(receiver_state(receiver)))
 }
 
 // The call after the answer at this place, counted from 1.
-#[unsafe(no_mangle)]
-pub extern "C" fn stripring_call_answered(
-    call: Call,
-    ring: &[u8],
-    answer: Answer,
-    place: u64,
-) -> StepAnswer
+pub fn stripring_call_answered(call: Call, ring: &[u8], answer: Answer, place: u64) -> StepAnswer
     ensures { result ≡ flat_step (answered_of (call_at call) ring.now answer place) }
 {
     flat_step(flat::call::call(call).answered(ring, answer, place))

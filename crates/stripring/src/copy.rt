@@ -7,23 +7,13 @@ ghost use Rattle.flat.specs.Scheduler.{scheduler_at};
 use flat::copy::flat_copied;
 use flat::structs::{CopyAnswer, Scheduler};
 
-#[unsafe(no_mangle)]
-pub extern "C" fn stripring_copies_write(
-    scheduler: Scheduler,
-    ring: &mut [u8],
-    src: &[u8],
-) -> CopyAnswer
+pub fn stripring_copies_write(scheduler: Scheduler, ring: &mut [u8], src: &[u8]) -> CopyAnswer
     ensures { copy_answer_left result ring.new ≡ flat_left (write_of (scheduler_at scheduler) ring.old src.now) }
 {
     flat_copied(copies::write(flat::scheduler::scheduler(scheduler), ring, src))
 }
 
-#[unsafe(no_mangle)]
-pub extern "C" fn stripring_copies_read(
-    scheduler: Scheduler,
-    ring: &[u8],
-    dst: &mut [u8],
-) -> CopyAnswer
+pub fn stripring_copies_read(scheduler: Scheduler, ring: &[u8], dst: &mut [u8]) -> CopyAnswer
     ensures { copy_answer_left result dst.new ≡ flat_left (read_of (scheduler_at scheduler) ring.now dst.old) }
 {
     flat_copied(copies::read(flat::scheduler::scheduler(scheduler), ring, dst))

@@ -6,36 +6,31 @@ ghost use Rattle.flat.specs.Diff.{diff_at, flat_diff};
 use flat::diff::flat_diff;
 use flat::structs::Diff;
 
-#[unsafe(no_mangle)]
-pub extern "C" fn stripring_diff_new(old: u64, new: u64) -> Diff
+pub fn stripring_diff_new(old: u64, new: u64) -> Diff
     ensures { result ≡ flat_diff (diff_of old new) }
 {
     flat_diff(sched::Diff::new(old, new))
 }
 
-#[unsafe(no_mangle)]
-pub extern "C" fn stripring_diff_is_same(diff: Diff) -> bool
+pub fn stripring_diff_is_same(diff: Diff) -> bool
     ensures { result ≡ is_same_of (diff_at diff) }
 {
     flat::diff::diff(diff).is_same()
 }
 
-#[unsafe(no_mangle)]
-pub extern "C" fn stripring_diff_is_different(diff: Diff) -> bool
+pub fn stripring_diff_is_different(diff: Diff) -> bool
     ensures { result ≡ is_different_of (diff_at diff) }
 {
     flat::diff::diff(diff).is_different()
 }
 
-#[unsafe(no_mangle)]
-pub extern "C" fn stripring_diff_old_value(diff: Diff) -> u64
+pub fn stripring_diff_old_value(diff: Diff) -> u64
     ensures { result ≡ old_value_of (diff_at diff) }
 {
     flat::diff::diff(diff).old_value()
 }
 
-#[unsafe(no_mangle)]
-pub extern "C" fn stripring_diff_new_value(diff: Diff) -> u64
+pub fn stripring_diff_new_value(diff: Diff) -> u64
     ensures { result ≡ new_value_of (diff_at diff) }
 {
     flat::diff::diff(diff).new_value()

@@ -6,15 +6,13 @@ ghost use Rattle.flat.specs.Failure.{failure_at, flat_failure_answer};
 use flat::failure::flat_failure_answer;
 use flat::structs::{Failure, FailureAnswer};
 
-#[unsafe(no_mangle)]
-pub extern "C" fn stripring_failure_normalize(failure: Failure) -> FailureAnswer
+pub fn stripring_failure_normalize(failure: Failure) -> FailureAnswer
     ensures { result ≡ flat_failure_answer (normalize_failure_of (failure_at failure)) }
 {
     flat_failure_answer(flat::failure::failure(failure).normalize())
 }
 
-#[unsafe(no_mangle)]
-pub extern "C" fn stripring_failure_advance_failure_towards_error(
+pub fn stripring_failure_advance_failure_towards_error(
     failure: Failure,
     error: Failure,
 ) -> FailureAnswer

@@ -36,8 +36,7 @@ pub struct TookReader {
 
 // ---- the writing end
 
-#[unsafe(no_mangle)]
-pub extern "C" fn stripring_writing_end_write_in_place(
+pub fn stripring_writing_end_write_in_place(
     end: &mut WritingEnd,
     ring: &mut [u8],
     src: &[u8],
@@ -49,11 +48,7 @@ pub extern "C" fn stripring_writing_end_write_in_place(
     kept.told
 }
 
-#[unsafe(no_mangle)]
-pub extern "C" fn stripring_writing_end_take_in_place(
-    end: &mut WritingEnd,
-    counter: ReadCounter,
-) -> Refusal
+pub fn stripring_writing_end_take_in_place(end: &mut WritingEnd, counter: ReadCounter) -> Refusal
     ensures { TakeReadInPlace end.old counter result end.new }
 {
     let took = take_read_kept(*end, counter);
@@ -107,8 +102,7 @@ fn take_read_kept(end: WritingEnd, counter: ReadCounter) -> TookWriter
 
 // ---- the reading end
 
-#[unsafe(no_mangle)]
-pub extern "C" fn stripring_reading_end_read_in_place(
+pub fn stripring_reading_end_read_in_place(
     end: &mut ReadingEnd,
     ring: &[u8],
     dst: &mut [u8],
@@ -120,11 +114,7 @@ pub extern "C" fn stripring_reading_end_read_in_place(
     kept.told
 }
 
-#[unsafe(no_mangle)]
-pub extern "C" fn stripring_reading_end_take_in_place(
-    end: &mut ReadingEnd,
-    counter: WrittenCounter,
-) -> Refusal
+pub fn stripring_reading_end_take_in_place(end: &mut ReadingEnd, counter: WrittenCounter) -> Refusal
     ensures { TakeWrittenInPlace end.old counter result end.new }
 {
     let took = take_written_kept(*end, counter);

@@ -9,43 +9,37 @@ use flat::list::{flat_operations_answer, flat_ranges_answer, flat_starts_answer,
 use flat::structs::{Operations, OperationsAnswer, RangesAnswer, StartsAnswer, U64Answer};
 use sched::ScheduledOperations;
 
-#[unsafe(no_mangle)]
-pub extern "C" fn stripring_operations_try_new(list: Operations) -> OperationsAnswer
+pub fn stripring_operations_try_new(list: Operations) -> OperationsAnswer
     ensures { result ≡ flat_operations_answer (sound_list_of (operations_at list)) }
 {
     flat_operations_answer(ScheduledOperations::try_new(operations(list)))
 }
 
-#[unsafe(no_mangle)]
-pub extern "C" fn stripring_operations_container(list: Operations) -> OperationsAnswer
+pub fn stripring_operations_container(list: Operations) -> OperationsAnswer
     ensures { result ≡ flat_operations_answer (sound_list_of (operations_at list)) }
 {
     flat_operations_answer(operations(list).container())
 }
 
-#[unsafe(no_mangle)]
-pub extern "C" fn stripring_operations_into_container(list: Operations) -> OperationsAnswer
+pub fn stripring_operations_into_container(list: Operations) -> OperationsAnswer
     ensures { result ≡ flat_operations_answer (sound_list_of (operations_at list)) }
 {
     flat_operations_answer(operations(list).into_container())
 }
 
-#[unsafe(no_mangle)]
-pub extern "C" fn stripring_operations_cumulative_operation_length(list: Operations) -> U64Answer
+pub fn stripring_operations_cumulative_operation_length(list: Operations) -> U64Answer
     ensures { result ≡ flat_amount (cumulative_length_of (operations_at list)) }
 {
     flat_amount(operations(list).cumulative_operation_length())
 }
 
-#[unsafe(no_mangle)]
-pub extern "C" fn stripring_operations_with_cumulative_offset(list: Operations) -> StartsAnswer
+pub fn stripring_operations_with_cumulative_offset(list: Operations) -> StartsAnswer
     ensures { result ≡ flat_starts_answer (cumulative_offsets_of (operations_at list)) }
 {
     flat_starts_answer(operations(list).with_cumulative_offset())
 }
 
-#[unsafe(no_mangle)]
-pub extern "C" fn stripring_operations_with_outside_buffer_range(list: Operations) -> RangesAnswer
+pub fn stripring_operations_with_outside_buffer_range(list: Operations) -> RangesAnswer
     ensures { result ≡ flat_ranges_answer (outside_ranges_of (operations_at list)) }
 {
     flat_ranges_answer(operations(list).with_outside_buffer_range())

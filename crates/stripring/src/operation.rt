@@ -7,15 +7,13 @@ use flat::operation::{flat_operation, operation_type};
 use flat::structs::Operation;
 use sched::{Offset, ScheduledOperation};
 
-#[unsafe(no_mangle)]
-pub extern "C" fn stripring_operation_new(typ: u64, off: u64, len: u64) -> Operation
+pub fn stripring_operation_new(typ: u64, off: u64, len: u64) -> Operation
     ensures { result ≡ flat_operation (operation_of (type_at typ) (record { 0 = off }) len) }
 {
     flat_operation(ScheduledOperation::new(operation_type(typ), Offset(off), len))
 }
 
-#[unsafe(no_mangle)]
-pub extern "C" fn stripring_operation_default() -> Operation
+pub fn stripring_operation_default() -> Operation
     ensures { result ≡ flat_operation default_operation }
 {
     flat_operation(ScheduledOperation::default())

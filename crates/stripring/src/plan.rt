@@ -9,15 +9,13 @@ use flat::plan::{flat_outlined, flat_proposed, flat_verdict};
 use flat::structs::{ProposeAnswer, Refusal, StripsAnswer};
 use planner::{check, outline, propose};
 
-#[unsafe(no_mangle)]
-pub extern "C" fn stripring_planner_outline(rows: u64, row_bytes: u64, buf_len: u64) -> StripsAnswer
+pub fn stripring_planner_outline(rows: u64, row_bytes: u64, buf_len: u64) -> StripsAnswer
     ensures { result ≡ flat_outlined (outline_of rows row_bytes buf_len) }
 {
     flat_outlined(outline(rows, row_bytes, buf_len))
 }
 
-#[unsafe(no_mangle)]
-pub extern "C" fn stripring_planner_propose(
+pub fn stripring_planner_propose(
     rows: u64,
     row_bytes: u64,
     buf_len: u64,
@@ -28,13 +26,7 @@ pub extern "C" fn stripring_planner_propose(
     flat_proposed(propose(rows, row_bytes, buf_len, plan))
 }
 
-#[unsafe(no_mangle)]
-pub extern "C" fn stripring_planner_check(
-    rows: u64,
-    row_bytes: u64,
-    buf_len: u64,
-    plan: &[u64],
-) -> Refusal
+pub fn stripring_planner_check(rows: u64, row_bytes: u64, buf_len: u64, plan: &[u64]) -> Refusal
     ensures { result ≡ flat_verdict (check_of rows row_bytes buf_len plan.now) }
 {
     flat_verdict(check(rows, row_bytes, buf_len, plan))

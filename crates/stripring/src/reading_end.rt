@@ -15,15 +15,13 @@ use sched::Counter;
 
 // ---- making one
 
-#[unsafe(no_mangle)]
-pub extern "C" fn stripring_reading_end_new(buf_len: u64) -> ReadingEndAnswer
+pub fn stripring_reading_end_new(buf_len: u64) -> ReadingEndAnswer
     ensures { result ≡ flat_reading_end_answer (reading_end_of (scheduler_of buf_len (record { 0 = 0 }) (record { 0 = 0 }))) }
 {
     flat_reading_end_answer(ends::ReadingEnd::new(buf_len))
 }
 
-#[unsafe(no_mangle)]
-pub extern "C" fn stripring_reading_end_from_counters(
+pub fn stripring_reading_end_from_counters(
     buf_len: u64,
     items_written: u64,
     items_read: u64,
@@ -37,8 +35,7 @@ pub extern "C" fn stripring_reading_end_from_counters(
     ))
 }
 
-#[unsafe(no_mangle)]
-pub extern "C" fn stripring_reading_end_from_scheduler(scheduler: Scheduler) -> ReadingEndAnswer
+pub fn stripring_reading_end_from_scheduler(scheduler: Scheduler) -> ReadingEndAnswer
     ensures { result ≡ flat_reading_end_answer (reading_end_of (scheduler_at scheduler)) }
 {
     flat_reading_end_answer(ends::ReadingEnd::from_scheduler(flat::scheduler::scheduler(scheduler)))
@@ -46,29 +43,19 @@ pub extern "C" fn stripring_reading_end_from_scheduler(scheduler: Scheduler) -> 
 
 // ---- reading, and sending and taking counters
 
-#[unsafe(no_mangle)]
-pub extern "C" fn stripring_reading_end_read(
-    end: ReadingEnd,
-    ring: &[u8],
-    dst: &mut [u8],
-) -> GotAnswer
+pub fn stripring_reading_end_read(end: ReadingEnd, ring: &[u8], dst: &mut [u8]) -> GotAnswer
     ensures { got_answer_left result dst.new ≡ flat_got_left (got_of (reading_end_at end) ring.now dst.old) }
 {
     flat_got(reading_end(end).read(ring, dst))
 }
 
-#[unsafe(no_mangle)]
-pub extern "C" fn stripring_reading_end_send(end: ReadingEnd) -> ReadCounterAnswer
+pub fn stripring_reading_end_send(end: ReadingEnd) -> ReadCounterAnswer
     ensures { result ≡ flat_read_counter (read_sent_of (reading_end_at end)) }
 {
     flat_read_counter(reading_end(end).send())
 }
 
-#[unsafe(no_mangle)]
-pub extern "C" fn stripring_reading_end_take(
-    end: ReadingEnd,
-    counter: WrittenCounter,
-) -> ReadingEndAnswer
+pub fn stripring_reading_end_take(end: ReadingEnd, counter: WrittenCounter) -> ReadingEndAnswer
     ensures { result ≡ flat_reading_end_answer (take_written_of (reading_end_at end) (written_counter_at counter)) }
 {
     flat_reading_end_answer(reading_end(end).take(written_counter(counter)))

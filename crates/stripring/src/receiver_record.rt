@@ -8,8 +8,7 @@ use flat::receiver_record::flat_receiver_answer;
 use flat::structs::{ReceiverAnswer, Scheduler};
 use receiver::ReceiverState;
 
-#[unsafe(no_mangle)]
-pub extern "C" fn stripring_receiver_new(scheduler: Scheduler) -> ReceiverAnswer
+pub fn stripring_receiver_new(scheduler: Scheduler) -> ReceiverAnswer
     ensures { result ≡ flat_receiver_answer (receiver_of (scheduler_at scheduler)) }
 {
     flat_receiver_answer(ReceiverState::new(flat::scheduler::scheduler(scheduler)))

@@ -5,8 +5,7 @@ use flat::receiver_record::{flat_ended, receiver_state};
 use flat::structs::{EndedAnswer, Receiver};
 use states::Answer;
 
-#[unsafe(no_mangle)]
-pub extern "C" fn stripring_receiver_read_with_fds(
+pub fn stripring_receiver_read_with_fds(
     receiver: Receiver,
     ring: &[u8],
     dst: &mut [u8],
@@ -19,8 +18,7 @@ pub extern "C" fn stripring_receiver_read_with_fds(
 }
 
 // A read that tells the end of the stream as failure 32.
-#[unsafe(no_mangle)]
-pub extern "C" fn stripring_receiver_read_with_fds_impl(
+pub fn stripring_receiver_read_with_fds_impl(
     receiver: Receiver,
     ring: &[u8],
     dst: &mut [u8],
@@ -38,8 +36,7 @@ pub extern "C" fn stripring_receiver_read_with_fds_impl(
     ))
 }
 
-#[unsafe(no_mangle)]
-pub extern "C" fn stripring_receiver_service_chunk_acknowledgements(
+pub fn stripring_receiver_service_chunk_acknowledgements(
     receiver: Receiver,
     answers: &[Answer],
 ) -> EndedAnswer
@@ -48,8 +45,7 @@ pub extern "C" fn stripring_receiver_service_chunk_acknowledgements(
     flat_ended(driver::service_chunk_acknowledgements(receiver_state(receiver), answers))
 }
 
-#[unsafe(no_mangle)]
-pub extern "C" fn stripring_receiver_shutdown(receiver: Receiver, answers: &[Answer]) -> EndedAnswer
+pub fn stripring_receiver_shutdown(receiver: Receiver, answers: &[Answer]) -> EndedAnswer
     ensures { FlatShutdownLeaves receiver answers.now result }
 {
     flat_ended(driver::shutdown(receiver_state(receiver), answers))

@@ -16,88 +16,73 @@ use sched::OperationType;
 
 // ---- layout and blocks
 
-#[unsafe(no_mangle)]
-pub extern "C" fn stripring_scheduler_layout(scheduler: Scheduler) -> U64Answer
+pub fn stripring_scheduler_layout(scheduler: Scheduler) -> U64Answer
     ensures { result ≡ flat_layout (layout_of (scheduler_at scheduler)) }
 {
     flat_layout(flat::scheduler::scheduler(scheduler).layout())
 }
 
-#[unsafe(no_mangle)]
-pub extern "C" fn stripring_scheduler_blocks(scheduler: Scheduler) -> BlocksAnswer
+pub fn stripring_scheduler_blocks(scheduler: Scheduler) -> BlocksAnswer
     ensures { result ≡ flat_blocks (blocks_of (scheduler_at scheduler)) }
 {
     flat_blocks(flat::scheduler::scheduler(scheduler).blocks())
 }
 
-#[unsafe(no_mangle)]
-pub extern "C" fn stripring_scheduler_block_0(scheduler: Scheduler) -> BlockAnswer
+pub fn stripring_scheduler_block_0(scheduler: Scheduler) -> BlockAnswer
     ensures { result ≡ flat_block_answer (block0_from (blocks_of (scheduler_at scheduler))) }
 {
     flat_block_answer(flat::scheduler::scheduler(scheduler).block_0())
 }
 
-#[unsafe(no_mangle)]
-pub extern "C" fn stripring_scheduler_block_1(scheduler: Scheduler) -> BlockAnswer
+pub fn stripring_scheduler_block_1(scheduler: Scheduler) -> BlockAnswer
     ensures { result ≡ flat_block_answer (block1_from (blocks_of (scheduler_at scheduler))) }
 {
     flat_block_answer(flat::scheduler::scheduler(scheduler).block_1())
 }
 
-#[unsafe(no_mangle)]
-pub extern "C" fn stripring_scheduler_block_2(scheduler: Scheduler) -> BlockAnswer
+pub fn stripring_scheduler_block_2(scheduler: Scheduler) -> BlockAnswer
     ensures { result ≡ flat_block_answer (block2_from (blocks_of (scheduler_at scheduler))) }
 {
     flat_block_answer(flat::scheduler::scheduler(scheduler).block_2())
 }
 
-#[unsafe(no_mangle)]
-pub extern "C" fn stripring_scheduler_block_0_off(scheduler: Scheduler) -> U64Answer
+pub fn stripring_scheduler_block_0_off(scheduler: Scheduler) -> U64Answer
     ensures { result ≡ flat_offset (off_from (block0_from (blocks_of (scheduler_at scheduler)))) }
 {
     flat_offset(flat::scheduler::scheduler(scheduler).block_0_off())
 }
 
-#[unsafe(no_mangle)]
-pub extern "C" fn stripring_scheduler_block_1_off(scheduler: Scheduler) -> U64Answer
+pub fn stripring_scheduler_block_1_off(scheduler: Scheduler) -> U64Answer
     ensures { result ≡ flat_offset (off_from (block1_from (blocks_of (scheduler_at scheduler)))) }
 {
     flat_offset(flat::scheduler::scheduler(scheduler).block_1_off())
 }
 
-#[unsafe(no_mangle)]
-pub extern "C" fn stripring_scheduler_block_2_off(scheduler: Scheduler) -> U64Answer
+pub fn stripring_scheduler_block_2_off(scheduler: Scheduler) -> U64Answer
     ensures { result ≡ flat_offset (off_from (block2_from (blocks_of (scheduler_at scheduler)))) }
 {
     flat_offset(flat::scheduler::scheduler(scheduler).block_2_off())
 }
 
-#[unsafe(no_mangle)]
-pub extern "C" fn stripring_scheduler_block_0_len(scheduler: Scheduler) -> U64Answer
+pub fn stripring_scheduler_block_0_len(scheduler: Scheduler) -> U64Answer
     ensures { result ≡ flat_amount (len_from (block0_from (blocks_of (scheduler_at scheduler)))) }
 {
     flat_amount(flat::scheduler::scheduler(scheduler).block_0_len())
 }
 
-#[unsafe(no_mangle)]
-pub extern "C" fn stripring_scheduler_block_1_len(scheduler: Scheduler) -> U64Answer
+pub fn stripring_scheduler_block_1_len(scheduler: Scheduler) -> U64Answer
     ensures { result ≡ flat_amount (len_from (block1_from (blocks_of (scheduler_at scheduler)))) }
 {
     flat_amount(flat::scheduler::scheduler(scheduler).block_1_len())
 }
 
-#[unsafe(no_mangle)]
-pub extern "C" fn stripring_scheduler_block_2_len(scheduler: Scheduler) -> U64Answer
+pub fn stripring_scheduler_block_2_len(scheduler: Scheduler) -> U64Answer
     ensures { result ≡ flat_amount (len_from (block2_from (blocks_of (scheduler_at scheduler)))) }
 {
     flat_amount(flat::scheduler::scheduler(scheduler).block_2_len())
 }
 
-#[unsafe(no_mangle)]
-pub extern "C" fn stripring_scheduler_next_operation_block(
-    scheduler: Scheduler,
-    op_type: u64,
-) -> BlockAnswer
+pub fn stripring_scheduler_next_operation_block(scheduler: Scheduler, op_type: u64) -> BlockAnswer
     ensures { result ≡ flat_block_answer (next_block_of (scheduler_at scheduler) (type_at op_type)) }
 {
     flat_block_answer(flat::scheduler::scheduler(scheduler).next_operation_block(operation_type(
@@ -105,15 +90,13 @@ pub extern "C" fn stripring_scheduler_next_operation_block(
     )))
 }
 
-#[unsafe(no_mangle)]
-pub extern "C" fn stripring_scheduler_next_read_block(scheduler: Scheduler) -> BlockAnswer
+pub fn stripring_scheduler_next_read_block(scheduler: Scheduler) -> BlockAnswer
     ensures { result ≡ flat_block_answer (next_block_of (scheduler_at scheduler) OperationType.Read) }
 {
     flat_block_answer(flat::scheduler::scheduler(scheduler).next_read_block())
 }
 
-#[unsafe(no_mangle)]
-pub extern "C" fn stripring_scheduler_next_write_block(scheduler: Scheduler) -> BlockAnswer
+pub fn stripring_scheduler_next_write_block(scheduler: Scheduler) -> BlockAnswer
     ensures { result ≡ flat_block_answer (next_block_of (scheduler_at scheduler) OperationType.Write) }
 {
     flat_block_answer(flat::scheduler::scheduler(scheduler).next_write_block())
@@ -121,8 +104,7 @@ pub extern "C" fn stripring_scheduler_next_write_block(scheduler: Scheduler) -> 
 
 // ---- scheduling
 
-#[unsafe(no_mangle)]
-pub extern "C" fn stripring_scheduler_schedule_next_contiguous_operation(
+pub fn stripring_scheduler_schedule_next_contiguous_operation(
     scheduler: Scheduler,
     op_type: u64,
     max_len: u64,
@@ -135,28 +117,19 @@ pub extern "C" fn stripring_scheduler_schedule_next_contiguous_operation(
     ))
 }
 
-#[unsafe(no_mangle)]
-pub extern "C" fn stripring_scheduler_schedule_next_read(
-    scheduler: Scheduler,
-    dst_len: u64,
-) -> NextAnswer
+pub fn stripring_scheduler_schedule_next_read(scheduler: Scheduler, dst_len: u64) -> NextAnswer
     ensures { result ≡ flat_next (next_of (scheduler_at scheduler) OperationType.Read dst_len) }
 {
     flat_next(flat::scheduler::scheduler(scheduler).schedule_next_read(dst_len))
 }
 
-#[unsafe(no_mangle)]
-pub extern "C" fn stripring_scheduler_schedule_next_write(
-    scheduler: Scheduler,
-    src_len: u64,
-) -> NextAnswer
+pub fn stripring_scheduler_schedule_next_write(scheduler: Scheduler, src_len: u64) -> NextAnswer
     ensures { result ≡ flat_next (next_of (scheduler_at scheduler) OperationType.Write src_len) }
 {
     flat_next(flat::scheduler::scheduler(scheduler).schedule_next_write(src_len))
 }
 
-#[unsafe(no_mangle)]
-pub extern "C" fn stripring_scheduler_schedule_contiguous_operations(
+pub fn stripring_scheduler_schedule_contiguous_operations(
     scheduler: Scheduler,
     op_type: u64,
     max_len: u64,
@@ -169,21 +142,13 @@ pub extern "C" fn stripring_scheduler_schedule_contiguous_operations(
     ))
 }
 
-#[unsafe(no_mangle)]
-pub extern "C" fn stripring_scheduler_schedule_reads(
-    scheduler: Scheduler,
-    dst_len: u64,
-) -> ScheduleAnswer
+pub fn stripring_scheduler_schedule_reads(scheduler: Scheduler, dst_len: u64) -> ScheduleAnswer
     ensures { result ≡ flat_schedule (schedule_of (scheduler_at scheduler) OperationType.Read dst_len) }
 {
     flat_schedule(flat::scheduler::scheduler(scheduler).schedule_reads(dst_len))
 }
 
-#[unsafe(no_mangle)]
-pub extern "C" fn stripring_scheduler_schedule_writes(
-    scheduler: Scheduler,
-    src_len: u64,
-) -> ScheduleAnswer
+pub fn stripring_scheduler_schedule_writes(scheduler: Scheduler, src_len: u64) -> ScheduleAnswer
     ensures { result ≡ flat_schedule (schedule_of (scheduler_at scheduler) OperationType.Write src_len) }
 {
     flat_schedule(flat::scheduler::scheduler(scheduler).schedule_writes(src_len))

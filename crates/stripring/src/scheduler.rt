@@ -17,22 +17,19 @@ use sched::{Counter, OperationType, RingBufferScheduler};
 
 // ---- making one
 
-#[unsafe(no_mangle)]
-pub extern "C" fn stripring_scheduler_max_buf_len() -> u64
+pub fn stripring_scheduler_max_buf_len() -> u64
     ensures { result ≡ 2 ^ 63 }
 {
     RingBufferScheduler::MAX_BUF_LEN
 }
 
-#[unsafe(no_mangle)]
-pub extern "C" fn stripring_scheduler_try_new(buf_len: u64) -> SchedulerAnswer
+pub fn stripring_scheduler_try_new(buf_len: u64) -> SchedulerAnswer
     ensures { result ≡ flat_checked (sound_of (scheduler_of buf_len (record { 0 = 0 }) (record { 0 = 0 }))) }
 {
     flat_checked(RingBufferScheduler::try_new(buf_len))
 }
 
-#[unsafe(no_mangle)]
-pub extern "C" fn stripring_scheduler_try_from_counters(
+pub fn stripring_scheduler_try_from_counters(
     buf_len: u64,
     items_written: u64,
     items_read: u64,
@@ -46,8 +43,7 @@ pub extern "C" fn stripring_scheduler_try_from_counters(
     ))
 }
 
-#[unsafe(no_mangle)]
-pub extern "C" fn stripring_scheduler_try_with_counter(
+pub fn stripring_scheduler_try_with_counter(
     scheduler: Scheduler,
     op_type: u64,
     counter: u64,
@@ -60,8 +56,7 @@ pub extern "C" fn stripring_scheduler_try_with_counter(
     ))
 }
 
-#[unsafe(no_mangle)]
-pub extern "C" fn stripring_scheduler_demand_soundness(scheduler: Scheduler) -> SchedulerAnswer
+pub fn stripring_scheduler_demand_soundness(scheduler: Scheduler) -> SchedulerAnswer
     ensures { result ≡ flat_checked (sound_of (scheduler_at scheduler)) }
 {
     flat_checked(flat::scheduler::scheduler(scheduler).demand_soundness())
@@ -69,28 +64,19 @@ pub extern "C" fn stripring_scheduler_demand_soundness(scheduler: Scheduler) -> 
 
 // ---- registering what was moved
 
-#[unsafe(no_mangle)]
-pub extern "C" fn stripring_scheduler_try_register_read(
-    scheduler: Scheduler,
-    len: u64,
-) -> SchedulerAnswer
+pub fn stripring_scheduler_try_register_read(scheduler: Scheduler, len: u64) -> SchedulerAnswer
     ensures { result ≡ flat_registered (register_of (scheduler_at scheduler) OperationType.Read len) }
 {
     flat_registered(flat::scheduler::scheduler(scheduler).try_register_read(len))
 }
 
-#[unsafe(no_mangle)]
-pub extern "C" fn stripring_scheduler_try_register_write(
-    scheduler: Scheduler,
-    len: u64,
-) -> SchedulerAnswer
+pub fn stripring_scheduler_try_register_write(scheduler: Scheduler, len: u64) -> SchedulerAnswer
     ensures { result ≡ flat_registered (register_of (scheduler_at scheduler) OperationType.Write len) }
 {
     flat_registered(flat::scheduler::scheduler(scheduler).try_register_write(len))
 }
 
-#[unsafe(no_mangle)]
-pub extern "C" fn stripring_scheduler_try_register_operation_manually(
+pub fn stripring_scheduler_try_register_operation_manually(
     scheduler: Scheduler,
     op_type: u64,
     len: u64,
@@ -103,8 +89,7 @@ pub extern "C" fn stripring_scheduler_try_register_operation_manually(
     ))
 }
 
-#[unsafe(no_mangle)]
-pub extern "C" fn stripring_scheduler_try_register_operation(
+pub fn stripring_scheduler_try_register_operation(
     scheduler: Scheduler,
     operation: Operation,
 ) -> SchedulerAnswer
@@ -115,8 +100,7 @@ pub extern "C" fn stripring_scheduler_try_register_operation(
     ))
 }
 
-#[unsafe(no_mangle)]
-pub extern "C" fn stripring_scheduler_try_register_operations(
+pub fn stripring_scheduler_try_register_operations(
     scheduler: Scheduler,
     list: Operations,
 ) -> SchedulerAnswer
@@ -127,122 +111,97 @@ pub extern "C" fn stripring_scheduler_try_register_operations(
 
 // ---- counters, offsets, data and space
 
-#[unsafe(no_mangle)]
-pub extern "C" fn stripring_scheduler_items_read(scheduler: Scheduler) -> U64Answer
+pub fn stripring_scheduler_items_read(scheduler: Scheduler) -> U64Answer
     ensures { result ≡ flat_counter (counter_answer_of (scheduler_at scheduler) OperationType.Read) }
 {
     flat_counter(flat::scheduler::scheduler(scheduler).items_read())
 }
 
-#[unsafe(no_mangle)]
-pub extern "C" fn stripring_scheduler_items_written(scheduler: Scheduler) -> U64Answer
+pub fn stripring_scheduler_items_written(scheduler: Scheduler) -> U64Answer
     ensures { result ≡ flat_counter (counter_answer_of (scheduler_at scheduler) OperationType.Write) }
 {
     flat_counter(flat::scheduler::scheduler(scheduler).items_written())
 }
 
-#[unsafe(no_mangle)]
-pub extern "C" fn stripring_scheduler_operation_counter(
-    scheduler: Scheduler,
-    op_type: u64,
-) -> U64Answer
+pub fn stripring_scheduler_operation_counter(scheduler: Scheduler, op_type: u64) -> U64Answer
     ensures { result ≡ flat_counter (counter_answer_of (scheduler_at scheduler) (type_at op_type)) }
 {
     flat_counter(flat::scheduler::scheduler(scheduler).operation_counter(operation_type(op_type)))
 }
 
-#[unsafe(no_mangle)]
-pub extern "C" fn stripring_scheduler_read_off(scheduler: Scheduler) -> U64Answer
+pub fn stripring_scheduler_read_off(scheduler: Scheduler) -> U64Answer
     ensures { result ≡ flat_offset (offset_answer_of (scheduler_at scheduler) OperationType.Read) }
 {
     flat_offset(flat::scheduler::scheduler(scheduler).read_off())
 }
 
-#[unsafe(no_mangle)]
-pub extern "C" fn stripring_scheduler_write_off(scheduler: Scheduler) -> U64Answer
+pub fn stripring_scheduler_write_off(scheduler: Scheduler) -> U64Answer
     ensures { result ≡ flat_offset (offset_answer_of (scheduler_at scheduler) OperationType.Write) }
 {
     flat_offset(flat::scheduler::scheduler(scheduler).write_off())
 }
 
-#[unsafe(no_mangle)]
-pub extern "C" fn stripring_scheduler_operation_offset(
-    scheduler: Scheduler,
-    op_type: u64,
-) -> U64Answer
+pub fn stripring_scheduler_operation_offset(scheduler: Scheduler, op_type: u64) -> U64Answer
     ensures { result ≡ flat_offset (offset_answer_of (scheduler_at scheduler) (type_at op_type)) }
 {
     flat_offset(flat::scheduler::scheduler(scheduler).operation_offset(operation_type(op_type)))
 }
 
-#[unsafe(no_mangle)]
-pub extern "C" fn stripring_scheduler_buf_len(scheduler: Scheduler) -> U64Answer
+pub fn stripring_scheduler_buf_len(scheduler: Scheduler) -> U64Answer
     ensures { result ≡ flat_amount (buf_len_of (scheduler_at scheduler)) }
 {
     flat_amount(flat::scheduler::scheduler(scheduler).buf_len())
 }
 
-#[unsafe(no_mangle)]
-pub extern "C" fn stripring_scheduler_is_zero_sized(scheduler: Scheduler) -> U64Answer
+pub fn stripring_scheduler_is_zero_sized(scheduler: Scheduler) -> U64Answer
     ensures { result ≡ flat_bool (is_zero_from (buf_len_of (scheduler_at scheduler))) }
 {
     flat_bool(flat::scheduler::scheduler(scheduler).is_zero_sized())
 }
 
-#[unsafe(no_mangle)]
-pub extern "C" fn stripring_scheduler_data_avail(scheduler: Scheduler) -> U64Answer
+pub fn stripring_scheduler_data_avail(scheduler: Scheduler) -> U64Answer
     ensures { result ≡ flat_amount (greatest_of (scheduler_at scheduler) OperationType.Read) }
 {
     flat_amount(flat::scheduler::scheduler(scheduler).data_avail())
 }
 
-#[unsafe(no_mangle)]
-pub extern "C" fn stripring_scheduler_space_avail(scheduler: Scheduler) -> U64Answer
+pub fn stripring_scheduler_space_avail(scheduler: Scheduler) -> U64Answer
     ensures { result ≡ flat_amount (greatest_of (scheduler_at scheduler) OperationType.Write) }
 {
     flat_amount(flat::scheduler::scheduler(scheduler).space_avail())
 }
 
-#[unsafe(no_mangle)]
-pub extern "C" fn stripring_scheduler_max_operation_len(
-    scheduler: Scheduler,
-    op_type: u64,
-) -> U64Answer
+pub fn stripring_scheduler_max_operation_len(scheduler: Scheduler, op_type: u64) -> U64Answer
     ensures { result ≡ flat_amount (greatest_of (scheduler_at scheduler) (type_at op_type)) }
 {
     flat_amount(flat::scheduler::scheduler(scheduler).max_operation_len(operation_type(op_type)))
 }
 
-#[unsafe(no_mangle)]
-pub extern "C" fn stripring_scheduler_fill_state(scheduler: Scheduler) -> U64Answer
+pub fn stripring_scheduler_fill_state(scheduler: Scheduler) -> U64Answer
     ensures { result ≡ flat_fill_state (fill_state_of (scheduler_at scheduler)) }
 {
     flat_fill_state(flat::scheduler::scheduler(scheduler).fill_state())
 }
 
-#[unsafe(no_mangle)]
-pub extern "C" fn stripring_scheduler_is_empty(scheduler: Scheduler) -> U64Answer
+pub fn stripring_scheduler_is_empty(scheduler: Scheduler) -> U64Answer
     ensures { result ≡ flat_bool (is_zero_from (greatest_of (scheduler_at scheduler) OperationType.Read)) }
 {
     flat_bool(flat::scheduler::scheduler(scheduler).is_empty())
 }
 
-#[unsafe(no_mangle)]
-pub extern "C" fn stripring_scheduler_is_full(scheduler: Scheduler) -> U64Answer
+pub fn stripring_scheduler_is_full(scheduler: Scheduler) -> U64Answer
     ensures { result ≡ flat_bool (is_zero_from (greatest_of (scheduler_at scheduler) OperationType.Write)) }
 {
     flat_bool(flat::scheduler::scheduler(scheduler).is_full())
 }
 
-#[unsafe(no_mangle)]
-pub extern "C" fn stripring_scheduler_is_nonempty(scheduler: Scheduler) -> U64Answer
+pub fn stripring_scheduler_is_nonempty(scheduler: Scheduler) -> U64Answer
     ensures { result ≡ flat_bool (is_positive_from (greatest_of (scheduler_at scheduler) OperationType.Read)) }
 {
     flat_bool(flat::scheduler::scheduler(scheduler).is_nonempty())
 }
 
-#[unsafe(no_mangle)]
-pub extern "C" fn stripring_scheduler_is_nonfull(scheduler: Scheduler) -> U64Answer
+pub fn stripring_scheduler_is_nonfull(scheduler: Scheduler) -> U64Answer
     ensures { result ≡ flat_bool (is_positive_from (greatest_of (scheduler_at scheduler) OperationType.Write)) }
 {
     flat_bool(flat::scheduler::scheduler(scheduler).is_nonfull())

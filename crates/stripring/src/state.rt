@@ -8,23 +8,20 @@ use flat::failure::{flat_potential_failure, potential_failure};
 use flat::state::flat_state_answer;
 use flat::structs::{Failure, PotentialFailureAnswer, State, StateAnswer};
 
-#[unsafe(no_mangle)]
-pub extern "C" fn stripring_state_failure(state: State) -> PotentialFailureAnswer
+pub fn stripring_state_failure(state: State) -> PotentialFailureAnswer
     ensures { result ≡ flat_potential_failure (failure_of (state_at state)) }
 {
     flat_potential_failure(flat::state::state(state).failure())
 }
 
-#[unsafe(no_mangle)]
-pub extern "C" fn stripring_state_with_failure(state: State, failure: Failure) -> StateAnswer
+pub fn stripring_state_with_failure(state: State, failure: Failure) -> StateAnswer
     ensures { result ≡ flat_state_answer (with_failure_of (state_at state) (failure_at failure)) }
 {
     flat_state_answer(flat::state::state(state).with_failure(flat::failure::failure(failure)))
 }
 
 // The failure is not looked at where `some` is 0.
-#[unsafe(no_mangle)]
-pub extern "C" fn stripring_state_with_potential_failure(
+pub fn stripring_state_with_potential_failure(
     state: State,
     some: u64,
     failure: Failure,
@@ -36,18 +33,13 @@ pub extern "C" fn stripring_state_with_potential_failure(
     )))
 }
 
-#[unsafe(no_mangle)]
-pub extern "C" fn stripring_state_normalize(state: State) -> StateAnswer
+pub fn stripring_state_normalize(state: State) -> StateAnswer
     ensures { result ≡ flat_state_answer (normalize_of (state_at state)) }
 {
     flat_state_answer(flat::state::state(state).normalize())
 }
 
-#[unsafe(no_mangle)]
-pub extern "C" fn stripring_state_advance_state_towards_termination(
-    state: State,
-    to: State,
-) -> StateAnswer
+pub fn stripring_state_advance_state_towards_termination(state: State, to: State) -> StateAnswer
     ensures { result ≡ flat_state_answer (advance_of (state_at state) (state_at to)) }
 {
     flat_state_answer(flat::state::state(state).advance_state_towards_termination(

@@ -15,15 +15,13 @@ use sched::Counter;
 
 // ---- making one
 
-#[unsafe(no_mangle)]
-pub extern "C" fn stripring_writing_end_new(buf_len: u64) -> WritingEndAnswer
+pub fn stripring_writing_end_new(buf_len: u64) -> WritingEndAnswer
     ensures { result ≡ flat_writing_end_answer (writing_end_of (scheduler_of buf_len (record { 0 = 0 }) (record { 0 = 0 }))) }
 {
     flat_writing_end_answer(ends::WritingEnd::new(buf_len))
 }
 
-#[unsafe(no_mangle)]
-pub extern "C" fn stripring_writing_end_from_counters(
+pub fn stripring_writing_end_from_counters(
     buf_len: u64,
     items_written: u64,
     items_read: u64,
@@ -37,8 +35,7 @@ pub extern "C" fn stripring_writing_end_from_counters(
     ))
 }
 
-#[unsafe(no_mangle)]
-pub extern "C" fn stripring_writing_end_from_scheduler(scheduler: Scheduler) -> WritingEndAnswer
+pub fn stripring_writing_end_from_scheduler(scheduler: Scheduler) -> WritingEndAnswer
     ensures { result ≡ flat_writing_end_answer (writing_end_of (scheduler_at scheduler)) }
 {
     flat_writing_end_answer(ends::WritingEnd::from_scheduler(flat::scheduler::scheduler(scheduler)))
@@ -46,29 +43,19 @@ pub extern "C" fn stripring_writing_end_from_scheduler(scheduler: Scheduler) -> 
 
 // ---- writing, and sending and taking counters
 
-#[unsafe(no_mangle)]
-pub extern "C" fn stripring_writing_end_write(
-    end: WritingEnd,
-    ring: &mut [u8],
-    src: &[u8],
-) -> WroteAnswer
+pub fn stripring_writing_end_write(end: WritingEnd, ring: &mut [u8], src: &[u8]) -> WroteAnswer
     ensures { wrote_answer_left result ring.new ≡ flat_wrote_left (wrote_of (writing_end_at end) ring.old src.now) }
 {
     flat_wrote(writing_end(end).write(ring, src))
 }
 
-#[unsafe(no_mangle)]
-pub extern "C" fn stripring_writing_end_send(end: WritingEnd) -> WrittenCounterAnswer
+pub fn stripring_writing_end_send(end: WritingEnd) -> WrittenCounterAnswer
     ensures { result ≡ flat_written_counter (written_sent_of (writing_end_at end)) }
 {
     flat_written_counter(writing_end(end).send())
 }
 
-#[unsafe(no_mangle)]
-pub extern "C" fn stripring_writing_end_take(
-    end: WritingEnd,
-    counter: ReadCounter,
-) -> WritingEndAnswer
+pub fn stripring_writing_end_take(end: WritingEnd, counter: ReadCounter) -> WritingEndAnswer
     ensures { result ≡ flat_writing_end_answer (take_read_of (writing_end_at end) (read_counter_at counter)) }
 {
     flat_writing_end_answer(writing_end(end).take(read_counter(counter)))

@@ -1,0 +1,6 @@
+-- `sched`'s call on the difference that the numbers stand for.
+use borrow.Author.Rules.{rules}
+use Rattle.stripring.proofs.diff.stripring_diff_is_same.Goals as goal
+
+pub returns : goal.returns
+returns c = rw (c.is_same.ensures, c.diff.ensures)

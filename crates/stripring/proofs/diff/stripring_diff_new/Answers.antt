@@ -1,0 +1,6 @@
+-- The flat form of what `sched`'s call answers.
+use borrow.Author.Rules.{rules}
+use Rattle.stripring.proofs.diff.stripring_diff_new.Goals as goal
+
+pub returns : goal.returns
+returns c = rw (c.flat_diff.ensures, c.new.ensures)

@@ -1,0 +1,18 @@
+-- Whether the counter is taken and which struct is kept, by the answer's two cases.
+use mathlib.Core.Path.{sym, ap, ◌∙◌}
+use Rattle.stripring.specs.InPlace.{writer_refusal, writer_took}
+use Rattle.stripring.proofs.InPlaceLaws.{took_writer}
+use borrow.Author.Rules.{rules}
+use Rattle.stripring.proofs.in_place.take_read_kept.Goals as goal
+
+pub returns-in-Of : goal.returns-in-Of
+returns-in-Of c =
+    let s = c.args in
+    took_writer s.end s.counter _ _ _ _ _ c.writing_end.ensures c.read_counter.ensures c.take.ensures
+    (c.no_refusal.ensures ∙ sym (ap writer_refusal c.in-Of.is)) (c.flat_writing_end.ensures ∙ sym (ap (writer_took s.end) c.in-Of.is))
+
+pub returns-in-Refused : goal.returns-in-Refused
+returns-in-Refused c =
+    let s = c.args in
+    took_writer s.end s.counter _ _ _ _ _ c.writing_end.ensures c.read_counter.ensures c.take.ensures
+    (c.flat_end_refusal.ensures ∙ sym (ap writer_refusal c.in-Refused.is)) (sym (ap (writer_took s.end) c.in-Refused.is))

@@ -1,0 +1,6 @@
+-- The flat form of what `sched`'s call answers on the list that the numbers stand for.
+use borrow.Author.Rules.{rules}
+use Rattle.stripring.proofs.list.stripring_operations_with_outside_buffer_range.Goals as goal
+
+pub returns : goal.returns
+returns c = rw (c.flat_ranges_answer.ensures, c.with_outside_buffer_range.ensures, c.operations.ensures)

@@ -1,0 +1,6 @@
+-- The flat form of what `sched`'s call answers.
+use borrow.Author.Rules.{rules}
+use Rattle.stripring.proofs.operation.stripring_operation_default.Goals as goal
+
+pub returns : goal.returns
+returns c = rw (c.flat_operation.ensures, c.default.ensures)

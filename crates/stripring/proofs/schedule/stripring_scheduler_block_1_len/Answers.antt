@@ -1,0 +1,6 @@
+-- The flat form of what `sched`'s call answers on the scheduler that the numbers stand for.
+use borrow.Author.Rules.{rules}
+use Rattle.stripring.proofs.schedule.stripring_scheduler_block_1_len.Goals as goal
+
+pub returns : goal.returns
+returns c = rw (c.flat_amount.ensures, c.block_1_len.ensures, c.scheduler.ensures)

@@ -1,0 +1,6 @@
+-- The flat form of what `sched`'s call answers on the scheduler that the numbers stand for.
+use borrow.Author.Rules.{rules}
+use Rattle.stripring.proofs.scheduler.stripring_scheduler_data_avail.Goals as goal
+
+pub returns : goal.returns
+returns c = rw (c.flat_amount.ensures, c.data_avail.ensures, c.scheduler.ensures)

@@ -1,0 +1,6 @@
+-- The flat form of what `sched`'s call answers.
+use borrow.Author.Rules.{rules}
+use Rattle.stripring.proofs.scheduler.stripring_scheduler_try_new.Goals as goal
+
+pub returns : goal.returns
+returns c = rw (c.flat_checked.ensures, c.try_new.ensures)

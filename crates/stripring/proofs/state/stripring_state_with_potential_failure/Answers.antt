@@ -1,0 +1,9 @@
+-- The flat form of what `receiver`'s call answers on what the numbers stand for.
+use borrow.Author.Rules.{rules}
+use Rattle.stripring.proofs.state.stripring_state_with_potential_failure.Statement.{
+  statement,
+}
+use Rattle.stripring.proofs.state.stripring_state_with_potential_failure.Goals as goal
+
+pub returns : goal.returns
+returns c = rw (c.flat_state_answer.ensures, c.with_potential_failure.ensures, c.potential_failure.ensures, c.state.ensures)

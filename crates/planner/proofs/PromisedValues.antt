@@ -4,7 +4,7 @@ use mathlib.Core.Path.{◌≡◌, refl}
 use native.Mathlib.Omega.{arith}
 use Rattle.modular.proofs.Saying.{Keeps}
 use Rattle.operations.specs.Refusal.{packed, unpacked}
-use Rattle.operations.proofs.Given as goal
+use Rattle.operations.proofs.Given as operations
 use Rattle.operations.proofs.PromisedValues as operations_values
 use Rattle.planner.specs.declared.refusal.Refusal.{Refusal}
 use Rattle.planner.specs.declared.refusal.Refusal.TheVariants.{Scheduler, SizeOutOfBounds, NoPlan, EmptyRun, RunOutOfPlace, RunTooLong, RowsLeft, PlanTooShort}
@@ -16,7 +16,7 @@ use Rattle.planner.proofs.refusal.Refusal.values.Kinds as values_kinds
 use Rattle.planner.proofs.refusal.Refusal.values.Reads as values
 
 pub number_some : (e : Refusal) → 0 < number_of e
-number_some (Scheduler e) = goal.number_some e
+number_some (Scheduler e) = operations.number_some e
 number_some (SizeOutOfBounds rows bytes) = omega arith
 number_some (NoPlan bytes L) = omega arith
 number_some (EmptyRun k) = omega arith

@@ -2,15 +2,18 @@
 // line is, and what its answer is, planline says.
 #![tactic(auto)]
 
-use libc::{STDIN_FILENO, STDOUT_FILENO};
-use planline::{Cut, Question, answer_last, answer_next};
+ghost use Rattle.std.specs.Prelude.{◌≡◌, length};
 
-// Whether the input has more. A read or a write that fails is told on standard error where it happens, and ends the run.
+use anyhow::{Context, Result, bail};
+use planline::{Cut, Question, answer_last, answer_next};
+use std::io;
+use std::io::{Read, Write};
+
+// Whether the input has more. A read or a write that fails ends the run, and its error says which of the two streams it was.
 #[derive(Clone, Copy)]
 enum Source {
     Open,
     Ended,
-    Failed,
 }
 
 #[derive(Clone, Copy)]
@@ -19,128 +22,108 @@ struct Reading {
     source: Source,
 }
 
-// How far the piece is answered, and whether all text that had to make room was written.
-#[derive(Clone, Copy)]
-struct Progress {
-    cut: Cut,
-    is_written: bool,
-}
-
 // The question's header, and then the answer to each line.
-pub fn answer_all(question: Question) {
+pub fn answer_all(rt: &(impl Input + Print), question: Question) -> Result<()> {
+    let mut input = rt.reader();
+    let mut output = io::writer(rt);
     let mut line = [0u8; 121];
-    let mut out = io::large_buffer();
-    if print_header(question) {
-        answer_lines(question, &mut line, &mut out);
-    }
+    let mut out = large_buffer();
+    print_header(&mut output, question)?;
+    answer_lines(&mut input, &mut output, question, &mut line, &mut out)
 }
 
-fn print_header(question: Question) -> bool {
+// 65,536 zeros. The `ensures` keeps the proofs from writing the zeros out.
+fn large_buffer() -> [u8; 65536]
+    ensures { 65536 ≡ length result }
+{
+    [0; 65536]
+}
+
+fn print_header(output: &mut impl Write, question: Question) -> Result<()> {
     match question {
-        Question::Ring => print(b"ring plan\n", 10),
-        Question::Strips => print(b"strip plan\n", 11),
+        Question::Ring => print(output, b"ring plan\n", 10),
+        Question::Strips => print(output, b"strip plan\n", 11),
     }
 }
 
 // The first n bytes; planline answers no index behind the buffer's end.
-fn print(out: &[u8], n: usize) -> bool {
+fn print(output: &mut impl Write, out: &[u8], n: usize) -> Result<()> {
     if n > out.len() {
-        return false;
+        bail!("an answer ends behind its buffer");
     }
-    let is_written = io::write_all(STDOUT_FILENO, &out[..n]);
-    if !is_written {
-        os::fail(b"standard output");
-    }
-    is_written
+    output.write_all(&out[..n]).context("standard output")
 }
 
 // One line more; where its answer has no room, the text so far makes room.
 fn answer_one(
+    output: &mut impl Write,
     question: Question,
     line: &mut [u8],
     cut: Cut,
     piece: &[u8],
     out: &mut [u8],
-) -> Progress {
+) -> Result<Cut> {
     let more = answer_next(question, line, cut.held, piece, cut.next, out, cut.at);
     if more.next != cut.next {
-        return Progress {
-            cut: more,
-            is_written: true,
-        };
+        return Ok(more);
     }
-    Progress {
-        cut: Cut {
-            held: cut.held,
-            next: cut.next,
-            at: 0,
-        },
-        is_written: print(out, cut.at),
-    }
+    print(output, out, cut.at)?;
+    Ok(Cut {
+        held: cut.held,
+        next: cut.next,
+        at: 0,
+    })
 }
 
-fn has_more(progress: Progress, len: usize) -> bool {
-    if progress.is_written {
-        return progress.cut.next < len;
-    }
-    false
+fn has_more(cut: Cut, len: usize) -> bool {
+    cut.next < len
 }
 
 // Nothing here shows that a piece is used up, so the loop counts its turns down, from a number that no run uses up.
 fn answer_piece(
+    output: &mut impl Write,
     question: Question,
     line: &mut [u8],
     held: usize,
     piece: &[u8],
     out: &mut [u8],
-) -> Reading {
-    let mut progress = Progress {
-        cut: Cut {
-            held,
-            next: 0,
-            at: 0,
-        },
-        is_written: true,
+) -> Result<Reading> {
+    let mut cut = Cut {
+        held,
+        next: 0,
+        at: 0,
     };
-    let mut turns = u64::MAX;
-    while turns > 0 && has_more(progress, piece.len()) {
-        let cut = progress.cut;
-        progress = answer_one(question, line, cut, piece, out);
-        turns -= 1;
-    }
-    if progress.is_written {
-        if print(out, progress.cut.at) {
-            return Reading {
-                held: progress.cut.held,
-                source: Source::Open,
-            };
+    for _ in 0..u64::MAX {
+        if !has_more(cut, piece.len()) {
+            break;
         }
+        cut = answer_one(output, question, line, cut, piece, out)?;
     }
-    Reading {
-        held: 0,
-        source: Source::Failed,
-    }
+    print(output, out, cut.at)?;
+    Ok(Reading {
+        held: cut.held,
+        source: Source::Open,
+    })
 }
 
 // One read, and the answers to what came.
-fn read_some(question: Question, line: &mut [u8], held: usize, out: &mut [u8]) -> Reading {
-    let mut piece = io::large_buffer();
-    let got = libc::read(STDIN_FILENO, &mut piece);
-    if got < 0 {
-        os::fail(b"standard input");
-        return Reading {
-            held,
-            source: Source::Failed,
-        };
-    }
-    if got == 0 {
-        return Reading {
+fn read_some(
+    input: &mut impl Read,
+    output: &mut impl Write,
+    question: Question,
+    line: &mut [u8],
+    held: usize,
+    out: &mut [u8],
+) -> Result<Reading> {
+    let mut piece = large_buffer();
+    let n = input.read(&mut piece).context("standard input")?;
+    if n == 0 {
+        return Ok(Reading {
             held,
             source: Source::Ended,
-        };
+        });
     }
-    let n = io::count(got, &piece);
-    answer_piece(question, line, held, &piece[..n], out)
+    answer_piece(output, question, line, held, &piece[..n], out)
 }
 
 fn is_open(reading: Reading) -> bool {
@@ -152,25 +135,39 @@ fn is_open(reading: Reading) -> bool {
     }
 }
 
-// A proved loop has to end, and nothing says that the input does, so its turns are counted down too.
-fn read_all(question: Question, line: &mut [u8], out: &mut [u8]) -> Reading {
+// A proved loop has to end, and nothing says that the input does, so its turns are counted too.
+fn read_all(
+    input: &mut impl Read,
+    output: &mut impl Write,
+    question: Question,
+    line: &mut [u8],
+    out: &mut [u8],
+) -> Result<Reading> {
     let mut reading = Reading {
         held: 0,
         source: Source::Open,
     };
-    let mut turns = u64::MAX;
-    while turns > 0 && is_open(reading) {
-        reading = read_some(question, line, reading.held, out);
-        turns -= 1;
+    for _ in 0..u64::MAX {
+        if !is_open(reading) {
+            break;
+        }
+        reading = read_some(input, output, question, line, reading.held, out)?;
     }
-    reading
+    Ok(reading)
 }
 
-fn answer_lines(question: Question, line: &mut [u8], out: &mut [u8]) {
-    let reading = read_all(question, line, out);
+fn answer_lines(
+    input: &mut impl Read,
+    output: &mut impl Write,
+    question: Question,
+    line: &mut [u8],
+    out: &mut [u8],
+) -> Result<()> {
+    let reading = read_all(input, output, question, line, out)?;
     let source = reading.source;
     if let Source::Ended = source {
         let at = answer_last(question, line, reading.held, out, 0);
-        print(out, at);
+        print(output, out, at)?;
     }
+    Ok(())
 }

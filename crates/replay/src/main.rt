@@ -11,6 +11,8 @@ mod sched_answers;
 mod sched_inputs;
 mod sched_list;
 
+use std::io;
+
 // Whose calls the lines of a list are. A new list is a name here, an arm in the next and a line of main; a new call of a list is a row of the
 // table in its module.
 #[derive(Clone, Copy)]
@@ -29,8 +31,8 @@ pub fn agrees(calls: Calls, line: &[u64]) -> bool {
     }
 }
 
-fn main() {
-    list::replay(Calls::Modular, b"modular", b"modular.txt");
-    list::replay(Calls::Sched, b"sched", b"sched.txt");
-    list::replay(Calls::Receiver, b"receiver", b"receiver.txt");
+fn main(rt: HostRuntime) -> io::Result<()> {
+    list::replay(&rt, Calls::Modular, "modular", "modular.txt")?;
+    list::replay(&rt, Calls::Sched, "sched", "sched.txt")?;
+    list::replay(&rt, Calls::Receiver, "receiver", "receiver.txt")
 }

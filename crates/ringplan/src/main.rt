@@ -1,8 +1,9 @@
 // Answers each line of standard input with the scheduler's plan.
 #![tactic(auto)]
 
+use anyhow::Result;
 use planline::Question;
 
-fn main() {
-    console::answer_all(Question::Ring);
+fn main(rt: HostRuntime) -> Result<()> {
+    console::answer_all(&rt, Question::Ring)
 }

@@ -13,18 +13,19 @@ mod world;
 
 use numbers::add;
 use report::Report;
+use std::io;
 use world::World;
 
 // In each run.
 const EVENTS: u64 = 4000;
 
 // Over rings of 1 to 9 bytes, of which the last has 18 counters.
-fn main() {
+fn main(rt: HostRuntime) -> io::Result<()> {
     let mut report = Report::new();
     for i in 0..162 {
         report = started(report, 1 + i / 18, i % 18);
     }
-    report.print();
+    report.print(&rt)
 }
 
 // Both ends start at this counter, where a ring of this length has it.

@@ -1,7 +1,7 @@
 // What happened in all runs and what came of the checks: one row of counts, in the order in which they are printed.
 use crate::memory::differing;
 use crate::numbers::{add, sub};
-use libc::STDOUT_FILENO;
+use std::io;
 
 pub const RUNS: usize = 0;
 
@@ -108,9 +108,10 @@ impl Report {
     }
 
     // The events are the calls that are to be accepted and those that are to be refused.
-    pub fn print(self) {
+    pub fn print(self, rt: &impl Print) -> io::Result<()> {
         let events = add(self.of(ACCEPTED), self.of(NUMBERS));
         self.plus(EVENTS, events).print_counts(
+            rt,
             b"\
 % runs, over rings of 1 to 9 bytes, from every counter\n\
 % events\n\
@@ -134,21 +135,22 @@ refused with its number, 9 or 10: % checks, % failures\n\
 a refusal touches no byte: % checks, % failures\n\
 a lent scheduler makes the same copy: % checks, % failures\n\
 each record holds what lies between its positions: % checks, % failures\n",
-        );
+        )
     }
 
     // Prints the text with a count for each %.
-    fn print_counts(self, text: &[u8]) {
+    fn print_counts(self, rt: &impl Print, text: &[u8]) -> io::Result<()> {
         let mut next = 0;
         for i in 0..text.len() {
             let byte = text[i];
             if byte == b'%' {
-                io::print_decimal(STDOUT_FILENO, self.of(next));
+                rt.print(self.of(next))?;
                 next = behind(next, 1);
             } else {
-                io::write_all(STDOUT_FILENO, &[byte]);
+                rt.write_all(&[byte])?;
             }
         }
+        Ok(())
     }
 }
 

@@ -1,8 +1,9 @@
 // Answers each line of standard input with the planner's strips.
 #![tactic(auto)]
 
+use anyhow::Result;
 use planline::Question;
 
-fn main() {
-    console::answer_all(Question::Strips);
+fn main(rt: HostRuntime) -> Result<()> {
+    console::answer_all(&rt, Question::Strips)
 }

@@ -1,3 +1,0 @@
-mod Lending
-mod LentRun
-mod LentReading

@@ -382,9 +382,9 @@ unsafe extern "C" {
         items_written: u64,
         items_read: u64,
     ) -> WritingEndAnswer;
-    pub safe fn stripring_writing_end_from_scheduler(s: Scheduler) -> WritingEndAnswer;
+    pub safe fn stripring_writing_end_from_scheduler(scheduler: Scheduler) -> WritingEndAnswer;
     fn stripring_writing_end_write(
-        e: WritingEnd,
+        end: WritingEnd,
         ring: *mut u8,
         ring_len: usize,
         src: *const u8,
@@ -397,9 +397,11 @@ unsafe extern "C" {
         src: *const u8,
         src_len: usize,
     ) -> MovedAnswer;
-    pub safe fn stripring_writing_end_send(e: WritingEnd) -> WrittenCounterAnswer;
-    pub safe fn stripring_writing_end_take(e: WritingEnd, counter: ReadCounter)
-    -> WritingEndAnswer;
+    pub safe fn stripring_writing_end_send(end: WritingEnd) -> WrittenCounterAnswer;
+    pub safe fn stripring_writing_end_take(
+        end: WritingEnd,
+        counter: ReadCounter,
+    ) -> WritingEndAnswer;
     fn stripring_writing_end_take_in_place(end: *mut WritingEnd, counter: ReadCounter) -> Refusal;
     pub safe fn stripring_reading_end_new(buf_len: u64) -> ReadingEndAnswer;
     pub safe fn stripring_reading_end_from_counters(
@@ -407,9 +409,9 @@ unsafe extern "C" {
         items_written: u64,
         items_read: u64,
     ) -> ReadingEndAnswer;
-    pub safe fn stripring_reading_end_from_scheduler(s: Scheduler) -> ReadingEndAnswer;
+    pub safe fn stripring_reading_end_from_scheduler(scheduler: Scheduler) -> ReadingEndAnswer;
     fn stripring_reading_end_read(
-        e: ReadingEnd,
+        end: ReadingEnd,
         ring: *const u8,
         ring_len: usize,
         dst: *mut u8,
@@ -422,9 +424,9 @@ unsafe extern "C" {
         dst: *mut u8,
         dst_len: usize,
     ) -> MovedAnswer;
-    pub safe fn stripring_reading_end_send(e: ReadingEnd) -> ReadCounterAnswer;
+    pub safe fn stripring_reading_end_send(end: ReadingEnd) -> ReadCounterAnswer;
     pub safe fn stripring_reading_end_take(
-        e: ReadingEnd,
+        end: ReadingEnd,
         counter: WrittenCounter,
     ) -> ReadingEndAnswer;
     fn stripring_reading_end_take_in_place(
@@ -432,22 +434,22 @@ unsafe extern "C" {
         counter: WrittenCounter,
     ) -> Refusal;
     fn stripring_copies_write(
-        s: Scheduler,
+        scheduler: Scheduler,
         ring: *mut u8,
         ring_len: usize,
         src: *const u8,
         src_len: usize,
     ) -> CopyAnswer;
     fn stripring_copies_read(
-        s: Scheduler,
+        scheduler: Scheduler,
         ring: *const u8,
         ring_len: usize,
         dst: *mut u8,
         dst_len: usize,
     ) -> CopyAnswer;
-    pub safe fn stripring_receiver_new(s: Scheduler) -> ReceiverAnswer;
+    pub safe fn stripring_receiver_new(scheduler: Scheduler) -> ReceiverAnswer;
     fn stripring_receiver_read_with_fds(
-        r: Receiver,
+        receiver: Receiver,
         ring: *const u8,
         ring_len: usize,
         dst: *mut u8,
@@ -457,7 +459,7 @@ unsafe extern "C" {
         answers_len: usize,
     ) -> EndedAnswer;
     fn stripring_receiver_read_with_fds_impl(
-        r: Receiver,
+        receiver: Receiver,
         ring: *const u8,
         ring_len: usize,
         dst: *mut u8,
@@ -467,46 +469,46 @@ unsafe extern "C" {
         answers_len: usize,
     ) -> EndedAnswer;
     fn stripring_receiver_service_chunk_acknowledgements(
-        r: Receiver,
+        receiver: Receiver,
         answers: *const Answer,
         answers_len: usize,
     ) -> EndedAnswer;
     fn stripring_receiver_shutdown(
-        r: Receiver,
+        receiver: Receiver,
         answers: *const Answer,
         answers_len: usize,
     ) -> EndedAnswer;
     pub safe fn stripring_call_begin_read(
-        q: Receiver,
+        receiver: Receiver,
         ring_len: usize,
         max_new_fds: u64,
         dst_len: u64,
     ) -> StepAnswer;
-    pub safe fn stripring_call_begin_service(q: Receiver) -> StepAnswer;
-    pub safe fn stripring_call_begin_shutdown(q: Receiver) -> StepAnswer;
+    pub safe fn stripring_call_begin_service(receiver: Receiver) -> StepAnswer;
+    pub safe fn stripring_call_begin_shutdown(receiver: Receiver) -> StepAnswer;
     fn stripring_call_answered(
-        c: Call,
+        call: Call,
         ring: *const u8,
         ring_len: usize,
         answer: Answer,
         place: u64,
     ) -> StepAnswer;
-    pub safe fn stripring_state_failure(s: State) -> PotentialFailureAnswer;
-    pub safe fn stripring_state_with_failure(s: State, f: Failure) -> StateAnswer;
+    pub safe fn stripring_state_failure(state: State) -> PotentialFailureAnswer;
+    pub safe fn stripring_state_with_failure(state: State, failure: Failure) -> StateAnswer;
     pub safe fn stripring_state_with_potential_failure(
-        s: State,
+        state: State,
         some: u64,
-        f: Failure,
+        failure: Failure,
     ) -> StateAnswer;
-    pub safe fn stripring_state_normalize(s: State) -> StateAnswer;
+    pub safe fn stripring_state_normalize(state: State) -> StateAnswer;
     pub safe fn stripring_state_advance_state_towards_termination(
-        s: State,
+        state: State,
         to: State,
     ) -> StateAnswer;
-    pub safe fn stripring_failure_normalize(f: Failure) -> FailureAnswer;
+    pub safe fn stripring_failure_normalize(failure: Failure) -> FailureAnswer;
     pub safe fn stripring_failure_advance_failure_towards_error(
-        c: Failure,
-        e: Failure,
+        failure: Failure,
+        error: Failure,
     ) -> FailureAnswer;
     pub safe fn stripring_planner_outline(rows: u64, row_bytes: u64, buf_len: u64) -> StripsAnswer;
     fn stripring_planner_propose(
@@ -531,70 +533,100 @@ unsafe extern "C" {
         items_read: u64,
     ) -> SchedulerAnswer;
     pub safe fn stripring_scheduler_try_with_counter(
-        s: Scheduler,
-        op: u64,
+        scheduler: Scheduler,
+        op_type: u64,
         counter: u64,
     ) -> SchedulerAnswer;
-    pub safe fn stripring_scheduler_demand_soundness(s: Scheduler) -> SchedulerAnswer;
-    pub safe fn stripring_scheduler_try_register_read(s: Scheduler, len: u64) -> SchedulerAnswer;
-    pub safe fn stripring_scheduler_try_register_write(s: Scheduler, len: u64) -> SchedulerAnswer;
+    pub safe fn stripring_scheduler_demand_soundness(scheduler: Scheduler) -> SchedulerAnswer;
+    pub safe fn stripring_scheduler_try_register_read(
+        scheduler: Scheduler,
+        len: u64,
+    ) -> SchedulerAnswer;
+    pub safe fn stripring_scheduler_try_register_write(
+        scheduler: Scheduler,
+        len: u64,
+    ) -> SchedulerAnswer;
     pub safe fn stripring_scheduler_try_register_operation_manually(
-        s: Scheduler,
-        op: u64,
+        scheduler: Scheduler,
+        op_type: u64,
         len: u64,
     ) -> SchedulerAnswer;
     pub safe fn stripring_scheduler_try_register_operation(
-        s: Scheduler,
-        o: Operation,
+        scheduler: Scheduler,
+        operation: Operation,
     ) -> SchedulerAnswer;
     pub safe fn stripring_scheduler_try_register_operations(
-        s: Scheduler,
+        scheduler: Scheduler,
         list: Operations,
     ) -> SchedulerAnswer;
-    pub safe fn stripring_scheduler_items_read(s: Scheduler) -> U64Answer;
-    pub safe fn stripring_scheduler_items_written(s: Scheduler) -> U64Answer;
-    pub safe fn stripring_scheduler_operation_counter(s: Scheduler, op: u64) -> U64Answer;
-    pub safe fn stripring_scheduler_read_off(s: Scheduler) -> U64Answer;
-    pub safe fn stripring_scheduler_write_off(s: Scheduler) -> U64Answer;
-    pub safe fn stripring_scheduler_operation_offset(s: Scheduler, op: u64) -> U64Answer;
-    pub safe fn stripring_scheduler_buf_len(s: Scheduler) -> U64Answer;
-    pub safe fn stripring_scheduler_is_zero_sized(s: Scheduler) -> U64Answer;
-    pub safe fn stripring_scheduler_data_avail(s: Scheduler) -> U64Answer;
-    pub safe fn stripring_scheduler_space_avail(s: Scheduler) -> U64Answer;
-    pub safe fn stripring_scheduler_max_operation_len(s: Scheduler, op: u64) -> U64Answer;
-    pub safe fn stripring_scheduler_fill_state(s: Scheduler) -> U64Answer;
-    pub safe fn stripring_scheduler_is_empty(s: Scheduler) -> U64Answer;
-    pub safe fn stripring_scheduler_is_full(s: Scheduler) -> U64Answer;
-    pub safe fn stripring_scheduler_is_nonempty(s: Scheduler) -> U64Answer;
-    pub safe fn stripring_scheduler_is_nonfull(s: Scheduler) -> U64Answer;
-    pub safe fn stripring_scheduler_layout(s: Scheduler) -> U64Answer;
-    pub safe fn stripring_scheduler_blocks(s: Scheduler) -> BlocksAnswer;
-    pub safe fn stripring_scheduler_block_0(s: Scheduler) -> BlockAnswer;
-    pub safe fn stripring_scheduler_block_1(s: Scheduler) -> BlockAnswer;
-    pub safe fn stripring_scheduler_block_2(s: Scheduler) -> BlockAnswer;
-    pub safe fn stripring_scheduler_block_0_off(s: Scheduler) -> U64Answer;
-    pub safe fn stripring_scheduler_block_1_off(s: Scheduler) -> U64Answer;
-    pub safe fn stripring_scheduler_block_2_off(s: Scheduler) -> U64Answer;
-    pub safe fn stripring_scheduler_block_0_len(s: Scheduler) -> U64Answer;
-    pub safe fn stripring_scheduler_block_1_len(s: Scheduler) -> U64Answer;
-    pub safe fn stripring_scheduler_block_2_len(s: Scheduler) -> U64Answer;
-    pub safe fn stripring_scheduler_next_operation_block(s: Scheduler, op: u64) -> BlockAnswer;
-    pub safe fn stripring_scheduler_next_read_block(s: Scheduler) -> BlockAnswer;
-    pub safe fn stripring_scheduler_next_write_block(s: Scheduler) -> BlockAnswer;
+    pub safe fn stripring_scheduler_items_read(scheduler: Scheduler) -> U64Answer;
+    pub safe fn stripring_scheduler_items_written(scheduler: Scheduler) -> U64Answer;
+    pub safe fn stripring_scheduler_operation_counter(
+        scheduler: Scheduler,
+        op_type: u64,
+    ) -> U64Answer;
+    pub safe fn stripring_scheduler_read_off(scheduler: Scheduler) -> U64Answer;
+    pub safe fn stripring_scheduler_write_off(scheduler: Scheduler) -> U64Answer;
+    pub safe fn stripring_scheduler_operation_offset(
+        scheduler: Scheduler,
+        op_type: u64,
+    ) -> U64Answer;
+    pub safe fn stripring_scheduler_buf_len(scheduler: Scheduler) -> U64Answer;
+    pub safe fn stripring_scheduler_is_zero_sized(scheduler: Scheduler) -> U64Answer;
+    pub safe fn stripring_scheduler_data_avail(scheduler: Scheduler) -> U64Answer;
+    pub safe fn stripring_scheduler_space_avail(scheduler: Scheduler) -> U64Answer;
+    pub safe fn stripring_scheduler_max_operation_len(
+        scheduler: Scheduler,
+        op_type: u64,
+    ) -> U64Answer;
+    pub safe fn stripring_scheduler_fill_state(scheduler: Scheduler) -> U64Answer;
+    pub safe fn stripring_scheduler_is_empty(scheduler: Scheduler) -> U64Answer;
+    pub safe fn stripring_scheduler_is_full(scheduler: Scheduler) -> U64Answer;
+    pub safe fn stripring_scheduler_is_nonempty(scheduler: Scheduler) -> U64Answer;
+    pub safe fn stripring_scheduler_is_nonfull(scheduler: Scheduler) -> U64Answer;
+    pub safe fn stripring_scheduler_layout(scheduler: Scheduler) -> U64Answer;
+    pub safe fn stripring_scheduler_blocks(scheduler: Scheduler) -> BlocksAnswer;
+    pub safe fn stripring_scheduler_block_0(scheduler: Scheduler) -> BlockAnswer;
+    pub safe fn stripring_scheduler_block_1(scheduler: Scheduler) -> BlockAnswer;
+    pub safe fn stripring_scheduler_block_2(scheduler: Scheduler) -> BlockAnswer;
+    pub safe fn stripring_scheduler_block_0_off(scheduler: Scheduler) -> U64Answer;
+    pub safe fn stripring_scheduler_block_1_off(scheduler: Scheduler) -> U64Answer;
+    pub safe fn stripring_scheduler_block_2_off(scheduler: Scheduler) -> U64Answer;
+    pub safe fn stripring_scheduler_block_0_len(scheduler: Scheduler) -> U64Answer;
+    pub safe fn stripring_scheduler_block_1_len(scheduler: Scheduler) -> U64Answer;
+    pub safe fn stripring_scheduler_block_2_len(scheduler: Scheduler) -> U64Answer;
+    pub safe fn stripring_scheduler_next_operation_block(
+        scheduler: Scheduler,
+        op_type: u64,
+    ) -> BlockAnswer;
+    pub safe fn stripring_scheduler_next_read_block(scheduler: Scheduler) -> BlockAnswer;
+    pub safe fn stripring_scheduler_next_write_block(scheduler: Scheduler) -> BlockAnswer;
     pub safe fn stripring_scheduler_schedule_next_contiguous_operation(
-        s: Scheduler,
-        op: u64,
+        scheduler: Scheduler,
+        op_type: u64,
         max_len: u64,
     ) -> NextAnswer;
-    pub safe fn stripring_scheduler_schedule_next_read(s: Scheduler, dst_len: u64) -> NextAnswer;
-    pub safe fn stripring_scheduler_schedule_next_write(s: Scheduler, src_len: u64) -> NextAnswer;
+    pub safe fn stripring_scheduler_schedule_next_read(
+        scheduler: Scheduler,
+        dst_len: u64,
+    ) -> NextAnswer;
+    pub safe fn stripring_scheduler_schedule_next_write(
+        scheduler: Scheduler,
+        src_len: u64,
+    ) -> NextAnswer;
     pub safe fn stripring_scheduler_schedule_contiguous_operations(
-        s: Scheduler,
-        op: u64,
+        scheduler: Scheduler,
+        op_type: u64,
         max_len: u64,
     ) -> ScheduleAnswer;
-    pub safe fn stripring_scheduler_schedule_reads(s: Scheduler, dst_len: u64) -> ScheduleAnswer;
-    pub safe fn stripring_scheduler_schedule_writes(s: Scheduler, src_len: u64) -> ScheduleAnswer;
+    pub safe fn stripring_scheduler_schedule_reads(
+        scheduler: Scheduler,
+        dst_len: u64,
+    ) -> ScheduleAnswer;
+    pub safe fn stripring_scheduler_schedule_writes(
+        scheduler: Scheduler,
+        src_len: u64,
+    ) -> ScheduleAnswer;
     pub safe fn stripring_operations_try_new(list: Operations) -> OperationsAnswer;
     pub safe fn stripring_operations_container(list: Operations) -> OperationsAnswer;
     pub safe fn stripring_operations_into_container(list: Operations) -> OperationsAnswer;
@@ -605,18 +637,18 @@ unsafe extern "C" {
     pub safe fn stripring_operation_default() -> Operation;
     pub safe fn stripring_block_new(typ: u64, no: u64, off: u64, len: u64) -> Block;
     pub safe fn stripring_diff_new(old: u64, new: u64) -> Diff;
-    pub safe fn stripring_diff_is_same(d: Diff) -> bool;
-    pub safe fn stripring_diff_is_different(d: Diff) -> bool;
-    pub safe fn stripring_diff_old_value(d: Diff) -> u64;
-    pub safe fn stripring_diff_new_value(d: Diff) -> u64;
+    pub safe fn stripring_diff_is_same(diff: Diff) -> bool;
+    pub safe fn stripring_diff_is_different(diff: Diff) -> bool;
+    pub safe fn stripring_diff_old_value(diff: Diff) -> u64;
+    pub safe fn stripring_diff_new_value(diff: Diff) -> u64;
     pub safe fn stripring_modulus_new_full_range() -> u64;
     pub safe fn stripring_modulus_try_new(modulus: u64) -> OptionU64;
     pub safe fn stripring_modulus_is_full_range(modulus: u64) -> bool;
     pub safe fn stripring_modulus_modulus(modulus: u64) -> OptionU64;
-    pub safe fn stripring_modulus_contains(modulus: u64, v: u64) -> bool;
+    pub safe fn stripring_modulus_contains(modulus: u64, value: u64) -> bool;
     pub safe fn stripring_modulus_double(modulus: u64) -> OptionU64;
     pub safe fn stripring_modulus_new_number(modulus: u64, value: u64) -> u64;
-    pub safe fn stripring_modulus_try_new_number(modulus: u64, v: u64) -> OptionU64;
+    pub safe fn stripring_modulus_try_new_number(modulus: u64, value: u64) -> OptionU64;
     pub safe fn stripring_modulus_neg(modulus: u64, value: u64) -> u64;
     pub safe fn stripring_modulus_sub(modulus: u64, a: u64, b: u64) -> u64;
     pub safe fn stripring_modulus_add(modulus: u64, a: u64, b: u64) -> u64;

@@ -1,0 +1,13 @@
+// A block that is put together of its four parts.
+ghost use Rattle.std.specs.Prelude.{◌≡◌};
+ghost use Rattle.sched.specs.Block.{block_of};
+ghost use Rattle.flat.specs.Block.{block_type_at, bit_at, flat_block};
+
+use flat::structs::Block;
+
+#[unsafe(no_mangle)]
+pub extern "C" fn stripring_block_new(typ: u64, no: u64, off: u64, len: u64) -> Block
+    ensures { result ≡ flat_block (block_of (block_type_at typ) (bit_at no) (record { 0 = off }) len) }
+{
+    stripring::block::stripring_block_new(typ, no, off, len)
+}

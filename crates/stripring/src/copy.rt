@@ -5,16 +5,17 @@ ghost use Rattle.flat.specs.Copy.{copy_answer_left, flat_left};
 ghost use Rattle.flat.specs.Scheduler.{scheduler_at};
 
 use flat::copy::flat_copied;
+use flat::scheduler::scheduler;
 use flat::structs::{CopyAnswer, Scheduler};
 
-pub fn stripring_copies_write(scheduler: Scheduler, ring: &mut [u8], src: &[u8]) -> CopyAnswer
-    ensures { copy_answer_left result ring.new ≡ flat_left (write_of (scheduler_at scheduler) ring.old src.now) }
+pub fn stripring_copies_write(s: Scheduler, ring: &mut [u8], src: &[u8]) -> CopyAnswer
+    ensures { copy_answer_left result ring.new ≡ flat_left (write_of (scheduler_at s) ring.old src.now) }
 {
-    flat_copied(copies::write(flat::scheduler::scheduler(scheduler), ring, src))
+    flat_copied(copies::write(scheduler(s), ring, src))
 }
 
-pub fn stripring_copies_read(scheduler: Scheduler, ring: &[u8], dst: &mut [u8]) -> CopyAnswer
-    ensures { copy_answer_left result dst.new ≡ flat_left (read_of (scheduler_at scheduler) ring.now dst.old) }
+pub fn stripring_copies_read(s: Scheduler, ring: &[u8], dst: &mut [u8]) -> CopyAnswer
+    ensures { copy_answer_left result dst.new ≡ flat_left (read_of (scheduler_at s) ring.now dst.old) }
 {
-    flat_copied(copies::read(flat::scheduler::scheduler(scheduler), ring, dst))
+    flat_copied(copies::read(scheduler(s), ring, dst))
 }

@@ -30,10 +30,10 @@ pub fn stripring_modulus_modulus(modulus: u64) -> OptionU64
     flat_number(Modulus(modulus).modulus())
 }
 
-pub fn stripring_modulus_contains(modulus: u64, value: u64) -> bool
-    ensures { result ≡ contains_of (modulus_at modulus) value }
+pub fn stripring_modulus_contains(modulus: u64, v: u64) -> bool
+    ensures { result ≡ contains_of (modulus_at modulus) v }
 {
-    Modulus(modulus).contains(value)
+    Modulus(modulus).contains(v)
 }
 
 pub fn stripring_modulus_double(modulus: u64) -> OptionU64
@@ -48,10 +48,10 @@ pub fn stripring_modulus_new_number(modulus: u64, value: u64) -> u64
     Modulus(modulus).new_number(value)
 }
 
-pub fn stripring_modulus_try_new_number(modulus: u64, value: u64) -> OptionU64
-    ensures { result ≡ flat_number (try_new_number_of (modulus_at modulus) value) }
+pub fn stripring_modulus_try_new_number(modulus: u64, v: u64) -> OptionU64
+    ensures { result ≡ flat_number (try_new_number_of (modulus_at modulus) v) }
 {
-    flat_number(Modulus(modulus).try_new_number(value))
+    flat_number(Modulus(modulus).try_new_number(v))
 }
 
 pub fn stripring_modulus_neg(modulus: u64, value: u64) -> u64

@@ -7,6 +7,7 @@ ghost use Rattle.flat.specs.Scheduler.{scheduler_at};
 ghost use Rattle.flat.specs.WritingEnd.{written_counter_at};
 
 use flat::reading_end::{flat_got, flat_read_counter, flat_reading_end_answer, reading_end};
+use flat::scheduler::scheduler;
 use flat::structs::{
     GotAnswer, ReadCounterAnswer, ReadingEnd, ReadingEndAnswer, Scheduler, WrittenCounter,
 };
@@ -35,28 +36,28 @@ pub fn stripring_reading_end_from_counters(
     ))
 }
 
-pub fn stripring_reading_end_from_scheduler(scheduler: Scheduler) -> ReadingEndAnswer
-    ensures { result ≡ flat_reading_end_answer (reading_end_of (scheduler_at scheduler)) }
+pub fn stripring_reading_end_from_scheduler(s: Scheduler) -> ReadingEndAnswer
+    ensures { result ≡ flat_reading_end_answer (reading_end_of (scheduler_at s)) }
 {
-    flat_reading_end_answer(ends::ReadingEnd::from_scheduler(flat::scheduler::scheduler(scheduler)))
+    flat_reading_end_answer(ends::ReadingEnd::from_scheduler(scheduler(s)))
 }
 
 // ---- reading, and sending and taking counters
 
-pub fn stripring_reading_end_read(end: ReadingEnd, ring: &[u8], dst: &mut [u8]) -> GotAnswer
-    ensures { got_answer_left result dst.new ≡ flat_got_left (got_of (reading_end_at end) ring.now dst.old) }
+pub fn stripring_reading_end_read(e: ReadingEnd, ring: &[u8], dst: &mut [u8]) -> GotAnswer
+    ensures { got_answer_left result dst.new ≡ flat_got_left (got_of (reading_end_at e) ring.now dst.old) }
 {
-    flat_got(reading_end(end).read(ring, dst))
+    flat_got(reading_end(e).read(ring, dst))
 }
 
-pub fn stripring_reading_end_send(end: ReadingEnd) -> ReadCounterAnswer
-    ensures { result ≡ flat_read_counter (read_sent_of (reading_end_at end)) }
+pub fn stripring_reading_end_send(e: ReadingEnd) -> ReadCounterAnswer
+    ensures { result ≡ flat_read_counter (read_sent_of (reading_end_at e)) }
 {
-    flat_read_counter(reading_end(end).send())
+    flat_read_counter(reading_end(e).send())
 }
 
-pub fn stripring_reading_end_take(end: ReadingEnd, counter: WrittenCounter) -> ReadingEndAnswer
-    ensures { result ≡ flat_reading_end_answer (take_written_of (reading_end_at end) (written_counter_at counter)) }
+pub fn stripring_reading_end_take(e: ReadingEnd, counter: WrittenCounter) -> ReadingEndAnswer
+    ensures { result ≡ flat_reading_end_answer (take_written_of (reading_end_at e) (written_counter_at counter)) }
 {
-    flat_reading_end_answer(reading_end(end).take(written_counter(counter)))
+    flat_reading_end_answer(reading_end(e).take(written_counter(counter)))
 }

@@ -6,47 +6,41 @@ use flat::structs::{EndedAnswer, Receiver};
 use states::Answer;
 
 pub fn stripring_receiver_read_with_fds(
-    receiver: Receiver,
+    r: Receiver,
     ring: &[u8],
     dst: &mut [u8],
     max_new_fds: u64,
     answers: &[Answer],
 ) -> EndedAnswer
-    ensures { FlatReadLeaves receiver ring.now dst.old max_new_fds answers.now result dst.new }
+    ensures { FlatReadLeaves r ring.now dst.old max_new_fds answers.now result dst.new }
 {
-    flat_ended(driver::read_with_fds(receiver_state(receiver), ring, dst, max_new_fds, answers))
+    flat_ended(driver::read_with_fds(receiver_state(r), ring, dst, max_new_fds, answers))
 }
 
 // A read that tells the end of the stream as failure 32.
 pub fn stripring_receiver_read_with_fds_impl(
-    receiver: Receiver,
+    r: Receiver,
     ring: &[u8],
     dst: &mut [u8],
     max_new_fds: u64,
     answers: &[Answer],
 ) -> EndedAnswer
-    ensures { FlatReadImplLeaves receiver ring.now dst.old max_new_fds answers.now result dst.new }
+    ensures { FlatReadImplLeaves r ring.now dst.old max_new_fds answers.now result dst.new }
 {
-    flat_ended(driver::read_with_fds_impl(
-        receiver_state(receiver),
-        ring,
-        dst,
-        max_new_fds,
-        answers,
-    ))
+    flat_ended(driver::read_with_fds_impl(receiver_state(r), ring, dst, max_new_fds, answers))
 }
 
 pub fn stripring_receiver_service_chunk_acknowledgements(
-    receiver: Receiver,
+    r: Receiver,
     answers: &[Answer],
 ) -> EndedAnswer
-    ensures { FlatServiceLeaves receiver answers.now result }
+    ensures { FlatServiceLeaves r answers.now result }
 {
-    flat_ended(driver::service_chunk_acknowledgements(receiver_state(receiver), answers))
+    flat_ended(driver::service_chunk_acknowledgements(receiver_state(r), answers))
 }
 
-pub fn stripring_receiver_shutdown(receiver: Receiver, answers: &[Answer]) -> EndedAnswer
-    ensures { FlatShutdownLeaves receiver answers.now result }
+pub fn stripring_receiver_shutdown(r: Receiver, answers: &[Answer]) -> EndedAnswer
+    ensures { FlatShutdownLeaves r answers.now result }
 {
-    flat_ended(driver::shutdown(receiver_state(receiver), answers))
+    flat_ended(driver::shutdown(receiver_state(r), answers))
 }

@@ -11,145 +11,138 @@ use flat::block::{flat_block_answer, flat_blocks, flat_layout};
 use flat::counter::{flat_amount, flat_offset};
 use flat::list::flat_schedule;
 use flat::operation::{flat_next, operation_type};
+use flat::scheduler::scheduler;
 use flat::structs::{BlockAnswer, BlocksAnswer, NextAnswer, ScheduleAnswer, Scheduler, U64Answer};
 use sched::OperationType;
 
 // ---- layout and blocks
 
-pub fn stripring_scheduler_layout(scheduler: Scheduler) -> U64Answer
-    ensures { result ≡ flat_layout (layout_of (scheduler_at scheduler)) }
+pub fn stripring_scheduler_layout(s: Scheduler) -> U64Answer
+    ensures { result ≡ flat_layout (layout_of (scheduler_at s)) }
 {
-    flat_layout(flat::scheduler::scheduler(scheduler).layout())
+    flat_layout(scheduler(s).layout())
 }
 
-pub fn stripring_scheduler_blocks(scheduler: Scheduler) -> BlocksAnswer
-    ensures { result ≡ flat_blocks (blocks_of (scheduler_at scheduler)) }
+pub fn stripring_scheduler_blocks(s: Scheduler) -> BlocksAnswer
+    ensures { result ≡ flat_blocks (blocks_of (scheduler_at s)) }
 {
-    flat_blocks(flat::scheduler::scheduler(scheduler).blocks())
+    flat_blocks(scheduler(s).blocks())
 }
 
-pub fn stripring_scheduler_block_0(scheduler: Scheduler) -> BlockAnswer
-    ensures { result ≡ flat_block_answer (block0_from (blocks_of (scheduler_at scheduler))) }
+pub fn stripring_scheduler_block_0(s: Scheduler) -> BlockAnswer
+    ensures { result ≡ flat_block_answer (block0_from (blocks_of (scheduler_at s))) }
 {
-    flat_block_answer(flat::scheduler::scheduler(scheduler).block_0())
+    flat_block_answer(scheduler(s).block_0())
 }
 
-pub fn stripring_scheduler_block_1(scheduler: Scheduler) -> BlockAnswer
-    ensures { result ≡ flat_block_answer (block1_from (blocks_of (scheduler_at scheduler))) }
+pub fn stripring_scheduler_block_1(s: Scheduler) -> BlockAnswer
+    ensures { result ≡ flat_block_answer (block1_from (blocks_of (scheduler_at s))) }
 {
-    flat_block_answer(flat::scheduler::scheduler(scheduler).block_1())
+    flat_block_answer(scheduler(s).block_1())
 }
 
-pub fn stripring_scheduler_block_2(scheduler: Scheduler) -> BlockAnswer
-    ensures { result ≡ flat_block_answer (block2_from (blocks_of (scheduler_at scheduler))) }
+pub fn stripring_scheduler_block_2(s: Scheduler) -> BlockAnswer
+    ensures { result ≡ flat_block_answer (block2_from (blocks_of (scheduler_at s))) }
 {
-    flat_block_answer(flat::scheduler::scheduler(scheduler).block_2())
+    flat_block_answer(scheduler(s).block_2())
 }
 
-pub fn stripring_scheduler_block_0_off(scheduler: Scheduler) -> U64Answer
-    ensures { result ≡ flat_offset (off_from (block0_from (blocks_of (scheduler_at scheduler)))) }
+pub fn stripring_scheduler_block_0_off(s: Scheduler) -> U64Answer
+    ensures { result ≡ flat_offset (off_from (block0_from (blocks_of (scheduler_at s)))) }
 {
-    flat_offset(flat::scheduler::scheduler(scheduler).block_0_off())
+    flat_offset(scheduler(s).block_0_off())
 }
 
-pub fn stripring_scheduler_block_1_off(scheduler: Scheduler) -> U64Answer
-    ensures { result ≡ flat_offset (off_from (block1_from (blocks_of (scheduler_at scheduler)))) }
+pub fn stripring_scheduler_block_1_off(s: Scheduler) -> U64Answer
+    ensures { result ≡ flat_offset (off_from (block1_from (blocks_of (scheduler_at s)))) }
 {
-    flat_offset(flat::scheduler::scheduler(scheduler).block_1_off())
+    flat_offset(scheduler(s).block_1_off())
 }
 
-pub fn stripring_scheduler_block_2_off(scheduler: Scheduler) -> U64Answer
-    ensures { result ≡ flat_offset (off_from (block2_from (blocks_of (scheduler_at scheduler)))) }
+pub fn stripring_scheduler_block_2_off(s: Scheduler) -> U64Answer
+    ensures { result ≡ flat_offset (off_from (block2_from (blocks_of (scheduler_at s)))) }
 {
-    flat_offset(flat::scheduler::scheduler(scheduler).block_2_off())
+    flat_offset(scheduler(s).block_2_off())
 }
 
-pub fn stripring_scheduler_block_0_len(scheduler: Scheduler) -> U64Answer
-    ensures { result ≡ flat_amount (len_from (block0_from (blocks_of (scheduler_at scheduler)))) }
+pub fn stripring_scheduler_block_0_len(s: Scheduler) -> U64Answer
+    ensures { result ≡ flat_amount (len_from (block0_from (blocks_of (scheduler_at s)))) }
 {
-    flat_amount(flat::scheduler::scheduler(scheduler).block_0_len())
+    flat_amount(scheduler(s).block_0_len())
 }
 
-pub fn stripring_scheduler_block_1_len(scheduler: Scheduler) -> U64Answer
-    ensures { result ≡ flat_amount (len_from (block1_from (blocks_of (scheduler_at scheduler)))) }
+pub fn stripring_scheduler_block_1_len(s: Scheduler) -> U64Answer
+    ensures { result ≡ flat_amount (len_from (block1_from (blocks_of (scheduler_at s)))) }
 {
-    flat_amount(flat::scheduler::scheduler(scheduler).block_1_len())
+    flat_amount(scheduler(s).block_1_len())
 }
 
-pub fn stripring_scheduler_block_2_len(scheduler: Scheduler) -> U64Answer
-    ensures { result ≡ flat_amount (len_from (block2_from (blocks_of (scheduler_at scheduler)))) }
+pub fn stripring_scheduler_block_2_len(s: Scheduler) -> U64Answer
+    ensures { result ≡ flat_amount (len_from (block2_from (blocks_of (scheduler_at s)))) }
 {
-    flat_amount(flat::scheduler::scheduler(scheduler).block_2_len())
+    flat_amount(scheduler(s).block_2_len())
 }
 
-pub fn stripring_scheduler_next_operation_block(scheduler: Scheduler, op_type: u64) -> BlockAnswer
-    ensures { result ≡ flat_block_answer (next_block_of (scheduler_at scheduler) (type_at op_type)) }
+pub fn stripring_scheduler_next_operation_block(s: Scheduler, op: u64) -> BlockAnswer
+    ensures { result ≡ flat_block_answer (next_block_of (scheduler_at s) (type_at op)) }
 {
-    flat_block_answer(flat::scheduler::scheduler(scheduler).next_operation_block(operation_type(
-        op_type,
-    )))
+    flat_block_answer(scheduler(s).next_operation_block(operation_type(op)))
 }
 
-pub fn stripring_scheduler_next_read_block(scheduler: Scheduler) -> BlockAnswer
-    ensures { result ≡ flat_block_answer (next_block_of (scheduler_at scheduler) OperationType.Read) }
+pub fn stripring_scheduler_next_read_block(s: Scheduler) -> BlockAnswer
+    ensures { result ≡ flat_block_answer (next_block_of (scheduler_at s) OperationType.Read) }
 {
-    flat_block_answer(flat::scheduler::scheduler(scheduler).next_read_block())
+    flat_block_answer(scheduler(s).next_read_block())
 }
 
-pub fn stripring_scheduler_next_write_block(scheduler: Scheduler) -> BlockAnswer
-    ensures { result ≡ flat_block_answer (next_block_of (scheduler_at scheduler) OperationType.Write) }
+pub fn stripring_scheduler_next_write_block(s: Scheduler) -> BlockAnswer
+    ensures { result ≡ flat_block_answer (next_block_of (scheduler_at s) OperationType.Write) }
 {
-    flat_block_answer(flat::scheduler::scheduler(scheduler).next_write_block())
+    flat_block_answer(scheduler(s).next_write_block())
 }
 
 // ---- scheduling
 
 pub fn stripring_scheduler_schedule_next_contiguous_operation(
-    scheduler: Scheduler,
-    op_type: u64,
+    s: Scheduler,
+    op: u64,
     max_len: u64,
 ) -> NextAnswer
-    ensures { result ≡ flat_next (next_of (scheduler_at scheduler) (type_at op_type) max_len) }
+    ensures { result ≡ flat_next (next_of (scheduler_at s) (type_at op) max_len) }
 {
-    flat_next(flat::scheduler::scheduler(scheduler).schedule_next_contiguous_operation(
-        operation_type(op_type),
-        max_len,
-    ))
+    flat_next(scheduler(s).schedule_next_contiguous_operation(operation_type(op), max_len))
 }
 
-pub fn stripring_scheduler_schedule_next_read(scheduler: Scheduler, dst_len: u64) -> NextAnswer
-    ensures { result ≡ flat_next (next_of (scheduler_at scheduler) OperationType.Read dst_len) }
+pub fn stripring_scheduler_schedule_next_read(s: Scheduler, dst_len: u64) -> NextAnswer
+    ensures { result ≡ flat_next (next_of (scheduler_at s) OperationType.Read dst_len) }
 {
-    flat_next(flat::scheduler::scheduler(scheduler).schedule_next_read(dst_len))
+    flat_next(scheduler(s).schedule_next_read(dst_len))
 }
 
-pub fn stripring_scheduler_schedule_next_write(scheduler: Scheduler, src_len: u64) -> NextAnswer
-    ensures { result ≡ flat_next (next_of (scheduler_at scheduler) OperationType.Write src_len) }
+pub fn stripring_scheduler_schedule_next_write(s: Scheduler, src_len: u64) -> NextAnswer
+    ensures { result ≡ flat_next (next_of (scheduler_at s) OperationType.Write src_len) }
 {
-    flat_next(flat::scheduler::scheduler(scheduler).schedule_next_write(src_len))
+    flat_next(scheduler(s).schedule_next_write(src_len))
 }
 
 pub fn stripring_scheduler_schedule_contiguous_operations(
-    scheduler: Scheduler,
-    op_type: u64,
+    s: Scheduler,
+    op: u64,
     max_len: u64,
 ) -> ScheduleAnswer
-    ensures { result ≡ flat_schedule (schedule_of (scheduler_at scheduler) (type_at op_type) max_len) }
+    ensures { result ≡ flat_schedule (schedule_of (scheduler_at s) (type_at op) max_len) }
 {
-    flat_schedule(flat::scheduler::scheduler(scheduler).schedule_contiguous_operations(
-        operation_type(op_type),
-        max_len,
-    ))
+    flat_schedule(scheduler(s).schedule_contiguous_operations(operation_type(op), max_len))
 }
 
-pub fn stripring_scheduler_schedule_reads(scheduler: Scheduler, dst_len: u64) -> ScheduleAnswer
-    ensures { result ≡ flat_schedule (schedule_of (scheduler_at scheduler) OperationType.Read dst_len) }
+pub fn stripring_scheduler_schedule_reads(s: Scheduler, dst_len: u64) -> ScheduleAnswer
+    ensures { result ≡ flat_schedule (schedule_of (scheduler_at s) OperationType.Read dst_len) }
 {
-    flat_schedule(flat::scheduler::scheduler(scheduler).schedule_reads(dst_len))
+    flat_schedule(scheduler(s).schedule_reads(dst_len))
 }
 
-pub fn stripring_scheduler_schedule_writes(scheduler: Scheduler, src_len: u64) -> ScheduleAnswer
-    ensures { result ≡ flat_schedule (schedule_of (scheduler_at scheduler) OperationType.Write src_len) }
+pub fn stripring_scheduler_schedule_writes(s: Scheduler, src_len: u64) -> ScheduleAnswer
+    ensures { result ≡ flat_schedule (schedule_of (scheduler_at s) OperationType.Write src_len) }
 {
-    flat_schedule(flat::scheduler::scheduler(scheduler).schedule_writes(src_len))
+    flat_schedule(scheduler(s).schedule_writes(src_len))
 }

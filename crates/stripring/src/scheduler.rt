@@ -10,8 +10,8 @@ ghost use Rattle.flat.specs.Scheduler.{scheduler_at, flat_checked, flat_register
 use flat::block::flat_fill_state;
 use flat::counter::{flat_amount, flat_bool, flat_counter, flat_offset};
 use flat::list::operations;
-use flat::operation::operation_type;
-use flat::scheduler::{flat_checked, flat_registered};
+use flat::operation::{operation, operation_type};
+use flat::scheduler::{flat_checked, flat_registered, scheduler};
 use flat::structs::{Operation, Operations, Scheduler, SchedulerAnswer, U64Answer};
 use sched::{Counter, OperationType, RingBufferScheduler};
 
@@ -43,166 +43,151 @@ pub fn stripring_scheduler_try_from_counters(
     ))
 }
 
-pub fn stripring_scheduler_try_with_counter(
-    scheduler: Scheduler,
-    op_type: u64,
-    counter: u64,
-) -> SchedulerAnswer
-    ensures { result ≡ flat_checked (with_counter_of (scheduler_at scheduler) (type_at op_type) (record { 0 = counter })) }
+pub fn stripring_scheduler_try_with_counter(s: Scheduler, op: u64, counter: u64) -> SchedulerAnswer
+    ensures { result ≡ flat_checked (with_counter_of (scheduler_at s) (type_at op) (record { 0 = counter })) }
 {
-    flat_checked(flat::scheduler::scheduler(scheduler).try_with_counter(
-        operation_type(op_type),
-        Counter(counter),
-    ))
+    flat_checked(scheduler(s).try_with_counter(operation_type(op), Counter(counter)))
 }
 
-pub fn stripring_scheduler_demand_soundness(scheduler: Scheduler) -> SchedulerAnswer
-    ensures { result ≡ flat_checked (sound_of (scheduler_at scheduler)) }
+pub fn stripring_scheduler_demand_soundness(s: Scheduler) -> SchedulerAnswer
+    ensures { result ≡ flat_checked (sound_of (scheduler_at s)) }
 {
-    flat_checked(flat::scheduler::scheduler(scheduler).demand_soundness())
+    flat_checked(scheduler(s).demand_soundness())
 }
 
 // ---- registering what was moved
 
-pub fn stripring_scheduler_try_register_read(scheduler: Scheduler, len: u64) -> SchedulerAnswer
-    ensures { result ≡ flat_registered (register_of (scheduler_at scheduler) OperationType.Read len) }
+pub fn stripring_scheduler_try_register_read(s: Scheduler, len: u64) -> SchedulerAnswer
+    ensures { result ≡ flat_registered (register_of (scheduler_at s) OperationType.Read len) }
 {
-    flat_registered(flat::scheduler::scheduler(scheduler).try_register_read(len))
+    flat_registered(scheduler(s).try_register_read(len))
 }
 
-pub fn stripring_scheduler_try_register_write(scheduler: Scheduler, len: u64) -> SchedulerAnswer
-    ensures { result ≡ flat_registered (register_of (scheduler_at scheduler) OperationType.Write len) }
+pub fn stripring_scheduler_try_register_write(s: Scheduler, len: u64) -> SchedulerAnswer
+    ensures { result ≡ flat_registered (register_of (scheduler_at s) OperationType.Write len) }
 {
-    flat_registered(flat::scheduler::scheduler(scheduler).try_register_write(len))
+    flat_registered(scheduler(s).try_register_write(len))
 }
 
 pub fn stripring_scheduler_try_register_operation_manually(
-    scheduler: Scheduler,
-    op_type: u64,
+    s: Scheduler,
+    op: u64,
     len: u64,
 ) -> SchedulerAnswer
-    ensures { result ≡ flat_registered (register_of (scheduler_at scheduler) (type_at op_type) len) }
+    ensures { result ≡ flat_registered (register_of (scheduler_at s) (type_at op) len) }
 {
-    flat_registered(flat::scheduler::scheduler(scheduler).try_register_operation_manually(
-        operation_type(op_type),
-        len,
-    ))
+    flat_registered(scheduler(s).try_register_operation_manually(operation_type(op), len))
 }
 
-pub fn stripring_scheduler_try_register_operation(
-    scheduler: Scheduler,
-    operation: Operation,
-) -> SchedulerAnswer
-    ensures { result ≡ flat_registered (register_of (scheduler_at scheduler) (operation_at operation).typ (operation_at operation).len) }
+pub fn stripring_scheduler_try_register_operation(s: Scheduler, o: Operation) -> SchedulerAnswer
+    ensures { result ≡ flat_registered (register_of (scheduler_at s) (operation_at o).typ (operation_at o).len) }
 {
-    flat_registered(flat::scheduler::scheduler(scheduler).try_register_operation(
-        flat::operation::operation(operation),
-    ))
+    flat_registered(scheduler(s).try_register_operation(operation(o)))
 }
 
 pub fn stripring_scheduler_try_register_operations(
-    scheduler: Scheduler,
+    s: Scheduler,
     list: Operations,
 ) -> SchedulerAnswer
-    ensures { result ≡ flat_registered (register_list_of (scheduler_at scheduler) (operations_at list)) }
+    ensures { result ≡ flat_registered (register_list_of (scheduler_at s) (operations_at list)) }
 {
-    flat_registered(flat::scheduler::scheduler(scheduler).try_register_operations(operations(list)))
+    flat_registered(scheduler(s).try_register_operations(operations(list)))
 }
 
 // ---- counters, offsets, data and space
 
-pub fn stripring_scheduler_items_read(scheduler: Scheduler) -> U64Answer
-    ensures { result ≡ flat_counter (counter_answer_of (scheduler_at scheduler) OperationType.Read) }
+pub fn stripring_scheduler_items_read(s: Scheduler) -> U64Answer
+    ensures { result ≡ flat_counter (counter_answer_of (scheduler_at s) OperationType.Read) }
 {
-    flat_counter(flat::scheduler::scheduler(scheduler).items_read())
+    flat_counter(scheduler(s).items_read())
 }
 
-pub fn stripring_scheduler_items_written(scheduler: Scheduler) -> U64Answer
-    ensures { result ≡ flat_counter (counter_answer_of (scheduler_at scheduler) OperationType.Write) }
+pub fn stripring_scheduler_items_written(s: Scheduler) -> U64Answer
+    ensures { result ≡ flat_counter (counter_answer_of (scheduler_at s) OperationType.Write) }
 {
-    flat_counter(flat::scheduler::scheduler(scheduler).items_written())
+    flat_counter(scheduler(s).items_written())
 }
 
-pub fn stripring_scheduler_operation_counter(scheduler: Scheduler, op_type: u64) -> U64Answer
-    ensures { result ≡ flat_counter (counter_answer_of (scheduler_at scheduler) (type_at op_type)) }
+pub fn stripring_scheduler_operation_counter(s: Scheduler, op: u64) -> U64Answer
+    ensures { result ≡ flat_counter (counter_answer_of (scheduler_at s) (type_at op)) }
 {
-    flat_counter(flat::scheduler::scheduler(scheduler).operation_counter(operation_type(op_type)))
+    flat_counter(scheduler(s).operation_counter(operation_type(op)))
 }
 
-pub fn stripring_scheduler_read_off(scheduler: Scheduler) -> U64Answer
-    ensures { result ≡ flat_offset (offset_answer_of (scheduler_at scheduler) OperationType.Read) }
+pub fn stripring_scheduler_read_off(s: Scheduler) -> U64Answer
+    ensures { result ≡ flat_offset (offset_answer_of (scheduler_at s) OperationType.Read) }
 {
-    flat_offset(flat::scheduler::scheduler(scheduler).read_off())
+    flat_offset(scheduler(s).read_off())
 }
 
-pub fn stripring_scheduler_write_off(scheduler: Scheduler) -> U64Answer
-    ensures { result ≡ flat_offset (offset_answer_of (scheduler_at scheduler) OperationType.Write) }
+pub fn stripring_scheduler_write_off(s: Scheduler) -> U64Answer
+    ensures { result ≡ flat_offset (offset_answer_of (scheduler_at s) OperationType.Write) }
 {
-    flat_offset(flat::scheduler::scheduler(scheduler).write_off())
+    flat_offset(scheduler(s).write_off())
 }
 
-pub fn stripring_scheduler_operation_offset(scheduler: Scheduler, op_type: u64) -> U64Answer
-    ensures { result ≡ flat_offset (offset_answer_of (scheduler_at scheduler) (type_at op_type)) }
+pub fn stripring_scheduler_operation_offset(s: Scheduler, op: u64) -> U64Answer
+    ensures { result ≡ flat_offset (offset_answer_of (scheduler_at s) (type_at op)) }
 {
-    flat_offset(flat::scheduler::scheduler(scheduler).operation_offset(operation_type(op_type)))
+    flat_offset(scheduler(s).operation_offset(operation_type(op)))
 }
 
-pub fn stripring_scheduler_buf_len(scheduler: Scheduler) -> U64Answer
-    ensures { result ≡ flat_amount (buf_len_of (scheduler_at scheduler)) }
+pub fn stripring_scheduler_buf_len(s: Scheduler) -> U64Answer
+    ensures { result ≡ flat_amount (buf_len_of (scheduler_at s)) }
 {
-    flat_amount(flat::scheduler::scheduler(scheduler).buf_len())
+    flat_amount(scheduler(s).buf_len())
 }
 
-pub fn stripring_scheduler_is_zero_sized(scheduler: Scheduler) -> U64Answer
-    ensures { result ≡ flat_bool (is_zero_from (buf_len_of (scheduler_at scheduler))) }
+pub fn stripring_scheduler_is_zero_sized(s: Scheduler) -> U64Answer
+    ensures { result ≡ flat_bool (is_zero_from (buf_len_of (scheduler_at s))) }
 {
-    flat_bool(flat::scheduler::scheduler(scheduler).is_zero_sized())
+    flat_bool(scheduler(s).is_zero_sized())
 }
 
-pub fn stripring_scheduler_data_avail(scheduler: Scheduler) -> U64Answer
-    ensures { result ≡ flat_amount (greatest_of (scheduler_at scheduler) OperationType.Read) }
+pub fn stripring_scheduler_data_avail(s: Scheduler) -> U64Answer
+    ensures { result ≡ flat_amount (greatest_of (scheduler_at s) OperationType.Read) }
 {
-    flat_amount(flat::scheduler::scheduler(scheduler).data_avail())
+    flat_amount(scheduler(s).data_avail())
 }
 
-pub fn stripring_scheduler_space_avail(scheduler: Scheduler) -> U64Answer
-    ensures { result ≡ flat_amount (greatest_of (scheduler_at scheduler) OperationType.Write) }
+pub fn stripring_scheduler_space_avail(s: Scheduler) -> U64Answer
+    ensures { result ≡ flat_amount (greatest_of (scheduler_at s) OperationType.Write) }
 {
-    flat_amount(flat::scheduler::scheduler(scheduler).space_avail())
+    flat_amount(scheduler(s).space_avail())
 }
 
-pub fn stripring_scheduler_max_operation_len(scheduler: Scheduler, op_type: u64) -> U64Answer
-    ensures { result ≡ flat_amount (greatest_of (scheduler_at scheduler) (type_at op_type)) }
+pub fn stripring_scheduler_max_operation_len(s: Scheduler, op: u64) -> U64Answer
+    ensures { result ≡ flat_amount (greatest_of (scheduler_at s) (type_at op)) }
 {
-    flat_amount(flat::scheduler::scheduler(scheduler).max_operation_len(operation_type(op_type)))
+    flat_amount(scheduler(s).max_operation_len(operation_type(op)))
 }
 
-pub fn stripring_scheduler_fill_state(scheduler: Scheduler) -> U64Answer
-    ensures { result ≡ flat_fill_state (fill_state_of (scheduler_at scheduler)) }
+pub fn stripring_scheduler_fill_state(s: Scheduler) -> U64Answer
+    ensures { result ≡ flat_fill_state (fill_state_of (scheduler_at s)) }
 {
-    flat_fill_state(flat::scheduler::scheduler(scheduler).fill_state())
+    flat_fill_state(scheduler(s).fill_state())
 }
 
-pub fn stripring_scheduler_is_empty(scheduler: Scheduler) -> U64Answer
-    ensures { result ≡ flat_bool (is_zero_from (greatest_of (scheduler_at scheduler) OperationType.Read)) }
+pub fn stripring_scheduler_is_empty(s: Scheduler) -> U64Answer
+    ensures { result ≡ flat_bool (is_zero_from (greatest_of (scheduler_at s) OperationType.Read)) }
 {
-    flat_bool(flat::scheduler::scheduler(scheduler).is_empty())
+    flat_bool(scheduler(s).is_empty())
 }
 
-pub fn stripring_scheduler_is_full(scheduler: Scheduler) -> U64Answer
-    ensures { result ≡ flat_bool (is_zero_from (greatest_of (scheduler_at scheduler) OperationType.Write)) }
+pub fn stripring_scheduler_is_full(s: Scheduler) -> U64Answer
+    ensures { result ≡ flat_bool (is_zero_from (greatest_of (scheduler_at s) OperationType.Write)) }
 {
-    flat_bool(flat::scheduler::scheduler(scheduler).is_full())
+    flat_bool(scheduler(s).is_full())
 }
 
-pub fn stripring_scheduler_is_nonempty(scheduler: Scheduler) -> U64Answer
-    ensures { result ≡ flat_bool (is_positive_from (greatest_of (scheduler_at scheduler) OperationType.Read)) }
+pub fn stripring_scheduler_is_nonempty(s: Scheduler) -> U64Answer
+    ensures { result ≡ flat_bool (is_positive_from (greatest_of (scheduler_at s) OperationType.Read)) }
 {
-    flat_bool(flat::scheduler::scheduler(scheduler).is_nonempty())
+    flat_bool(scheduler(s).is_nonempty())
 }
 
-pub fn stripring_scheduler_is_nonfull(scheduler: Scheduler) -> U64Answer
-    ensures { result ≡ flat_bool (is_positive_from (greatest_of (scheduler_at scheduler) OperationType.Write)) }
+pub fn stripring_scheduler_is_nonfull(s: Scheduler) -> U64Answer
+    ensures { result ≡ flat_bool (is_positive_from (greatest_of (scheduler_at s) OperationType.Write)) }
 {
-    flat_bool(flat::scheduler::scheduler(scheduler).is_nonfull())
+    flat_bool(scheduler(s).is_nonfull())
 }

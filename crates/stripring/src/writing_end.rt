@@ -7,6 +7,7 @@ ghost use Rattle.flat.specs.Scheduler.{scheduler_at};
 ghost use Rattle.flat.specs.WritingEnd.{writing_end_at, flat_writing_end_answer, wrote_answer_left, flat_wrote_left, flat_written_counter};
 
 use flat::reading_end::read_counter;
+use flat::scheduler::scheduler;
 use flat::structs::{
     ReadCounter, Scheduler, WritingEnd, WritingEndAnswer, WrittenCounterAnswer, WroteAnswer,
 };
@@ -35,28 +36,28 @@ pub fn stripring_writing_end_from_counters(
     ))
 }
 
-pub fn stripring_writing_end_from_scheduler(scheduler: Scheduler) -> WritingEndAnswer
-    ensures { result ≡ flat_writing_end_answer (writing_end_of (scheduler_at scheduler)) }
+pub fn stripring_writing_end_from_scheduler(s: Scheduler) -> WritingEndAnswer
+    ensures { result ≡ flat_writing_end_answer (writing_end_of (scheduler_at s)) }
 {
-    flat_writing_end_answer(ends::WritingEnd::from_scheduler(flat::scheduler::scheduler(scheduler)))
+    flat_writing_end_answer(ends::WritingEnd::from_scheduler(scheduler(s)))
 }
 
 // ---- writing, and sending and taking counters
 
-pub fn stripring_writing_end_write(end: WritingEnd, ring: &mut [u8], src: &[u8]) -> WroteAnswer
-    ensures { wrote_answer_left result ring.new ≡ flat_wrote_left (wrote_of (writing_end_at end) ring.old src.now) }
+pub fn stripring_writing_end_write(e: WritingEnd, ring: &mut [u8], src: &[u8]) -> WroteAnswer
+    ensures { wrote_answer_left result ring.new ≡ flat_wrote_left (wrote_of (writing_end_at e) ring.old src.now) }
 {
-    flat_wrote(writing_end(end).write(ring, src))
+    flat_wrote(writing_end(e).write(ring, src))
 }
 
-pub fn stripring_writing_end_send(end: WritingEnd) -> WrittenCounterAnswer
-    ensures { result ≡ flat_written_counter (written_sent_of (writing_end_at end)) }
+pub fn stripring_writing_end_send(e: WritingEnd) -> WrittenCounterAnswer
+    ensures { result ≡ flat_written_counter (written_sent_of (writing_end_at e)) }
 {
-    flat_written_counter(writing_end(end).send())
+    flat_written_counter(writing_end(e).send())
 }
 
-pub fn stripring_writing_end_take(end: WritingEnd, counter: ReadCounter) -> WritingEndAnswer
-    ensures { result ≡ flat_writing_end_answer (take_read_of (writing_end_at end) (read_counter_at counter)) }
+pub fn stripring_writing_end_take(e: WritingEnd, counter: ReadCounter) -> WritingEndAnswer
+    ensures { result ≡ flat_writing_end_answer (take_read_of (writing_end_at e) (read_counter_at counter)) }
 {
-    flat_writing_end_answer(writing_end(end).take(read_counter(counter)))
+    flat_writing_end_answer(writing_end(e).take(read_counter(counter)))
 }

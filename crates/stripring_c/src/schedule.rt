@@ -8,6 +8,7 @@ ghost use Rattle.flat.specs.Operation.{type_at, flat_next};
 ghost use Rattle.flat.specs.Scheduler.{scheduler_at};
 
 use flat::structs::{BlockAnswer, BlocksAnswer, NextAnswer, ScheduleAnswer, Scheduler, U64Answer};
+use sched::OperationType;
 
 // ---- layout and blocks
 

@@ -8,6 +8,7 @@ ghost use Rattle.flat.specs.Operation.{type_at, operation_at};
 ghost use Rattle.flat.specs.Scheduler.{scheduler_at, flat_checked, flat_registered};
 
 use flat::structs::{Operation, Operations, Scheduler, SchedulerAnswer, U64Answer};
+use sched::OperationType;
 
 // ---- making one
 

@@ -24,6 +24,7 @@ pub enum Plan {
 }
 
 // The answer to a line; bad before refused.
+#[tactic(auto, using(crate::proofs::PlanLaws::plan_long))]
 pub fn plan_line(question: Question, line: &[u8]) -> Plan
     ensures { result ≡ plan_of question line.now }
 {

@@ -1,14 +1,10 @@
--- Too long, or as who is asked answers.
+-- As who is asked answers; a line that is too long needs no answer (`plan_long` on the function).
 use mathlib.Core.Path.{sym, ap, ◌∙◌}
 use native.Mathlib.Omega.{arith}
-use borrow.Author.Rules.{rules}
 use Rattle.planline.specs.declared.plan.Question.{Question}
 use Rattle.planline.specs.Plan.{answer_to}
-use Rattle.planline.proofs.PlanLaws.{plan_long, plan_short}
+use Rattle.planline.proofs.PlanLaws.{plan_short}
 use Rattle.planline.proofs.plan.plan_line.Goals as goal
-
-pub returns-then-line-gt120 : goal.returns-then-line-gt120
-returns-then-line-gt120 c = let a = c.args in plan_long a.question a.line.now (omega arith)
 
 pub returns-in-Ring : goal.returns-in-Ring
 returns-in-Ring c =

@@ -1,6 +1,6 @@
 -- The copies keep what specs/Promises.antt and specs/Given.antt say: first of the definitions, then of the calls, which is of
 -- whatever an attached contract allows.
-use Prim.Native.Nat.{ℕ, ◌<◌, min}
+use Prim.Native.Nat.{ℕ, min}
 use mathlib.Core.Path.{◌≡◌, refl, sym, ap, ◌∙◌}
 use mathlib.Core.Bool.{Bool, true, false}
 use mathlib.Core.Logic.{◌≢◌}
@@ -41,7 +41,7 @@ use Rattle.copies.specs.declared.lent.Told.TheVariants as told
 use Rattle.copies.specs.Ring.{get}
 use Rattle.copies.specs.Copies.{ready_from, ready_of, write_of, read_of, write_from, read_from}
 use Rattle.copies.specs.Lent.{told_of, record_after, WriteLeaves, ReadLeaves}
-use Rattle.copies.specs.Given.{Verdict, verdict, Exactly, GivenCopy, made, by_scheduler_lem, given_9, of_checked, of_ready, of_copied, of_told}
+use Rattle.copies.specs.Given.{Verdict, verdict, Exactly, GivenCopy, made, by_scheduler, given_9, of_checked, of_ready, of_copied, of_told}
 use Rattle.copies.specs.Promises.{CellsOf, Writes, Reads, CopyWrites, CopyReads}
 use Rattle.copies.specs.Promises as promise
 use Rattle.copies.proofs.Ring.{length_get, get_d_get, put_own, get_own, get_put}
@@ -128,19 +128,19 @@ module _ (s : RingBufferScheduler) (n : ℕ) where
     where
       so : {k : ℕ} {vs : List ℕ} → GivenCopy s n k vs → verdict 0 [] ≡ verdict k vs
       so (made g f) = refl
-      so {k} {vs} (by_scheduler_lem p g) = absurd (omega (arith, sound_given s h k vs g))
+      so {k} {vs} (by_scheduler p g) = absurd (omega (arith, sound_given s h k vs g))
       so (given_9 g ne) = absurd (ne e)
   given z (wrong h ne) = record { only = given_9 h ne; always = λ k vs g. so g }
     where
       so : {k : ℕ} {vs : List ℕ} → GivenCopy s n k vs → verdict 9 [] ≡ verdict k vs
       so (made g e) = absurd (ne e)
-      so {k} {vs} (by_scheduler_lem p g) = absurd (omega (arith, sound_given s h k vs g))
+      so {k} {vs} (by_scheduler p g) = absurd (omega (arith, sound_given s h k vs g))
       so (given_9 g f) = refl
-  given z (unsound e q) = record { only = by_scheduler_lem (number_some e) (refusal_given s e q); always = λ k vs g. so g }
+  given z (unsound e q) = record { only = by_scheduler (number_some e) (refusal_given s e q); always = λ k vs g. so g }
     where
       so : {k : ℕ} {vs : List ℕ} → GivenCopy s n k vs → verdict (number_of e) (values_of e) ≡ verdict k vs
       so (made g f) = absurd (sound_not_refused s e q g)
-      so {k} {vs} (by_scheduler_lem p g) = given_refusal s e q k vs g
+      so {k} {vs} (by_scheduler p g) = given_refusal s e q k vs g
       so (given_9 g f) = absurd (sound_not_refused s e q g)
 
 pub ready_given : (s : RingBufferScheduler) (n : ℕ) → Exactly (GivenCopy s n) (of_ready (ready_of s n))

@@ -4,7 +4,7 @@ use mathlib.Core.Path.{◌≡◌, refl}
 use native.Mathlib.Omega.{arith}
 use Rattle.modular.proofs.Saying.{Keeps}
 use Rattle.operations.specs.Refusal.{packed, unpacked}
-use Rattle.operations.proofs.Given as goal
+use Rattle.operations.proofs.Given as given
 use Rattle.operations.proofs.PromisedValues as operations
 use Rattle.copies.specs.declared.refusal.Refusal.{Refusal}
 use Rattle.copies.specs.declared.refusal.Refusal.TheVariants.{Scheduler, RingMemory}
@@ -16,7 +16,7 @@ use Rattle.copies.proofs.refusal.Refusal.values.Kinds as values_kinds
 use Rattle.copies.proofs.refusal.Refusal.values.Reads as values
 
 pub number_some : (e : Refusal) → 0 < number_of e
-number_some (Scheduler e) = goal.number_some e
+number_some (Scheduler e) = given.number_some e
 number_some RingMemory = omega arith
 
 pub values_back : (e : Refusal) → unpacked (packed (values_of e)) ≡ values_of e

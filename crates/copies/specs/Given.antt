@@ -32,7 +32,7 @@ pub record Exactly (G : ℕ → List ℕ → Type 0) (v : Verdict) : Type 0 wher
 module _ (s : RingBufferScheduler) (n : ℕ) where
   pub data GivenCopy : ℕ → List ℕ → Type 0 where
     made : IsSound s → n ≡ s.buf_len → GivenCopy 0 []
-    by_scheduler_lem : {k : ℕ} {vs : List ℕ} → 0 < k → Given s k vs → GivenCopy k vs
+    by_scheduler : {k : ℕ} {vs : List ℕ} → 0 < k → Given s k vs → GivenCopy k vs
     given_9 : IsSound s → n ≢ s.buf_len → GivenCopy 9 []
 
 -- ---- the verdict in each kind of answer

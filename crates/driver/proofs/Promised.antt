@@ -45,7 +45,7 @@ use Rattle.states.specs.declared.state.Failure.TheVariants.{Io, Protocol}
 use Rattle.driver.specs.Drive.{fetched_of, driven_of, ended_by, ended_of, Delivery, delivery, delivered_for, delivered_by, delivery_for, delivery_of, end_of_stream_by, end_of_stream_for, end_of_stream_in}
 use Rattle.driver.specs.Pending.{sent_in}
 use Rattle.driver.specs.declared.drive.Fetched.{Fetched}
-use Rattle.driver.specs.Promise.{FetchedAt, there, behind, Uses, Begins, at_data, behind_header_lem, FillsBy, Fills, TurnedTo, ended_stream, stays, Turned, accepted, same_refusal}
+use Rattle.driver.specs.Promise.{FetchedAt, there, behind, Uses, Begins, at_data, behind_header, FillsBy, Fills, TurnedTo, ended_stream, stays, Turned, accepted, same_refusal}
 use Rattle.driver.specs.Run.{read_of, read_impl_delivery, end_of_stream, read_delivery, FetchLeaves, ServiceLeaves, ShutdownLeaves, ReadImplLeaves, ReadLeaves}
 use Rattle.driver.specs.declared.drive.Driven.{Driven}
 use Rattle.driver.proofs.Along.{Holds, driven_holds}
@@ -118,9 +118,9 @@ module _ (s : RingBufferScheduler) (sound : IsSound s) (ring dst : List ℕ) whe
   got : (n : ℕ) (u : RingBufferScheduler) → n ≡ min (length dst) (data_in u) → Source (length dst) s u → (at : ℕ) → Begins s at → CellsOf s.buf_len ring at (get u.buf_len ring (offset_in u Read).0 n)
   got n u e (unasked z) at k = λ j l. absurd (omega (arith, e, z, l, (got_cells u.buf_len ring (offset_in u Read).0 n).0))
   got n u e (own z) _ (at_data k) = (got_cells u.buf_len ring (offset_in u Read).0 n).1
-  got n u e (own z) _ (behind_header_lem k) = absurd (z k)
+  got n u e (own z) _ (behind_header k) = absurd (z k)
   got n u e (chunk z c) _ (at_data k) = absurd (k z)
-  got n u e (chunk z c) _ (behind_header_lem k) =
+  got n u e (chunk z c) _ (behind_header k) =
       let at = (offset_in s Read).0 + 8 in
       let b : u.buf_len ≡ s.buf_len = (source_sound (length dst) s sound u (chunk z c)).1 in
       let place : (offset_in u Read).0 % s.buf_len ≡ at % s.buf_len = ap (λ (i : ℕ). i % s.buf_len) (chunk_offset s sound _ u c) ∙ mod-eq_of_lt (mod-lt at sound.sized.some) in

@@ -53,7 +53,7 @@ module _ (runs : List Answer → Ended) (answers : List Answer) where
 -- they begin at the read offset if there is data, and else behind the header of 8 bytes that stands there
 pub data Begins (s : RingBufferScheduler) : ℕ → Type 0 where
   at_data : data_in s ≢ 0 → Begins s (offset_in s Read).0
-  behind_header_lem : data_in s ≡ 0 → Begins s ((offset_in s Read).0 + 8)
+  behind_header : data_in s ≡ 0 → Begins s ((offset_in s Read).0 + 8)
 
 -- A read of n bytes, no more than were asked for, leaves those of the ring at the front of the destination; nothing else changes any.
 -- `s` is the scheduler of the record that was passed.

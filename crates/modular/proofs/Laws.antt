@@ -1,6 +1,6 @@
 -- Laws of the definitions of `specs/Modulus.antt`, over any modulus and any width: what callers and the functions' own
 -- proofs cite instead of the definitions' text.
-use Rattle.std.proofs.Common.{◌≡◌, ℕ, ◌+◌, ◌-◌, ◌*◌, ◌%◌, ◌^◌, ◌<◌, ◌≤◌, Bool, true, false, cond, eqb, ltb, leb, ◌⊎◌, sym, refl, ap, ◌∙◌, inl, inr, ⊎_elim, add-zero, add_assoc, mod-lt, mod-eq_of_lt, eq-or-lt_of_le, zero-add, arith, pow_pos, ltb-false, ltb-true, lt-ltb, eq-eqb, ne_eqb, eqb-true, le-leb, leb-false, leb-true}
+use Rattle.std.proofs.Common.{◌≡◌, ℕ, ◌+◌, ◌-◌, ◌*◌, ◌%◌, ◌^◌, ◌<◌, ◌≤◌, Bool, true, false, eqb, ltb, leb, ◌⊎◌, sym, refl, ◌∙◌, inl, inr, ⊎_elim, add-zero, add_assoc, mod-lt, mod-eq_of_lt, eq-or-lt_of_le, zero-add, arith, pow_pos, ltb-false, ltb-true, lt-ltb, eq-eqb, ne_eqb, eqb-true, le-leb, leb-false, leb-true}
 use borrow.Author.Tests.{eqb-false, lt-leb}
 use native.Mathlib.Nat.{mod-eq-sub-mod, mod-add-mod, add-mod-mod, add-mod_right, add-mod, mod_self, mod-mod, mod-mod_of_dvd, dvd-mul_left, zero-mod}
 use Rattle.modular.specs.declared.Modulus.{Modulus}

@@ -1,6 +1,6 @@
 -- The numbers of a list that is registered, 7 and 8 and then 6 operation by operation, are given exactly when the paper says so, over the
 -- definitions.
-use Rattle.std.proofs.Common.{◌≡◌, ℕ, ◌-◌, ◌<◌, ◌≤◌, List, [], sym, refl, ap, ◌∙◌, ⊎_elim, arith}
+use Rattle.std.proofs.Common.{◌≡◌, ℕ, ◌<◌, ◌≤◌, List, [], sym, refl, ap, ◌∙◌, ⊎_elim, arith}
 use Rattle.modular.proofs.Laws.{lt_or_le}
 use Rattle.operations.specs.declared.list.ScheduledOperations.{ScheduledOperations}
 use Rattle.operations.specs.declared.list.ScheduledOperations.TheVariants as list

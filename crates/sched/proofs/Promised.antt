@@ -1,11 +1,10 @@
 -- What the paper (docs/PAPER.md, "The scheduler") promises, of the calls: every outcome that an attached contract allows keeps it.
-use Rattle.std.proofs.Common.{◌≡◌, ℕ, ◌+◌, ◌-◌, ◌≤◌, min, sym, refl, ap, ◌∙◌, arith}
+use Rattle.std.proofs.Common.{◌≡◌, ℕ, ◌+◌, ◌≤◌, min, sym, refl, ap, ◌∙◌, arith}
 use Rattle.modular.proofs.Saying.{Allows, Keeps}
 use Rattle.operations.specs.declared.counter.AmountAnswer.{AmountAnswer}
 use Rattle.operations.specs.declared.counter.AmountAnswer.TheVariants as amount
 use Rattle.operations.specs.declared.list.ScheduledOperations.TheVariants as list
 use Rattle.sched.specs.declared.schedule.Next.{Next}
-use Rattle.sched.specs.declared.schedule.NextOperation.{NextOperation}
 use Rattle.sched.specs.declared.schedule.NextOperation.TheVariants as next
 use Rattle.sched.specs.declared.schedule.NextOperationAnswer.{NextOperationAnswer}
 use Rattle.sched.specs.declared.schedule.NextOperationAnswer.TheVariants as nexts

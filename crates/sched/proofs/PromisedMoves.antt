@@ -16,7 +16,7 @@ use Rattle.sched.specs.declared.schedule.ScheduledAnswer.{ScheduledAnswer}
 use Rattle.sched.specs.declared.schedule.ScheduledAnswer.TheVariants as schedules
 use Rattle.sched.specs.declared.scheduler.RingBufferScheduler.{RingBufferScheduler}
 use Rattle.sched.specs.Promise.{cut_of, MovePromise, MovesAtOnce}
-use Rattle.sched.specs.Scheduler.{IsSound, greatest_in, scheduled_of, schedule_in, register_list_of, move_in}
+use Rattle.sched.specs.Scheduler.{IsSound, greatest_in, scheduled_of, register_list_of, move_in}
 use Rattle.sched.proofs.Laws.{sound_is}
 use Rattle.sched.proofs.RegisterLaws.{move_of_lem, move_refused, moved}
 use Rattle.sched.proofs.ScheduleLaws.{schedule_is}

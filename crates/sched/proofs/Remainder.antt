@@ -1,14 +1,10 @@
 -- How much was not scheduled, over the definitions; `Promised` states it of the calls. And what is scheduled is what it was before the
 -- remainder was answered: the next operation up to the end of its block, and all that is asked and there, cut where the buffer ends.
-use Rattle.std.proofs.Common.{◌≡◌, ℕ, ◌+◌, ◌<◌, min, sym, refl, ap, ◌∙◌, arith}
-use Rattle.operations.specs.declared.list.ScheduledOperations.{ScheduledOperations}
+use Rattle.std.proofs.Common.{◌≡◌, ℕ, ◌+◌, ◌<◌, min, refl, ap}
 use Rattle.operations.specs.declared.operation.OperationType.{OperationType}
-use Rattle.sched.specs.declared.schedule.NextOperation.{NextOperation}
-use Rattle.sched.specs.declared.schedule.NextOperation.TheVariants as next
 use Rattle.sched.specs.declared.schedule.Scheduled.{Scheduled}
 use Rattle.sched.specs.declared.scheduler.RingBufferScheduler.{RingBufferScheduler}
 use Rattle.operations.specs.List.{total_in}
-use Rattle.operations.specs.Promise.{LeftOver}
 use Rattle.sched.specs.Promise.{cut_of, next_len, NextLeaves, ListLeaves}
 use Rattle.sched.specs.Scheduler.{IsSound, offset_in, greatest_in, next_block_in, some_of, next_in, schedule_in}
 use Rattle.operations.proofs.PortionLaws.{left_over}

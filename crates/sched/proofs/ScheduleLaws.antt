@@ -11,7 +11,6 @@ use Rattle.operations.specs.declared.portion.Portion.{Portion}
 use Rattle.sched.specs.declared.schedule.Next.{Next}
 use Rattle.sched.specs.declared.schedule.NextOperation.{NextOperation}
 use Rattle.sched.specs.declared.schedule.NextOperation.TheVariants as next
-use Rattle.sched.specs.declared.schedule.Scheduled.{Scheduled}
 use Rattle.operations.specs.declared.list.ScheduledOperations.{ScheduledOperations}
 use Rattle.operations.specs.declared.list.ScheduledOperations.TheVariants as list
 use Rattle.operations.specs.Operation.{operation_of}

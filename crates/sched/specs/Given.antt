@@ -1,5 +1,5 @@
 -- The paper's table of the numbers that refuse, 1 to 8 and 20: when each is given, and with which values. docs/PAPER.md, "The numbers".
-use Rattle.std.specs.Prelude.{◌≡◌, ℕ, ◌-◌, ◌*◌, ◌^◌, ◌<◌, ◌≤◌, List, [], ◌∷◌, ◌≢◌}
+use Rattle.std.specs.Prelude.{◌≡◌, ℕ, ◌*◌, ◌^◌, ◌<◌, ◌≤◌, List, [], ◌∷◌, ◌≢◌}
 use Rattle.operations.specs.Given.{Verdict, accepted, refused, TypeNumber, GivenList}
 use Rattle.sched.specs.declared.block.BlockAnswer.{BlockAnswer}
 use Rattle.sched.specs.declared.block.BlockAnswer.TheVariants as block

@@ -1,6 +1,6 @@
 -- The scheduler: its tests, data and space, blocks, layout, scheduling and registering, over whole numbers. Write L for
 -- `buf_len`. A name that ends in `In` is of a sound scheduler; one that ends in `Of` tests the record first.
-use Rattle.std.specs.Prelude.{◌≡◌, ℕ, ◌+◌, ◌-◌, ◌*◌, ◌^◌, ◌<◌, ◌≤◌, min, max, cond, ◌==◌, nat_le, nat_lt}
+use Rattle.std.specs.Prelude.{◌≡◌, ℕ, ◌-◌, ◌*◌, ◌^◌, ◌<◌, ◌≤◌, min, max, cond, ◌==◌, nat_le, nat_lt}
 use Rattle.operations.specs.declared.counter.Counter.{Counter}
 use Rattle.operations.specs.declared.counter.Offset.{Offset}
 use Rattle.operations.specs.declared.counter.AmountAnswer.{AmountAnswer}

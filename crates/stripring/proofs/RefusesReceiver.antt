@@ -25,7 +25,7 @@ use Rattle.states.specs.declared.state.OperationalState.{OperationalState}
 use Rattle.states.specs.declared.state.OperationalState.TheVariants.{Normal}
 use Rattle.states.specs.declared.state.PotentialFailure.{PotentialFailure}
 use Rattle.states.specs.declared.state.PotentialFailure.TheVariants.{Some, None}
-use Rattle.receiver.proofs.Given as goal
+use Rattle.receiver.proofs.Given as given
 use Rattle.receiver.proofs.GivenAnswer as answer
 use Rattle.states.proofs.Promised as promised
 use Rattle.receiver.proofs.PromisedCalls as calls
@@ -74,13 +74,13 @@ pub receiver_new_refuses : Keeps 0 receiver_new_kinds.ps receiver_new_kinds.r re
 receiver_new_refuses κs a z (ws, p) = rw (receiver_new_says κs a z ws p) (made_given (receiver_of (scheduler_at a.0)) (calls.new_promised tt (scheduler_at a.0, tt) (receiver_of (scheduler_at a.0)) ((tt, tt), refl)).0)
 
 pub call_begin_read_refuses : Keeps 0 call_begin_read_kinds.ps call_begin_read_kinds.r call_begin_read.Learnt (λ κs a z. GivenAt (GivenRead (receiver_at a.0) a.1.0 a.1.1.1.0) z.refusal)
-call_begin_read_refuses κs a z (ws, p) = rw (call_begin_read_says κs a z ws p) (step_given (begin_read_of (receiver_at a.0) a.1.0 a.1.1.0 a.1.1.1.0) (goal.begin_read_given tt (receiver_at a.0, (a.1.0, (a.1.1.0, (a.1.1.1.0, tt)))) (begin_read_of (receiver_at a.0) a.1.0 a.1.1.0 a.1.1.1.0) ((tt, (tt, (tt, (tt, tt)))), refl)))
+call_begin_read_refuses κs a z (ws, p) = rw (call_begin_read_says κs a z ws p) (step_given (begin_read_of (receiver_at a.0) a.1.0 a.1.1.0 a.1.1.1.0) (given.begin_read_given tt (receiver_at a.0, (a.1.0, (a.1.1.0, (a.1.1.1.0, tt)))) (begin_read_of (receiver_at a.0) a.1.0 a.1.1.0 a.1.1.1.0) ((tt, (tt, (tt, (tt, tt)))), refl)))
 
 pub call_begin_service_refuses : Keeps 0 call_begin_service_kinds.ps call_begin_service_kinds.r call_begin_service.Learnt (λ κs a z. GivenAt (GivenAdmission (receiver_at a.0) memory.None) z.refusal)
-call_begin_service_refuses κs a z (ws, p) = rw (call_begin_service_says κs a z ws p) (step_given (begin_service_of (receiver_at a.0)) (goal.begin_service_given tt (receiver_at a.0, tt) (begin_service_of (receiver_at a.0)) ((tt, tt), refl)))
+call_begin_service_refuses κs a z (ws, p) = rw (call_begin_service_says κs a z ws p) (step_given (begin_service_of (receiver_at a.0)) (given.begin_service_given tt (receiver_at a.0, tt) (begin_service_of (receiver_at a.0)) ((tt, tt), refl)))
 
 pub call_begin_shutdown_refuses : Keeps 0 call_begin_shutdown_kinds.ps call_begin_shutdown_kinds.r call_begin_shutdown.Learnt (λ κs a z. GivenAt (GivenAdmission (receiver_at a.0) memory.None) z.refusal)
-call_begin_shutdown_refuses κs a z (ws, p) = rw (call_begin_shutdown_says κs a z ws p) (step_given (begin_shutdown_of (receiver_at a.0)) (goal.begin_shutdown_given tt (receiver_at a.0, tt) (begin_shutdown_of (receiver_at a.0)) ((tt, tt), refl)))
+call_begin_shutdown_refuses κs a z (ws, p) = rw (call_begin_shutdown_says κs a z ws p) (step_given (begin_shutdown_of (receiver_at a.0)) (given.begin_shutdown_given tt (receiver_at a.0, tt) (begin_shutdown_of (receiver_at a.0)) ((tt, tt), refl)))
 
 pub call_answered_refuses : Keeps 1 call_answered_kinds.ps call_answered_kinds.r call_answered.Learnt (λ κs a z. GivenAt (GivenAnswer (call_at a.0) (length a.1.0.now) a.1.1.0 a.1.1.1.0) z.refusal)
 call_answered_refuses κs a z (ws, p) = rw (call_answered_says κs a z ws p) (step_given (answered_of (call_at a.0) a.1.0.now a.1.1.0 a.1.1.1.0) (answer.answered_given κs (call_at a.0, (a.1.0, (a.1.1.0, (a.1.1.1.0, tt)))) (answered_of (call_at a.0) a.1.0.now a.1.1.0 a.1.1.1.0) ((tt, (tt, (tt, (tt, tt)))), refl)))
@@ -141,13 +141,13 @@ module _ (r : Receiver) (answers : List Answer) (z : EndedAnswer) where
 
   pub receiver_service_chunk_acknowledgements_refuses : FlatServiceLeaves r answers z → GivenAt (GivenRun (GivenAdmission (receiver_at r) memory.None) (begin_service_of (receiver_at r)) [] answers) z.refusal
   receiver_service_chunk_acknowledgements_refuses p =
-      let e = run_exactly [] answers (begin_service_of q) (goal.begin_service_given tt (q, tt) (begin_service_of q) ((tt, tt), refl)) in
+      let e = run_exactly [] answers (begin_service_of q) (given.begin_service_given tt (q, tt) (begin_service_of q) ((tt, tt), refl)) in
       rw (receiver_service_chunk_acknowledgements_says r answers z p)
       (ended_given (service_of q answers) e)
 
   pub receiver_shutdown_refuses : FlatShutdownLeaves r answers z → GivenAt (GivenRun (GivenAdmission (receiver_at r) memory.None) (begin_shutdown_of (receiver_at r)) [] answers) z.refusal
   receiver_shutdown_refuses p =
-      let e = run_exactly [] answers (begin_shutdown_of q) (goal.begin_shutdown_given tt (q, tt) (begin_shutdown_of q) ((tt, tt), refl)) in
+      let e = run_exactly [] answers (begin_shutdown_of q) (given.begin_shutdown_given tt (q, tt) (begin_shutdown_of q) ((tt, tt), refl)) in
       rw (receiver_shutdown_says r answers z p)
       (ended_given (shutdown_of q answers) e)
 
@@ -159,7 +159,7 @@ module _ (r : Receiver) (answers : List Answer) (z : EndedAnswer) where
     reading_exactly =
         let x = begin_read_of q (length ring) top (length dst) in
         subst (λ (y : Ended). Exactly GivenReading (of_ended y)) (sym (delivered ring dst (read_of q ring (length dst) top answers)))
-        (run_exactly ring answers x (goal.begin_read_given tt (q, (length ring, (top, (length dst, tt)))) x ((tt, (tt, (tt, (tt, tt)))), refl)))
+        (run_exactly ring answers x (given.begin_read_given tt (q, (length ring, (top, (length dst, tt)))) x ((tt, (tt, (tt, (tt, tt)))), refl)))
 
     pub receiver_read_with_fds_refuses : FlatReadLeaves r ring dst top answers z left → GivenAt GivenReading z.refusal
     receiver_read_with_fds_refuses p =

@@ -1,7 +1,6 @@
 -- The slices' copy, between two parts of one length.
 use native.Mathlib.Omega.{arith}
 use Rattle.copies.proofs.Laws.{paste_copy}
-use borrow.Author.Rules.{rules}
 use Rattle.copies.proofs.copy_part.Goals as goal
 
 pub returns : goal.returns

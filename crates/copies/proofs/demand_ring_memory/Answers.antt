@@ -2,7 +2,6 @@
 use mathlib.Core.Path.{sym, ◌∙◌}
 use borrow.Author.Tests.{eq-eqb, ne_eqb}
 use Rattle.copies.specs.Copies.{ready_from}
-use borrow.Author.Rules.{rules}
 use Rattle.copies.proofs.demand_ring_memory.Goals as goal
 
 pub returns-then-ring_len-s : goal.returns-then-ring_len-s

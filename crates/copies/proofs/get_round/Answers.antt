@@ -2,7 +2,6 @@
 use mathlib.Core.Path.{refl}
 use native.Mathlib.Omega.{arith}
 use Rattle.copies.proofs.Laws.{ahead_fits, get_one, get_two}
-use borrow.Author.Rules.{rules}
 use Rattle.copies.proofs.get_round.Goals as goal
 
 pub copy_part-requires : goal.copy_part-requires

@@ -2,7 +2,6 @@
 use mathlib.Core.Path.{sym, ◌∙◌}
 use Rattle.copies.proofs.Laws.{refused_by_record, refused_by_memory, move_fits, got}
 use Rattle.operations.specs.declared.operation.OperationType.TheVariants.{Read}
-use borrow.Author.Rules.{rules}
 use Rattle.copies.proofs.read.Goals as goal
 
 pub returns-then-ring-scheduler : goal.returns-then-ring-scheduler

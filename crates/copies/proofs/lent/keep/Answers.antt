@@ -1,5 +1,4 @@
 -- What is told and which record is kept, by the answer's two cases.
-use borrow.Author.Rules.{rules}
 use Rattle.copies.proofs.lent.keep.Goals as goal
 
 pub returns-in-Moved : goal.returns-in-Moved

@@ -1,6 +1,5 @@
 -- What is kept of the answer of `read` is what the lent copy leaves.
 use Rattle.copies.proofs.Laws.{kept_leaves}
-use borrow.Author.Rules.{rules}
 use Rattle.copies.proofs.lent.read_kept.Goals as goal
 
 pub returns : goal.returns

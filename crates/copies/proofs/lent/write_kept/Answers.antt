@@ -1,6 +1,5 @@
 -- What is kept of the answer of `write` is what the lent copy leaves.
 use Rattle.copies.proofs.Laws.{kept_leaves}
-use borrow.Author.Rules.{rules}
 use Rattle.copies.proofs.lent.write_kept.Goals as goal
 
 pub returns : goal.returns

@@ -1,7 +1,6 @@
 -- By the memory's end.
 use native.Mathlib.Omega.{arith}
 use Rattle.copies.proofs.NumberLaws.{turns, goes_on}
-use borrow.Author.Rules.{rules}
 use Rattle.copies.proofs.number.behind.Goals as goal
 
 pub returns-then-next-len : goal.returns-then-next-len

@@ -1,7 +1,6 @@
 -- Two halves, of a place that is inside.
 use mathlib.Core.Path.{sym, ◌∙◌}
 use Rattle.copies.proofs.NumberLaws.{both, inside, outside}
-use borrow.Author.Rules.{rules}
 use Rattle.copies.proofs.number.big_endian.Goals as goal
 
 pub returns-then-place-bytes : goal.returns-then-place-bytes

@@ -1,7 +1,6 @@
 -- Byte by byte; each number is below 256 times what it was before, and 256.
 use native.Mathlib.Omega.{arith}
 use Rattle.copies.proofs.NumberLaws.{half}
-use borrow.Author.Rules.{rules}
 use Rattle.copies.proofs.number.then_half.Goals as goal
 
 pub returns : goal.returns

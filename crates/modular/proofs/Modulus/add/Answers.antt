@@ -1,5 +1,5 @@
 -- At the full range the wrapping sum; else the reduced numbers' sum, less the modulus where it reaches it.
-use Rattle.std.proofs.Common.{sym, mod-lt, arith, rules}
+use Rattle.std.proofs.Common.{sym, mod-lt, arith}
 use Rattle.modular.proofs.Laws.{whole_zero, whole_pos, whole_some, wrapped_add, add_fits, add_wraps}
 use Rattle.modular.proofs.Modulus.add.Goals as goal
 

@@ -1,5 +1,5 @@
 -- The full range and what is above 2^63 have no double; below or at 2^63 the wrapped sum is the raw number of twice the modulus.
-use Rattle.std.proofs.Common.{arith, rules}
+use Rattle.std.proofs.Common.{arith}
 use Rattle.modular.proofs.Laws.{whole_zero, whole_pos, double_none, double_sum}
 use Rattle.modular.proofs.Modulus.double.Goals as goal
 

@@ -1,5 +1,5 @@
 -- At the full range the wrapping difference from 0; else 0 of 0, and the modulus less the reduced number.
-use Rattle.std.proofs.Common.{sym, mod-lt, arith, rules}
+use Rattle.std.proofs.Common.{sym, mod-lt, arith}
 use Rattle.modular.proofs.Laws.{whole_zero, whole_pos, whole_some, wrapped_neg, neg_zero, neg_pos}
 use Rattle.modular.proofs.Modulus.neg.Goals as goal
 

@@ -1,6 +1,6 @@
 -- A contained number is its own remainder. One that is not contained is at least the modulus, which so is not the full
 -- range, and its raw number is no zero divisor.
-use Rattle.std.proofs.Common.{◌<◌, sym, ◌∙◌, mod-eq_of_lt, arith, rules, ltb-false, ltb-true}
+use Rattle.std.proofs.Common.{◌<◌, sym, ◌∙◌, mod-eq_of_lt, arith, ltb-false, ltb-true}
 use Rattle.modular.specs.Modulus.{whole_of}
 use Rattle.modular.proofs.Laws.{whole_pos, whole_above}
 use Rattle.modular.proofs.Modulus.new_number.Goals as goal

@@ -1,5 +1,5 @@
 -- At the full range the wrapping difference; else the reduced numbers' difference, or the modulus less it turned round.
-use Rattle.std.proofs.Common.{sym, mod-lt, arith, rules}
+use Rattle.std.proofs.Common.{sym, mod-lt, arith}
 use Rattle.modular.proofs.Laws.{whole_zero, whole_pos, whole_some, wrapped_sub, sub_not_below, sub_below}
 use Rattle.modular.proofs.Modulus.sub.Goals as goal
 

@@ -1,5 +1,5 @@
 -- The two cases of the definition, by what `contains` answers.
-use Rattle.std.proofs.Common.{sym, ◌∙◌, rules}
+use Rattle.std.proofs.Common.{sym, ◌∙◌}
 use Rattle.modular.proofs.Laws.{number_some, number_none}
 use Rattle.modular.proofs.Modulus.try_new_number.Goals as goal
 

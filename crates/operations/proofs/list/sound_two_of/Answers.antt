@@ -2,7 +2,6 @@
 use mathlib.Core.Path.{refl, sym, ◌∙◌}
 use native.Mathlib.Omega.{arith}
 use Rattle.operations.proofs.ListLaws.{two_long, two_fits_same, two_fits_mixed}
-use borrow.Author.Rules.{rules}
 use Rattle.operations.proofs.list.sound_two_of.Goals as goal
 
 pub returns-then-a-room : goal.returns-then-a-room

@@ -1,5 +1,4 @@
 -- What is taken is not above what is asked.
-use borrow.Author.Rules.{rules}
 use native.Mathlib.Omega.{arith}
 use Rattle.operations.proofs.portion.portion_of.Goals as goal
 

@@ -1,5 +1,5 @@
 -- The difference, wrapped, or where the read counter is the greater one 2L more.
-use Rattle.std.proofs.Common.{arith, rules}
+use Rattle.std.proofs.Common.{arith}
 use Rattle.sched.proofs.CounterLaws.{not_below, below}
 use Rattle.sched.proofs.counter.data_of.Goals as goal
 

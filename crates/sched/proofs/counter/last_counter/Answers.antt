@@ -1,5 +1,5 @@
 -- Twice the length, less 1.
-use Rattle.std.proofs.Common.{arith, rules}
+use Rattle.std.proofs.Common.{arith}
 use Rattle.sched.proofs.counter.last_counter.Goals as goal
 
 pub returns : goal.returns

@@ -1,5 +1,5 @@
 -- Up to the last counter the sum itself, beyond it the sum less 2L, wrapped.
-use Rattle.std.proofs.Common.{arith, rules}
+use Rattle.std.proofs.Common.{arith}
 use Rattle.sched.proofs.CounterLaws.{up_to_last, beyond_last}
 use Rattle.sched.proofs.counter.later_of.Goals as goal
 

@@ -1,5 +1,4 @@
 -- The block's length; a refusal stays.
-use Rattle.std.proofs.Common.{rules}
 use Rattle.sched.proofs.layout.len_from.Goals as goal
 
 pub returns-in-Of : goal.returns-in-Of

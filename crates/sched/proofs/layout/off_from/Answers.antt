@@ -1,5 +1,4 @@
 -- The block's offset; a refusal stays.
-use Rattle.std.proofs.Common.{rules}
 use Rattle.sched.proofs.layout.off_from.Goals as goal
 
 pub returns-in-Of : goal.returns-in-Of

@@ -1,5 +1,4 @@
 -- The cases of the definition.
-use Rattle.std.proofs.Common.{rules}
 use Rattle.sched.proofs.schedule.both_of.Goals as goal
 
 pub returns-in-Some-second : goal.returns-in-Some-second

@@ -1,5 +1,5 @@
 -- No operation of 0 items.
-use Rattle.std.proofs.Common.{rules, eq-eqb, ne_eqb}
+use Rattle.std.proofs.Common.{eq-eqb, ne_eqb}
 use Rattle.sched.specs.Scheduler.{some_of}
 use Rattle.sched.proofs.schedule.next_of.Goals as goal
 

@@ -1,5 +1,5 @@
 -- Each return is one case of the definition: the tests before it passed, and its own did not.
-use Rattle.std.proofs.Common.{◌^◌, arith, rules, le-ltb, lt-ltb, eq-eqb, ne_eqb}
+use Rattle.std.proofs.Common.{◌^◌, arith, le-ltb, lt-ltb, eq-eqb, ne_eqb}
 use Rattle.sched.proofs.Laws.{beyond, up_to}
 use Rattle.sched.specs.Scheduler.{counted_of}
 use Rattle.sched.proofs.scheduler.counted.Goals as goal

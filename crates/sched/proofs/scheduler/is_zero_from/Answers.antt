@@ -1,5 +1,4 @@
 -- Whether the amount is 0; a refusal stays.
-use Rattle.std.proofs.Common.{rules}
 use Rattle.sched.proofs.scheduler.is_zero_from.Goals as goal
 
 pub returns-in-Of : goal.returns-in-Of

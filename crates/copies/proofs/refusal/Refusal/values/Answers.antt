@@ -1,5 +1,4 @@
 -- The scheduler's refusal has its own values; 9 has none.
-use borrow.Author.Rules.{rules}
 use Rattle.copies.proofs.refusal.Refusal.values.Goals as goal
 
 pub returns-in-Scheduler : goal.returns-in-Scheduler

@@ -1,5 +1,4 @@
 -- Each operation starts where the lengths before it end.
-use borrow.Author.Rules.{rules}
 use Rattle.operations.proofs.list.ScheduledOperations.cumulative_in.Goals as goal
 
 pub returns-in-One : goal.returns-in-One

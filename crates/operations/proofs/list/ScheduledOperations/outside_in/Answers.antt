@@ -1,6 +1,5 @@
 -- Each range starts where the one before it ends; the sum fits.
 use native.Mathlib.Nat.{zero-add}
-use borrow.Author.Rules.{rules}
 use Rattle.operations.proofs.list.ScheduledOperations.outside_in.Goals as goal
 
 pub overflow_add-result : goal.overflow_add-result

@@ -1,5 +1,4 @@
 -- The lengths' sum, which fits.
-use borrow.Author.Rules.{rules}
 use Rattle.operations.proofs.list.ScheduledOperations.total_in.Goals as goal
 
 pub overflow_add-result : goal.overflow_add-result

@@ -1,5 +1,4 @@
 -- None and one are taken as they are, two are tested.
-use borrow.Author.Rules.{rules}
 use Rattle.operations.proofs.list.ScheduledOperations.try_new.Goals as goal
 
 pub returns-in-None : goal.returns-in-None

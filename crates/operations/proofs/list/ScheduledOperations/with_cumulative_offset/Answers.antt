@@ -1,6 +1,5 @@
 -- The list's refusal is passed on; else the answer is of the list that passed.
 use mathlib.Core.Path.{sym, ◌∙◌}
-use borrow.Author.Rules.{rules}
 use Rattle.operations.proofs.list.ScheduledOperations.with_cumulative_offset.Goals as goal
 
 pub returns-in-Of : goal.returns-in-Of

@@ -1,7 +1,6 @@
 -- The list's refusal is passed on; else the answer is of the list that passed.
 use mathlib.Core.Path.{sym, ◌∙◌}
 use Rattle.operations.proofs.ListLaws.{summed}
-use borrow.Author.Rules.{rules}
 use Rattle.operations.proofs.list.ScheduledOperations.with_outside_buffer_range.Goals as goal
 
 pub outside_in-requires : goal.outside_in-requires

@@ -1,5 +1,4 @@
 -- The nine cases, each with its values in their order.
-use borrow.Author.Rules.{rules}
 use Rattle.operations.proofs.refusal.Refusal.values.Goals as goal
 
 pub returns-in-ZeroBufferLength : goal.returns-in-ZeroBufferLength

@@ -1,5 +1,5 @@
 -- The operation's counter goes on, the other stays, and the fill is the data that is there then.
-use Rattle.std.proofs.Common.{ap, arith, rules}
+use Rattle.std.proofs.Common.{ap, arith}
 use Rattle.sched.specs.Scheduler.{record_of}
 use Rattle.sched.proofs.RegisterLaws.{below_round, read_takes, read_fill, write_fits, write_fill}
 use Rattle.sched.proofs.scheduler.RingBufferScheduler.advanced_in.Goals as goal

@@ -1,5 +1,4 @@
 -- The block's offset.
-use Rattle.std.proofs.Common.{rules}
 use Rattle.sched.proofs.scheduler.RingBufferScheduler.block_0_off.Goals as goal
 
 pub returns : goal.returns

@@ -1,5 +1,5 @@
 -- One of the three blocks, or the refusal.
-use Rattle.std.proofs.Common.{sym, ◌∙◌, rules}
+use Rattle.std.proofs.Common.{sym, ◌∙◌}
 use Rattle.sched.proofs.scheduler.RingBufferScheduler.block_1.Goals as goal
 
 pub returns-in-Of : goal.returns-in-Of

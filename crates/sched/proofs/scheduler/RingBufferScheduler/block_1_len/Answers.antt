@@ -1,5 +1,4 @@
 -- The block's length.
-use Rattle.std.proofs.Common.{rules}
 use Rattle.sched.proofs.scheduler.RingBufferScheduler.block_1_len.Goals as goal
 
 pub returns : goal.returns

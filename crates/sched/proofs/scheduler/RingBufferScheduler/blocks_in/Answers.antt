@@ -1,5 +1,5 @@
 -- The blocks between 0, the smaller offset, the larger one and the end, with the types of the layout.
-use Rattle.std.proofs.Common.{sym, ◌∙◌, arith, rules}
+use Rattle.std.proofs.Common.{sym, ◌∙◌, arith}
 use Rattle.sched.proofs.Laws.{offset_lt}
 use Rattle.operations.specs.declared.operation.OperationType.TheVariants.{Read, Write}
 use Rattle.sched.proofs.scheduler.RingBufferScheduler.blocks_in.Goals as goal

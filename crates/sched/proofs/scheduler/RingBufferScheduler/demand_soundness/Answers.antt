@@ -1,5 +1,5 @@
 -- The counters' refusal is passed on; else the fill decides.
-use Rattle.std.proofs.Common.{sym, ◌∙◌, rules}
+use Rattle.std.proofs.Common.{sym, ◌∙◌}
 use Rattle.sched.proofs.Laws.{sound_refused, sound_held, sound_unheld}
 use Rattle.sched.proofs.scheduler.RingBufferScheduler.demand_soundness.Goals as goal
 

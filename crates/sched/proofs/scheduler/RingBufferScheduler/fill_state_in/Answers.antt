@@ -1,5 +1,5 @@
 -- By the data: none, all of the length, or between.
-use Rattle.std.proofs.Common.{arith, rules, eq-eqb, ne_eqb}
+use Rattle.std.proofs.Common.{arith, eq-eqb, ne_eqb}
 use Rattle.sched.specs.Scheduler.{data_in, fill_state_in}
 use Rattle.sched.proofs.scheduler.RingBufferScheduler.fill_state_in.Goals as goal
 

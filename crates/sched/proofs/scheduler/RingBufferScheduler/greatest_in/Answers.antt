@@ -1,5 +1,4 @@
 -- The data of a read, the space of a write.
-use Rattle.std.proofs.Common.{rules}
 use Rattle.sched.proofs.scheduler.RingBufferScheduler.greatest_in.Goals as goal
 
 pub returns-in-Read : goal.returns-in-Read

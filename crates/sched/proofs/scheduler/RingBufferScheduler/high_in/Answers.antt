@@ -1,6 +1,5 @@
 -- The larger of the two offsets.
 use Rattle.sched.proofs.LayoutLaws.{high_first, high_second}
-use Rattle.std.proofs.Common.{rules}
 use Rattle.sched.proofs.scheduler.RingBufferScheduler.high_in.Goals as goal
 
 pub returns-then-read-write : goal.returns-then-read-write

@@ -1,5 +1,4 @@
 -- No data.
-use Rattle.std.proofs.Common.{rules}
 use Rattle.sched.proofs.scheduler.RingBufferScheduler.is_empty.Goals as goal
 
 pub returns : goal.returns

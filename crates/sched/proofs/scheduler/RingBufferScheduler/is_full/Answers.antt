@@ -1,5 +1,4 @@
 -- No space.
-use Rattle.std.proofs.Common.{rules}
 use Rattle.sched.proofs.scheduler.RingBufferScheduler.is_full.Goals as goal
 
 pub returns : goal.returns

@@ -1,5 +1,4 @@
 -- Some data.
-use Rattle.std.proofs.Common.{rules}
 use Rattle.sched.proofs.scheduler.RingBufferScheduler.is_nonempty.Goals as goal
 
 pub returns : goal.returns

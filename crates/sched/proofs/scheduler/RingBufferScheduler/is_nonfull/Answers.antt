@@ -1,5 +1,4 @@
 -- Some space.
-use Rattle.std.proofs.Common.{rules}
 use Rattle.sched.proofs.scheduler.RingBufferScheduler.is_nonfull.Goals as goal
 
 pub returns : goal.returns

@@ -1,5 +1,4 @@
 -- No length.
-use Rattle.std.proofs.Common.{rules}
 use Rattle.sched.proofs.scheduler.RingBufferScheduler.is_zero_sized.Goals as goal
 
 pub returns : goal.returns

@@ -1,5 +1,5 @@
 -- By the offsets; equal ones by the data.
-use Rattle.std.proofs.Common.{sym, ◌∙◌, arith, rules}
+use Rattle.std.proofs.Common.{sym, ◌∙◌, arith}
 use Rattle.sched.proofs.LayoutLaws.{layout_below, layout_above, layout_empty, layout_full}
 use Rattle.sched.proofs.scheduler.RingBufferScheduler.layout_in.Goals as goal
 

@@ -1,6 +1,5 @@
 -- The smaller of the two offsets.
 use Rattle.sched.proofs.LayoutLaws.{low_first, low_second}
-use Rattle.std.proofs.Common.{rules}
 use Rattle.sched.proofs.scheduler.RingBufferScheduler.low_in.Goals as goal
 
 pub returns-then-read-write : goal.returns-then-read-write

@@ -1,5 +1,5 @@
 -- The offset, the portion and the scheduler after it, each as its own function has it.
-use Rattle.std.proofs.Common.{ap, arith, rules}
+use Rattle.std.proofs.Common.{ap, arith}
 use Rattle.operations.specs.declared.portion.Portion.{Portion}
 use Rattle.sched.proofs.scheduler.RingBufferScheduler.move_in.Goals as goal
 

@@ -1,5 +1,5 @@
 -- The block that the layout and the operation's type name.
-use Rattle.std.proofs.Common.{sym, ◌∙◌, rules}
+use Rattle.std.proofs.Common.{sym, ◌∙◌}
 use Rattle.sched.proofs.scheduler.RingBufferScheduler.next_block_in.Goals as goal
 
 pub returns-in-Read : goal.returns-in-Read

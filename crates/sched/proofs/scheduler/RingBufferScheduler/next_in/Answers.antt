@@ -1,5 +1,4 @@
 -- The block's part up to `max_len`.
-use Rattle.std.proofs.Common.{rules}
 use Rattle.sched.proofs.scheduler.RingBufferScheduler.next_in.Goals as goal
 
 pub returns : goal.returns

@@ -1,6 +1,5 @@
 -- The offset rule of the operation's counter.
 use Rattle.sched.proofs.Laws.{counter_lt}
-use Rattle.std.proofs.Common.{rules}
 use Rattle.sched.proofs.scheduler.RingBufferScheduler.offset_in.Goals as goal
 
 pub offset_of-requires : goal.offset_of-requires

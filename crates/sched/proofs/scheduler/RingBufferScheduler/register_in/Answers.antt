@@ -1,5 +1,5 @@
 -- 6 above the greatest length; else the scheduler after it.
-use Rattle.std.proofs.Common.{rules, le-ltb, lt-ltb}
+use Rattle.std.proofs.Common.{le-ltb, lt-ltb}
 use Rattle.sched.specs.Scheduler.{register_in}
 use Rattle.sched.proofs.scheduler.RingBufferScheduler.register_in.Goals as goal
 

@@ -1,5 +1,5 @@
 -- The two operations that are asked of what there is before the buffer's end and behind it.
-use Rattle.std.proofs.Common.{arith, rules}
+use Rattle.std.proofs.Common.{arith}
 use Rattle.sched.proofs.Laws.{offset_lt}
 use Rattle.sched.proofs.ScheduleLaws.{schedule_by_ends}
 use Rattle.sched.proofs.scheduler.RingBufferScheduler.schedule_in.Goals as goal

@@ -1,5 +1,5 @@
 -- The counters' refusal is passed on; else the record holds their data.
-use Rattle.std.proofs.Common.{sym, ◌∙◌, rules}
+use Rattle.std.proofs.Common.{sym, ◌∙◌}
 use Rattle.sched.proofs.Laws.{sound_refused, built_sound}
 use Rattle.sched.proofs.scheduler.RingBufferScheduler.try_from_counters.Goals as goal
 

@@ -1,5 +1,5 @@
 -- The tests' refusal is passed on; else the answer is of the scheduler that they took.
-use Rattle.std.proofs.Common.{sym, ◌∙◌, rules}
+use Rattle.std.proofs.Common.{sym, ◌∙◌}
 use Rattle.sched.proofs.Laws.{sound}
 use Rattle.sched.proofs.scheduler.RingBufferScheduler.try_register_operation_manually.Goals as goal
 

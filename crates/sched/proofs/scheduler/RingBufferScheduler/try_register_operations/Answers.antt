@@ -1,5 +1,5 @@
 -- The scheduler's tests, then the list's, then the registering.
-use Rattle.std.proofs.Common.{sym, ◌∙◌, rules}
+use Rattle.std.proofs.Common.{sym, ◌∙◌}
 use Rattle.sched.proofs.Laws.{sound}
 use Rattle.sched.proofs.scheduler.RingBufferScheduler.try_register_operations.Goals as goal
 

@@ -1,5 +1,4 @@
 -- Built of the length, the other counter and this one.
-use Rattle.std.proofs.Common.{rules}
 use Rattle.sched.proofs.scheduler.RingBufferScheduler.with_counter_in.Goals as goal
 
 pub returns-in-Read : goal.returns-in-Read

@@ -40,7 +40,6 @@ use Rattle.receiver.specs.declared.receiver.Came.{Came}
 use Rattle.receiver.specs.declared.receiver.Came.TheVariants as came
 use Rattle.receiver.specs.declared.receiver.Outcome.{Outcome}
 use Rattle.receiver.specs.declared.receiver.ReceiverState.{ReceiverState}
-use Rattle.states.specs.declared.state.Failure.{Failure}
 use Rattle.states.specs.declared.state.Failure.TheVariants.{Io, Protocol}
 use Rattle.driver.specs.Drive.{fetched_of, driven_of, ended_by, ended_of, Delivery, delivery, delivered_for, delivered_by, delivery_for, delivery_of, end_of_stream_by, end_of_stream_for, end_of_stream_in}
 use Rattle.driver.specs.Pending.{sent_in}

@@ -1,7 +1,7 @@
 -- What holds of a ring between two ends, told by positions alone: how many bytes were written and read, and how much of that
 -- each end has heard of. No counter, no modulus 2L and no kind of note stands here.
 use Prim.Native.Nat.{ℕ, ◌+◌, ◌-◌, ◌%◌, ◌^◌, ◌≤◌, ◌<◌}
-use mathlib.Core.Path.{◌≡◌, sym, ap, ◌∙◌, subst}
+use mathlib.Core.Path.{◌≡◌, sym, ◌∙◌, subst}
 use mathlib.Core.List.{List, ◌++◌}
 use native.Mathlib.Nat.{add_assoc}
 use native.Mathlib.Decide.{dec_lt}

@@ -1,6 +1,5 @@
 -- What a host's scheduler stands for, and the flat forms of the answers that are one.
 use Rattle.std.specs.Prelude.{ℕ, ◌^◌}
-use Rattle.operations.specs.declared.refusal.Refusal.{Refusal}
 use Rattle.sched.specs.declared.scheduler.Checked.{Checked}
 use Rattle.sched.specs.declared.scheduler.Checked.TheVariants as checked
 use Rattle.sched.specs.declared.register.Registered.{Registered}

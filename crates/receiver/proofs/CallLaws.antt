@@ -13,7 +13,6 @@ use Rattle.receiver.specs.declared.call.Wanted.{Wanted}
 use Rattle.receiver.specs.declared.receiver.ReceiverState.{ReceiverState}
 use Rattle.states.specs.declared.state.OperationalState.{OperationalState}
 use Rattle.states.specs.declared.answer.Answer.{Answer}
-use Rattle.states.specs.declared.answer.Sent.{Sent}
 use Rattle.states.specs.declared.answer.Sent.TheVariants as sent
 use Rattle.states.specs.Answer.{sent_of, is_sent, is_failed}
 use Rattle.states.specs.State.{fits_errno}

@@ -21,7 +21,7 @@ use Rattle.copies.proofs.Promised.{checks, checked_given, ready_given}
 use Rattle.states.proofs.AnswerSays.{state_fits}
 use Rattle.receiver.proofs.Says.{begin_read_says, begin_service_says, begin_shutdown_says}
 use Rattle.receiver.specs.Admission.{sound_ready, ready_with, admission_from, admission_of}
-use Rattle.receiver.specs.Call.{call, live_call, read_by, read_call, admitted_step, wanted}
+use Rattle.receiver.specs.Call.{live_call, read_by, read_call, admitted_step, wanted}
 use Rattle.receiver.specs.Given.{GivenRing, GivenAdmission, admits, by_ring, given_12_stored, Live, Full, GivenRead, begins, by_admission, given_13, of_admission, of_step}
 use Rattle.states.specs.Refusal.{number_of, values_of}
 use Rattle.states.specs.State.{fits_state}

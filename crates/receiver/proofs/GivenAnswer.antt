@@ -12,7 +12,7 @@ use Rattle.states.proofs.AnswerSays.{received_says, received_only, sent_says, se
 use Rattle.receiver.proofs.Says.{answered_says}
 use Rattle.receiver.specs.Admission.{admission_of}
 use Rattle.states.specs.Answer.{interrupted_of, received_of, sent_of, shut_of}
-use Rattle.receiver.specs.Call.{call, after_shut, after_receive, read_call, admitted_step, looks_at, resumed_by, resumed_of, stepped_by, stepped_of, answered_from}
+use Rattle.receiver.specs.Call.{after_shut, after_receive, read_call, admitted_step, looks_at, resumed_by, resumed_of, stepped_by, stepped_of, answered_from}
 use Rattle.receiver.specs.Given.{GivenAdmission, Full, Misfits, GivenAnswer, takes, at_the_tests, still_full, given_12, of_step}
 use Rattle.states.specs.Promise.{Errno, SaysReceived, no_receive, SaysSent, no_send, SaysShut}
 use Rattle.receiver.specs.Receiver.{by_sent}

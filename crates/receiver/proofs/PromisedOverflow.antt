@@ -1,6 +1,6 @@
 -- Which part overflowed: whatever the attached contract of `answered` allows keeps specs/Overflow.antt. By the cases of the machine, of
 -- which a byte 0 leaves two: a chunk is announced, or its header violates.
-use Prim.Native.Nat.{ℕ, ◌+◌, ◌%◌, ◌^◌, ◌<◌, ◌≤◌}
+use Prim.Native.Nat.{ℕ, ◌+◌, ◌%◌, ◌^◌, ◌≤◌}
 use mathlib.Core.Path.{◌≡◌, refl, sym, ap, subst, ◌∙◌}
 use mathlib.Core.Bool.{true, false}
 use mathlib.Core.List.{List}
@@ -9,10 +9,10 @@ use native.Mathlib.Omega.{arith}
 use Rattle.modular.proofs.Saying.{Keeps}
 use Rattle.operations.specs.declared.operation.OperationType.TheVariants.{Read}
 use Rattle.sched.specs.declared.scheduler.RingBufferScheduler.{RingBufferScheduler}
-use Rattle.sched.specs.Scheduler.{data_in, offset_in}
+use Rattle.sched.specs.Scheduler.{offset_in}
 use Rattle.copies.specs.Promises.{number_at}
 use Rattle.states.proofs.Rules.{numbers_are, number_2, number_5}
-use Rattle.states.specs.Promise.{Advanced, AByte, SaysReceived, a_byte, closed, receive_failed, no_receive, an_overflow, Numbered}
+use Rattle.states.specs.Promise.{Advanced, SaysReceived, a_byte, closed, receive_failed, no_receive, Numbered}
 use Rattle.states.specs.State.{violation_number, overflow_in}
 use Rattle.states.specs.declared.answer.Answer.{Answer}
 use Rattle.states.specs.declared.answer.Received.{Received}
@@ -23,10 +23,9 @@ use Rattle.states.specs.declared.state.Failure.TheVariants.{Protocol}
 use Rattle.states.specs.declared.state.OperationalState.TheVariants.{Terminated}
 use Rattle.states.specs.declared.state.PotentialFailure.TheVariants.{Some, None}
 use Rattle.states.specs.declared.state.Violation.{Violation}
-use Rattle.states.specs.declared.state.Violation.TheVariants.{HeaderOverflow, BodyOverflow}
 use Rattle.receiver.proofs.CaseSteps.{then_goes}
 use Rattle.receiver.proofs.PromisedMachine.{answered_promised}
-use Rattle.receiver.specs.Cases.{Meets, none_met, is_told, is_dropped, ComesTo, its_own, Closes, is_normal, shut_before, asks, Flushes, none_pending, sends, Serves, failed_before, flushes, HandsOut, a_part, all_of_it, Fails, TakesReceived, announces, header_violates, byte_violates, receive_blocks, receive_fails, BeginsRead, is_terminated, none_asked, awaits, holds_data, ResumesIn, TakesShut, is_shut, is_not, Interrupts, TakesIn, Answered, Goes}
+use Rattle.receiver.specs.Cases.{Meets, none_met, is_told, is_dropped, ComesTo, its_own, Closes, is_normal, shut_before, asks, Flushes, none_pending, sends, Serves, failed_before, flushes, HandsOut, a_part, all_of_it, Fails, TakesReceived, announces, header_violates, byte_violates, receive_blocks, receive_fails, BeginsRead, is_terminated, none_asked, awaits, holds_data, ResumesIn, TakesShut, is_shut, is_not, TakesIn, Answered, Goes}
 use Rattle.receiver.specs.Handed.{coming_to}
 use Rattle.receiver.specs.Overflow.{Hears, HeaderOverflows, BodyOverflows, EndsWith, has_ended, will_end, TellsOverflow}
 use Rattle.receiver.specs.Promise.{nothing_more, Said, violates, Announces, no_room_for_a_header, format_unknown, length_0, too_long, accepted, body}

@@ -1,5 +1,5 @@
 -- The rules keep what specs/Promise.antt says of them: batches, the reason rule, advancing a state, the violations' numbers.
-use Prim.Native.Nat.{ℕ, ◌-◌, ◌/◌, min}
+use Prim.Native.Nat.{ℕ, min}
 use mathlib.Core.Path.{◌≡◌, refl, sym, ap, ◌∙◌}
 use mathlib.Core.Bool.{Bool, cond, true, false}
 use mathlib.Core.Logic.{◌≢◌}

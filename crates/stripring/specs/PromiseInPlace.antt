@@ -1,6 +1,6 @@
 -- What a call in place promises beside the call by value: it is told the same refusal, and the host's struct is the answer's end where the
 -- number is 0, and as it was where it is not.
-use Rattle.std.specs.Prelude.{ℕ, ◌<◌, ◌≡◌}
+use Rattle.std.specs.Prelude.{◌<◌, ◌≡◌}
 use Rattle.flat.specs.declared.structs.Refusal.{Refusal}
 
 -- e is the struct before; the call by value answers `refusal` and `end`; the call in place answers `told` and leaves `after`

@@ -1,5 +1,4 @@
 -- What is told and which end is kept, by the answer's two cases.
-use borrow.Author.Rules.{rules}
 use Rattle.lent.proofs.keep_writer.Goals as goal
 
 pub returns-in-Moved : goal.returns-in-Moved

@@ -1,6 +1,5 @@
 -- What is kept of the answer of `read` is what the lent call leaves.
 use Rattle.lent.proofs.LentLaws.{kept_reader}
-use borrow.Author.Rules.{rules}
 use Rattle.lent.proofs.read_kept.Goals as goal
 
 pub returns : goal.returns

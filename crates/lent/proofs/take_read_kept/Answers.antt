@@ -1,6 +1,5 @@
 -- Whether the counter is taken and which end is kept, by the answer's two cases.
 use mathlib.Core.Path.{refl, sym, ◌∙◌}
-use borrow.Author.Rules.{rules}
 use Rattle.lent.proofs.take_read_kept.Goals as goal
 
 pub returns-in-Of : goal.returns-in-Of

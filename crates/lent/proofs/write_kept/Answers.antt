@@ -1,6 +1,5 @@
 -- What is kept of the answer of `write` is what the lent call leaves.
 use Rattle.lent.proofs.LentLaws.{kept_writer}
-use borrow.Author.Rules.{rules}
 use Rattle.lent.proofs.write_kept.Goals as goal
 
 pub returns : goal.returns

@@ -1,7 +1,6 @@
 -- By what the call has come to.
 use mathlib.Core.Path.{refl}
 use Rattle.driver.proofs.DriveLaws.{answered_by}
-use borrow.Author.Rules.{rules}
 use Rattle.driver.proofs.drive.answered.Goals as goal
 
 pub returns-in-Of : goal.returns-in-Of

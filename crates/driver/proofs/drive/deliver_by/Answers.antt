@@ -2,7 +2,6 @@
 use mathlib.Core.Path.{ap}
 use Rattle.copies.specs.Copies.{Left}
 use Rattle.driver.proofs.DriveLaws.{delivered_by_lem}
-use borrow.Author.Rules.{rules}
 use Rattle.driver.proofs.drive.deliver_by.Goals as goal
 
 pub returns-in-Read : goal.returns-in-Read

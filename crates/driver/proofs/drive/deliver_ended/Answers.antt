@@ -1,6 +1,5 @@
 -- The copy, of a read that is accepted.
 use Rattle.driver.proofs.DriveLaws.{delivered, not_delivered}
-use borrow.Author.Rules.{rules}
 use Rattle.driver.proofs.drive.deliver_ended.Goals as goal
 
 pub returns-in-Accepted : goal.returns-in-Accepted

@@ -1,6 +1,6 @@
 -- A turn of the inner loop passes an interruption over; one of the outer loop hands the call its answer.
 use Rattle.std.proofs.Common.{sym, ◌∙◌, arith}
-use Rattle.driver.proofs.Turns.{less, passed, goes_on, runs_out, over, waits}
+use Rattle.driver.proofs.Turns.{less, passed, goes_on, runs_out}
 use Rattle.driver.proofs.drive.drive.Goals as goal
 
 pub loop-a-smaller : goal.loop-a-smaller

@@ -1,5 +1,5 @@
 -- What is left to do at each turn is what the whole run makes of the call; each turn of the outer loop uses an answer.
-use Rattle.std.proofs.Common.{◌≡◌, ℕ, ◌-◌, ◌≤◌, length, drop}
+use Rattle.std.proofs.Common.{◌≡◌, ◌-◌, ◌≤◌, length, drop}
 use Rattle.driver.specs.Drive.{driven_of, driven_from, waited_of}
 use Rattle.driver.proofs.drive.drive.Given as goal
 

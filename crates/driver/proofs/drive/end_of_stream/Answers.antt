@@ -1,7 +1,6 @@
 -- By what the call came to.
 use mathlib.Core.Path.{refl}
 use Rattle.driver.proofs.DriveLaws.{ends_by}
-use borrow.Author.Rules.{rules}
 use Rattle.driver.proofs.drive.end_of_stream.Goals as goal
 
 pub returns-in-Accepted : goal.returns-in-Accepted

@@ -1,7 +1,6 @@
 -- By what it came to, and whether a failure is 32.
 use mathlib.Core.Path.{refl, sym, ◌∙◌}
 use Rattle.driver.proofs.DriveLaws.{turns_by}
-use borrow.Author.Rules.{rules}
 use Rattle.driver.proofs.drive.end_of_stream_for.Goals as goal
 
 pub returns-then-is_errno : goal.returns-then-is_errno

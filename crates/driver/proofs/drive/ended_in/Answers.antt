@@ -1,7 +1,6 @@
 -- By the phase.
 use mathlib.Core.Path.{refl}
 use Rattle.driver.proofs.DriveLaws.{ended_by_lem}
-use borrow.Author.Rules.{rules}
 use Rattle.driver.proofs.drive.ended_in.Goals as goal
 
 pub returns-in-Receive : goal.returns-in-Receive

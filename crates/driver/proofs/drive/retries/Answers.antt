@@ -1,6 +1,5 @@
 -- By what the call has come to.
 use Rattle.driver.proofs.DriveLaws.{retries_by}
-use borrow.Author.Rules.{rules}
 use Rattle.driver.proofs.drive.retries.Goals as goal
 
 pub returns-in-Of : goal.returns-in-Of

@@ -1,5 +1,4 @@
 -- By the phase.
-use borrow.Author.Rules.{rules}
 use Rattle.flat.proofs.call.flat_phase.Goals as goal
 
 pub returns-in-Receive : goal.returns-in-Receive

@@ -1,5 +1,4 @@
 -- By what the call came to.
-use borrow.Author.Rules.{rules}
 use Rattle.flat.proofs.call.flat_step.Goals as goal
 
 pub returns-in-Of : goal.returns-in-Of

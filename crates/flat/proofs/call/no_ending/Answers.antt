@@ -1,5 +1,4 @@
 -- Zeros.
-use borrow.Author.Rules.{rules}
 use Rattle.flat.proofs.call.no_ending.Goals as goal
 
 pub returns : goal.returns

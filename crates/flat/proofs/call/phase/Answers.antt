@@ -1,7 +1,6 @@
 -- By the kind.
 use borrow.Author.Tests.{eq-eqb, ne_eqb}
 use Rattle.flat.specs.Call.{phase_at}
-use borrow.Author.Rules.{rules}
 use Rattle.flat.proofs.call.phase.Goals as goal
 
 pub returns-then-p-eq0 : goal.returns-then-p-eq0

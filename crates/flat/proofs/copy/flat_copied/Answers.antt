@@ -1,5 +1,4 @@
 -- The two cases of the definition.
-use borrow.Author.Rules.{rules}
 use Rattle.flat.proofs.copy.flat_copied.Goals as goal
 
 pub returns-in-Moved : goal.returns-in-Moved

@@ -1,5 +1,4 @@
 -- The two cases of the definition.
-use borrow.Author.Rules.{rules}
 use Rattle.flat.proofs.counter.flat_amount.Goals as goal
 
 pub returns-in-Of : goal.returns-in-Of

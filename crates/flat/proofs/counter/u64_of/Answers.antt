@@ -1,5 +1,4 @@
 -- The number, with no refusal.
-use borrow.Author.Rules.{rules}
 use Rattle.flat.proofs.counter.u64_of.Goals as goal
 
 pub returns : goal.returns

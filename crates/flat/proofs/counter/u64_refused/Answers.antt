@@ -1,5 +1,4 @@
 -- The refusal's flat form, with 0.
-use borrow.Author.Rules.{rules}
 use Rattle.flat.proofs.counter.u64_refused.Goals as goal
 
 pub returns : goal.returns

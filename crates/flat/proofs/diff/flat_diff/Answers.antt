@@ -1,5 +1,4 @@
 -- The two cases of the definition.
-use borrow.Author.Rules.{rules}
 use Rattle.flat.proofs.diff.flat_diff.Goals as goal
 
 pub returns-in-Same : goal.returns-in-Same

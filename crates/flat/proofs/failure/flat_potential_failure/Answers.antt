@@ -1,5 +1,4 @@
 -- The three cases of the definition.
-use borrow.Author.Rules.{rules}
 use Rattle.flat.proofs.failure.flat_potential_failure.Goals as goal
 
 pub returns-in-Some : goal.returns-in-Some

@@ -1,7 +1,6 @@
 -- The two cases of the definition.
 use borrow.Author.Tests.{eq-eqb, ne_eqb}
 use Rattle.flat.specs.Failure.{potential_failure_at}
-use borrow.Author.Rules.{rules}
 use Rattle.flat.proofs.failure.potential_failure.Goals as goal
 
 pub returns-then-some-eq0 : goal.returns-then-some-eq0

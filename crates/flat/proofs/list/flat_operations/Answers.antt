@@ -1,5 +1,4 @@
 -- The three cases of the definition.
-use borrow.Author.Rules.{rules}
 use Rattle.flat.proofs.list.flat_operations.Goals as goal
 
 pub returns-in-None : goal.returns-in-None

@@ -1,5 +1,4 @@
 -- The two cases of the definition.
-use borrow.Author.Rules.{rules}
 use Rattle.flat.proofs.list.flat_starts_answer.Goals as goal
 
 pub returns-in-Refused : goal.returns-in-Refused

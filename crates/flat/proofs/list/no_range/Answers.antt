@@ -1,5 +1,4 @@
 -- Zeros.
-use borrow.Author.Rules.{rules}
 use Rattle.flat.proofs.list.no_range.Goals as goal
 
 pub returns : goal.returns

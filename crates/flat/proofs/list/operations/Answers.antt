@@ -1,7 +1,6 @@
 -- The three cases of the definition.
 use borrow.Author.Tests.{eq-eqb, ne_eqb}
 use Rattle.flat.specs.List.{operations_at}
-use borrow.Author.Rules.{rules}
 use Rattle.flat.proofs.list.operations.Goals as goal
 
 pub returns-then-list-eq0 : goal.returns-then-list-eq0

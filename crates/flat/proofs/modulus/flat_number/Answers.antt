@@ -1,5 +1,4 @@
 -- The two cases of the definition.
-use borrow.Author.Rules.{rules}
 use Rattle.flat.proofs.modulus.flat_number.Goals as goal
 
 pub returns-in-Some : goal.returns-in-Some

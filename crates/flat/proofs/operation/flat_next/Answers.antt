@@ -1,5 +1,4 @@
 -- The three cases of the definition.
-use borrow.Author.Rules.{rules}
 use Rattle.flat.proofs.operation.flat_next.Goals as goal
 
 pub returns-in-Some : goal.returns-in-Some

@@ -1,5 +1,4 @@
 -- Field by field.
-use borrow.Author.Rules.{rules}
 use Rattle.flat.proofs.operation.flat_operation.Goals as goal
 
 pub returns : goal.returns

@@ -1,7 +1,6 @@
 -- The three cases of the definition.
 use borrow.Author.Tests.{eq-eqb, ne_eqb}
 use Rattle.flat.specs.Outcome.{came_at}
-use borrow.Author.Rules.{rules}
 use Rattle.flat.proofs.outcome.came.Goals as goal
 
 pub returns-then-o-eq0 : goal.returns-then-o-eq0

@@ -1,5 +1,4 @@
 -- The three cases of the definition.
-use borrow.Author.Rules.{rules}
 use Rattle.flat.proofs.outcome.flat_came.Goals as goal
 
 pub returns-in-Read : goal.returns-in-Read

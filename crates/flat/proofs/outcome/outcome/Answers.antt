@@ -1,5 +1,4 @@
 -- What it came to, and what stands beside it.
-use borrow.Author.Rules.{rules}
 use Rattle.flat.proofs.outcome.outcome.Goals as goal
 
 pub returns : goal.returns

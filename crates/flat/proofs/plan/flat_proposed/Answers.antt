@@ -1,5 +1,4 @@
 -- The two cases of the definition.
-use borrow.Author.Rules.{rules}
 use Rattle.flat.proofs.plan.flat_proposed.Goals as goal
 
 pub returns-in-Runs : goal.returns-in-Runs

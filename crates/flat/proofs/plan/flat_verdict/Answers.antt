@@ -1,5 +1,4 @@
 -- The two cases of the definition.
-use borrow.Author.Rules.{rules}
 use Rattle.flat.proofs.plan.flat_verdict.Goals as goal
 
 pub returns-in-Refused : goal.returns-in-Refused

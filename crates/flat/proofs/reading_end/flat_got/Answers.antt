@@ -1,5 +1,4 @@
 -- The two cases of the definition.
-use borrow.Author.Rules.{rules}
 use Rattle.flat.proofs.reading_end.flat_got.Goals as goal
 
 pub returns-in-Moved : goal.returns-in-Moved

@@ -1,5 +1,4 @@
 -- Field by field.
-use borrow.Author.Rules.{rules}
 use Rattle.flat.proofs.reading_end.flat_reading_end.Goals as goal
 
 pub returns : goal.returns

@@ -1,5 +1,4 @@
 -- The two cases of the definition.
-use borrow.Author.Rules.{rules}
 use Rattle.flat.proofs.reading_end.flat_reading_end_answer.Goals as goal
 
 pub returns-in-Of : goal.returns-in-Of

@@ -1,5 +1,4 @@
 -- Zeros.
-use borrow.Author.Rules.{rules}
 use Rattle.flat.proofs.reading_end.no_reading_end.Goals as goal
 
 pub returns : goal.returns

@@ -1,5 +1,4 @@
 -- The two cases of the definition.
-use borrow.Author.Rules.{rules}
 use Rattle.flat.proofs.receiver_record.flat_ended.Goals as goal
 
 pub returns-in-Accepted : goal.returns-in-Accepted

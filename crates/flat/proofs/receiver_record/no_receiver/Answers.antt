@@ -1,5 +1,4 @@
 -- Zeros.
-use borrow.Author.Rules.{rules}
 use Rattle.flat.proofs.receiver_record.no_receiver.Goals as goal
 
 pub returns : goal.returns

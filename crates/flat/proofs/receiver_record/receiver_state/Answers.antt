@@ -1,5 +1,4 @@
 -- Field by field.
-use borrow.Author.Rules.{rules}
 use Rattle.flat.proofs.receiver_record.receiver_state.Goals as goal
 
 pub returns : goal.returns

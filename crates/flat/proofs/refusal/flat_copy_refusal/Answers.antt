@@ -1,5 +1,4 @@
 -- The number and the values that its crate gives.
-use borrow.Author.Rules.{rules}
 use Rattle.flat.proofs.refusal.flat_copy_refusal.Goals as goal
 
 pub returns : goal.returns

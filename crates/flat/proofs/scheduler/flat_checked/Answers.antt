@@ -1,5 +1,4 @@
 -- The two cases of the definition.
-use borrow.Author.Rules.{rules}
 use Rattle.flat.proofs.scheduler.flat_checked.Goals as goal
 
 pub returns-in-Sound : goal.returns-in-Sound

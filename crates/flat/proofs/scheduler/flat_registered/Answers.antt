@@ -1,5 +1,4 @@
 -- The two cases of the definition.
-use borrow.Author.Rules.{rules}
 use Rattle.flat.proofs.scheduler.flat_registered.Goals as goal
 
 pub returns-in-Advanced : goal.returns-in-Advanced

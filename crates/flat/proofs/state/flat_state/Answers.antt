@@ -1,5 +1,4 @@
 -- The three cases of the definition.
-use borrow.Author.Rules.{rules}
 use Rattle.flat.proofs.state.flat_state.Goals as goal
 
 pub returns-in-Draining : goal.returns-in-Draining

@@ -1,5 +1,4 @@
 -- Zeros.
-use borrow.Author.Rules.{rules}
 use Rattle.flat.proofs.state.no_state.Goals as goal
 
 pub returns : goal.returns

@@ -1,7 +1,6 @@
 -- The three cases of the definition.
 use borrow.Author.Tests.{eq-eqb, ne_eqb}
 use Rattle.flat.specs.State.{state_at}
-use borrow.Author.Rules.{rules}
 use Rattle.flat.proofs.state.state.Goals as goal
 
 pub returns-then-s-eq0 : goal.returns-then-s-eq0

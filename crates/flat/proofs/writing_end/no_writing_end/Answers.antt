@@ -1,5 +1,4 @@
 -- Zeros.
-use borrow.Author.Rules.{rules}
 use Rattle.flat.proofs.writing_end.no_writing_end.Goals as goal
 
 pub returns : goal.returns

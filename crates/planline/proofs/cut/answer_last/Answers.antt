@@ -2,8 +2,6 @@
 use mathlib.Core.Path.{sym, ◌∙◌}
 use lib.Seq.{length-take-le}
 use native.Mathlib.Omega.{arith}
-use borrow.Author.Tests.{not-true, not-false}
-use borrow.Author.Rules.{rules}
 use Rattle.lines.specs.Text.{filled}
 use Rattle.lines.proofs.AnswerLaws.{ready_room, last_unready, last_none, last_there}
 use Rattle.planline.specs.Cut.{most_held, line_text}

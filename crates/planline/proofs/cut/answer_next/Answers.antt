@@ -2,8 +2,6 @@
 use mathlib.Core.Path.{sym, ap, ◌∙◌}
 use lib.Seq.{length-take-le}
 use native.Mathlib.Omega.{arith}
-use borrow.Author.Tests.{not-true, not-false}
-use borrow.Author.Rules.{rules}
 use Rattle.lines.specs.Answer.{step}
 use Rattle.lines.specs.Text.{Filled, filled}
 use Rattle.lines.proofs.AnswerLaws.{step_unready, step_whole, step_part}

@@ -1,7 +1,6 @@
 -- The line buffer, then the output buffer.
 use mathlib.Core.Path.{◌∙◌}
 use native.Mathlib.Omega.{arith}
-use borrow.Author.Rules.{rules}
 use Rattle.lines.specs.Text.{filled}
 use Rattle.lines.proofs.AnswerLaws.{ready_short, ready_long}
 use Rattle.planline.specs.Cut.{most_held}

@@ -1,6 +1,5 @@
 -- The second number, and what follows it.
 use mathlib.Core.Path.{ap, ◌∙◌}
-use borrow.Author.Rules.{rules}
 use Rattle.lines.proofs.FieldLaws.{front_is, spaced_front_lem}
 use Rattle.planline.specs.Ring.{with_written}
 use Rattle.planline.proofs.ring.after_length.Goals as goal

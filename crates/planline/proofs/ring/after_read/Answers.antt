@@ -3,7 +3,6 @@ use Prim.Native.Nat.{◌+◌}
 use mathlib.Core.Path.{sym, ◌∙◌}
 use lib.ListN.{drop}
 use native.Mathlib.Omega.{arith}
-use borrow.Author.Rules.{rules}
 use Rattle.lines.specs.Field.{last_front}
 use Rattle.lines.proofs.FieldLaws.{front_is, last_front_lem}
 use Rattle.planline.proofs.RingLaws.{kind_room, amount_there, amount_none, kind_none, last_behind}

@@ -1,7 +1,6 @@
 -- By the bytes that are left: none, one, or two of which the second is a space or not.
 use mathlib.Core.Path.{sym, ◌∙◌}
 use native.Mathlib.Omega.{arith}
-use borrow.Author.Rules.{rules}
 use Rattle.planline.proofs.RingLaws.{kind_end, kind_alone, kind_there, kind_other}
 use Rattle.planline.proofs.ring.kind_at.Goals as goal
 

@@ -1,6 +1,5 @@
 -- The first number, and what follows it.
 use mathlib.Core.Path.{ap, ◌∙◌}
-use borrow.Author.Rules.{rules}
 use Rattle.lines.proofs.FieldLaws.{front_is, spaced_front_lem}
 use Rattle.planline.specs.Ring.{parse_of, with_length}
 use Rattle.planline.proofs.ring.parse.Goals as goal

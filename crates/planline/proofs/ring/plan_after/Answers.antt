@@ -1,5 +1,4 @@
 -- The list, or a refusal by its number.
-use borrow.Author.Rules.{rules}
 use Rattle.planline.proofs.ring.plan_after.Goals as goal
 
 pub returns-in-Of : goal.returns-in-Of

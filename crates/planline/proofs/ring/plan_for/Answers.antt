@@ -1,6 +1,5 @@
 -- The scheduler that is built of the counters is asked; a refusal by its number.
 use mathlib.Core.Path.{sym, ap, ◌∙◌}
-use borrow.Author.Rules.{rules}
 use Rattle.planline.specs.Ring.{plan_after}
 use Rattle.planline.specs.declared.plan.Plan.TheVariants as plan
 use Rattle.planline.proofs.BuiltLaws.{scheduled_is, scheduled_refused}

@@ -1,6 +1,5 @@
 -- As it parses.
 use mathlib.Core.Path.{sym, ap, ◌∙◌}
-use borrow.Author.Rules.{rules}
 use Rattle.planline.specs.Ring.{plan_from}
 use Rattle.planline.proofs.ring.plan_ring.Goals as goal
 

@@ -1,6 +1,5 @@
 -- The last number.
 use mathlib.Core.Path.{ap}
-use borrow.Author.Rules.{rules}
 use Rattle.lines.proofs.FieldLaws.{front_is, last_front_lem}
 use Rattle.planline.specs.Strips.{with_buf_len}
 use Rattle.planline.proofs.strips.after_row_bytes.Goals as goal

@@ -1,6 +1,5 @@
 -- The second number, and what follows it.
 use mathlib.Core.Path.{ap, ◌∙◌}
-use borrow.Author.Rules.{rules}
 use Rattle.lines.proofs.FieldLaws.{front_is, spaced_front_lem}
 use Rattle.planline.specs.Strips.{with_row_bytes}
 use Rattle.planline.proofs.strips.after_rows.Goals as goal

@@ -1,6 +1,5 @@
 -- The first number, and what follows it.
 use mathlib.Core.Path.{ap, ◌∙◌}
-use borrow.Author.Rules.{rules}
 use Rattle.lines.proofs.FieldLaws.{front_is, spaced_front_lem}
 use Rattle.planline.specs.Strips.{parse_strips_of, with_rows}
 use Rattle.planline.proofs.strips.parse_strips.Goals as goal

@@ -1,6 +1,5 @@
 -- As it parses.
 use mathlib.Core.Path.{sym, ap, ◌∙◌}
-use borrow.Author.Rules.{rules}
 use Rattle.planline.specs.Strips.{strips_from}
 use Rattle.planline.proofs.strips.plan_strips.Goals as goal
 

@@ -1,6 +1,5 @@
 -- The planner's answer, a refusal by its number.
 use mathlib.Core.Path.{sym, ap, ◌∙◌}
-use borrow.Author.Rules.{rules}
 use Rattle.planline.specs.Strips.{strips_after}
 use Rattle.planline.specs.declared.plan.Plan.TheVariants as plan
 use Rattle.planline.proofs.strips.strips_for.Goals as goal

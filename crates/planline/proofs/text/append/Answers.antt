@@ -5,7 +5,6 @@ use mathlib.Core.Bool.{true}
 use lib.ListN.{length}
 use native.Mathlib.Omega.{arith}
 use borrow.Author.Tests.{leb-true}
-use borrow.Author.Rules.{rules}
 use Rattle.lines.specs.Text.{filled, has_room, append_of}
 use Rattle.lines.proofs.TextLaws.{append_room, append_full}
 use Rattle.planline.specs.declared.plan.Plan.{Plan}

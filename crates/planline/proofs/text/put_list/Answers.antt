@@ -1,6 +1,5 @@
 -- The count, then each operation's text.
 use mathlib.Core.List.{[], ◌∷◌}
-use borrow.Author.Rules.{rules}
 use Rattle.lines.proofs.TextLaws.{stores_put, stores_then}
 use Rattle.planline.specs.Text.{list_text}
 use Rattle.planline.proofs.text.put_list.Goals as goal

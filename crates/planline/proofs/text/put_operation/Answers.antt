@@ -1,6 +1,5 @@
 -- Four texts, one behind the other.
 use mathlib.Core.List.{[], ◌∷◌}
-use borrow.Author.Rules.{rules}
 use Rattle.lines.specs.Decimal.{decimal}
 use Rattle.lines.proofs.TextLaws.{stores_put, stores_then}
 use Rattle.planline.specs.Text.{operation_text}

@@ -1,6 +1,5 @@
 -- By the plan's kind.
 use mathlib.Core.List.{[], ◌∷◌}
-use borrow.Author.Rules.{rules}
 use Rattle.lines.specs.Decimal.{decimal}
 use Rattle.lines.proofs.TextLaws.{stores_put, stores_then}
 use Rattle.planline.specs.Text.{plan_text}

@@ -1,6 +1,5 @@
 -- Three numbers with a space between, one behind the other.
 use mathlib.Core.List.{[], ◌∷◌}
-use borrow.Author.Rules.{rules}
 use Rattle.lines.specs.Decimal.{decimal}
 use Rattle.lines.proofs.TextLaws.{stores_put, stores_then}
 use Rattle.planline.specs.Text.{strips_text}

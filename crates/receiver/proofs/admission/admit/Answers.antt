@@ -1,6 +1,5 @@
 -- The tests, in order.
 use mathlib.Core.Path.{sym, ◌∙◌}
-use borrow.Author.Rules.{rules}
 use Rattle.receiver.proofs.admission.admit.Goals as goal
 
 pub returns-then-fits : goal.returns-then-fits

@@ -1,6 +1,5 @@
 -- By whether a ring is looked at.
 use mathlib.Core.Path.{sym, ◌∙◌}
-use borrow.Author.Rules.{rules}
 use Rattle.receiver.proofs.admission.ready_with.Goals as goal
 
 pub returns-in-Of : goal.returns-in-Of

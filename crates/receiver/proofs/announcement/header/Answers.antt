@@ -1,6 +1,5 @@
 -- The number at the read offset, which lies in the ring.
 use Rattle.receiver.proofs.ChunkLaws.{header_is}
-use borrow.Author.Rules.{rules}
 use Rattle.receiver.proofs.announcement.header.Goals as goal
 
 pub returns : goal.returns

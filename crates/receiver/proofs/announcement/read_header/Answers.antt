@@ -1,6 +1,5 @@
 -- By the test of the space.
 use Rattle.receiver.proofs.ChunkLaws.{short, enough}
-use borrow.Author.Rules.{rules}
 use Rattle.receiver.proofs.announcement.read_header.Goals as goal
 
 pub returns-then-space-lt-HEADER_LEN : goal.returns-then-space-lt-HEADER_LEN

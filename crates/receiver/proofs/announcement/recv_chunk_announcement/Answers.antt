@@ -1,6 +1,5 @@
 -- By the byte.
 use borrow.Author.Tests.{eq-eqb, ne_eqb}
-use borrow.Author.Rules.{rules}
 use Rattle.receiver.proofs.announcement.recv_chunk_announcement.Goals as goal
 
 pub returns-then-byte-eq0 : goal.returns-then-byte-eq0

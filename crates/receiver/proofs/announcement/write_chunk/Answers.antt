@@ -1,7 +1,6 @@
 -- Each registering fits: the header is read as soon as it is written, and the body leaves 8 bytes free.
 use borrow.Author.Tests.{eq-eqb, ne_eqb}
 use Rattle.receiver.proofs.ChunkLaws.{written, readable, read, room, over, within, fitted}
-use borrow.Author.Rules.{rules}
 use Rattle.receiver.proofs.announcement.write_chunk.Goals as goal
 
 pub returns-then-header-ne0 : goal.returns-then-header-ne0

@@ -1,5 +1,4 @@
 -- By what was received.
-use borrow.Author.Rules.{rules}
 use Rattle.receiver.proofs.call.looks_by.Goals as goal
 
 pub returns-in-Byte : goal.returns-in-Byte

@@ -1,7 +1,6 @@
 -- By the state.
 use mathlib.Core.Path.{◌∙◌}
 use Rattle.receiver.proofs.CallLaws.{blocked_by_lem}
-use borrow.Author.Rules.{rules}
 use Rattle.receiver.proofs.read.advance_draining_to_terminated.Goals as goal
 
 pub returns-in-Normal : goal.returns-in-Normal

@@ -1,7 +1,6 @@
 -- By what was announced.
 use mathlib.Core.Path.{sym, ◌∙◌}
 use Rattle.receiver.proofs.AnsweredLaws.{announces_chunk}
-use borrow.Author.Rules.{rules}
 use Rattle.receiver.proofs.read.after_announcement.Goals as goal
 
 pub read_chunk_bytes-requires : goal.read_chunk_bytes-requires

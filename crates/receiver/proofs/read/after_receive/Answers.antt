@@ -1,6 +1,5 @@
 -- By what was received.
 use Rattle.receiver.proofs.AnsweredLaws.{byte_announces, byte_sized}
-use borrow.Author.Rules.{rules}
 use Rattle.receiver.proofs.read.after_receive.Goals as goal
 
 pub recv_chunk_announcement-requires : goal.recv_chunk_announcement-requires

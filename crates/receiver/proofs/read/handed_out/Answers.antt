@@ -4,7 +4,6 @@ use mathlib.Core.Path.{sym, ap, ◌∙◌}
 use Rattle.receiver.proofs.CallLaws.{handed_last, handed_on}
 use Rattle.receiver.specs.Receiver.{with_pending}
 use Rattle.receiver.specs.declared.receiver.ReceiverState.{ReceiverState}
-use borrow.Author.Rules.{rules}
 use Rattle.receiver.proofs.read.handed_out.Goals as goal
 
 pub max_operation_len-requires : goal.max_operation_len-requires

@@ -2,7 +2,6 @@
 use mathlib.Core.Path.{ap, ◌∙◌}
 use Rattle.receiver.proofs.CallLaws.{read_by_lem}
 use Rattle.receiver.specs.declared.call.Step.TheVariants.{Of}
-use borrow.Author.Rules.{rules}
 use Rattle.receiver.proofs.read.read.Goals as goal
 
 pub returns-in-Normal : goal.returns-in-Normal

@@ -2,7 +2,6 @@
 use native.Mathlib.Omega.{arith}
 use Rattle.sched.proofs.RegisterLaws.{advanced_sound}
 use Rattle.operations.specs.declared.operation.OperationType.TheVariants.{Read}
-use borrow.Author.Rules.{rules}
 use Rattle.receiver.proofs.read.read_chunk_bytes.Goals as goal
 
 pub handed_out-requires : goal.handed_out-requires

@@ -1,7 +1,6 @@
 -- By the tests, in their order.
 use borrow.Author.Tests.{eq-eqb, ne_eqb}
 use Rattle.receiver.proofs.CallLaws.{no_data, some_data}
-use borrow.Author.Rules.{rules}
 use Rattle.receiver.proofs.read.read_live.Goals as goal
 
 pub returns-then-wanted-eq0 : goal.returns-then-wanted-eq0

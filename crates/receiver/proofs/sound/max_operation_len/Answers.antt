@@ -1,7 +1,6 @@
 -- A sound record is not refused.
 use mathlib.Core.Path.{sym, ◌∙◌}
 use Rattle.receiver.proofs.SoundLaws.{greatest_is, greatest_told}
-use borrow.Author.Rules.{rules}
 use Rattle.receiver.proofs.sound.max_operation_len.Goals as goal
 
 pub returns-in-Of : goal.returns-in-Of

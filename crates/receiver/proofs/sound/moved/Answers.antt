@@ -1,7 +1,6 @@
 -- A sound record is not refused.
 use mathlib.Core.Path.{sym, ◌∙◌}
 use Rattle.receiver.proofs.SoundLaws.{move_is, move_told}
-use borrow.Author.Rules.{rules}
 use Rattle.receiver.proofs.sound.moved.Goals as goal
 
 pub returns-in-Of : goal.returns-in-Of

@@ -1,7 +1,6 @@
 -- The offset of a move.
 use mathlib.Core.Path.{ap}
 use Rattle.sched.specs.declared.register.Move.{Move}
-use borrow.Author.Rules.{rules}
 use Rattle.receiver.proofs.sound.read_off.Goals as goal
 
 pub returns : goal.returns

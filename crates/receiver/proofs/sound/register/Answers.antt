@@ -1,6 +1,5 @@
 -- All of it is moved.
 use Rattle.receiver.proofs.SoundLaws.{moves_all}
-use borrow.Author.Rules.{rules}
 use Rattle.receiver.proofs.sound.register.Goals as goal
 
 pub returns : goal.returns

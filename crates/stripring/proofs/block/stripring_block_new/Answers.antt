@@ -1,5 +1,4 @@
 -- The flat form of the block that the numbers stand for.
-use borrow.Author.Rules.{rules}
 use Rattle.stripring.proofs.block.stripring_block_new.Goals as goal
 
 pub returns : goal.returns

@@ -1,5 +1,4 @@
 -- By the parts.
-use borrow.Author.Rules.{rules}
 use Rattle.stripring.proofs.call.stripring_call_begin_service.Goals as goal
 
 pub returns : goal.returns

@@ -1,7 +1,6 @@
 -- The flat form of what the copy answers on the scheduler that the numbers stand for, with the memory that the copy leaves.
 use mathlib.Core.Path.{ap}
 use Rattle.flat.specs.Copy.{flat_left}
-use borrow.Author.Rules.{rules}
 use Rattle.stripring.proofs.copy.stripring_copies_write.Goals as goal
 
 pub returns : goal.returns

@@ -1,5 +1,4 @@
 -- `sched`'s call on the difference that the numbers stand for.
-use borrow.Author.Rules.{rules}
 use Rattle.stripring.proofs.diff.stripring_diff_is_same.Goals as goal
 
 pub returns : goal.returns

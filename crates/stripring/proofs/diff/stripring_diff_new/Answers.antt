@@ -1,5 +1,4 @@
 -- The flat form of what `sched`'s call answers.
-use borrow.Author.Rules.{rules}
 use Rattle.stripring.proofs.diff.stripring_diff_new.Goals as goal
 
 pub returns : goal.returns

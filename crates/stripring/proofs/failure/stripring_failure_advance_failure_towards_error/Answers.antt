@@ -1,8 +1,4 @@
 -- The flat form of what `receiver`'s call answers on what the numbers stand for.
-use borrow.Author.Rules.{rules}
-use Rattle.stripring.proofs.failure.stripring_failure_advance_failure_towards_error.Statement.{
-  statement,
-}
 use Rattle.stripring.proofs.failure.stripring_failure_advance_failure_towards_error.Goals as goal
 
 pub returns : goal.returns

@@ -1,5 +1,4 @@
 -- The flat form of what `receiver`'s call answers on what the numbers stand for.
-use borrow.Author.Rules.{rules}
 use Rattle.stripring.proofs.failure.stripring_failure_normalize.Goals as goal
 
 pub returns : goal.returns

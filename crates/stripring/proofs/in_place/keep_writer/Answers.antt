@@ -1,5 +1,4 @@
 -- What is told and which struct is kept, by the answer's two cases.
-use borrow.Author.Rules.{rules}
 use Rattle.stripring.proofs.in_place.keep_writer.Goals as goal
 
 pub returns-in-Moved : goal.returns-in-Moved

@@ -1,6 +1,5 @@
 -- What is kept of the answer of `read` is what the call in place leaves.
 use Rattle.stripring.proofs.InPlaceLaws.{kept_reader}
-use borrow.Author.Rules.{rules}
 use Rattle.stripring.proofs.in_place.read_kept.Goals as goal
 
 pub returns : goal.returns

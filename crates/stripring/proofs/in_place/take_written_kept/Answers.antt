@@ -2,7 +2,6 @@
 use mathlib.Core.Path.{sym, ap, ◌∙◌}
 use Rattle.stripring.specs.InPlace.{reader_refusal, reader_took}
 use Rattle.stripring.proofs.InPlaceLaws.{took_reader}
-use borrow.Author.Rules.{rules}
 use Rattle.stripring.proofs.in_place.take_written_kept.Goals as goal
 
 pub returns-in-Of : goal.returns-in-Of

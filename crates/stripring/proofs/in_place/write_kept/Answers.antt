@@ -1,6 +1,5 @@
 -- What is kept of the answer of `write` is what the call in place leaves.
 use Rattle.stripring.proofs.InPlaceLaws.{kept_writer}
-use borrow.Author.Rules.{rules}
 use Rattle.stripring.proofs.in_place.write_kept.Goals as goal
 
 pub returns : goal.returns

@@ -1,5 +1,4 @@
 -- The flat form of what `sched`'s call answers on the list that the numbers stand for.
-use borrow.Author.Rules.{rules}
 use Rattle.stripring.proofs.list.stripring_operations_with_cumulative_offset.Goals as goal
 
 pub returns : goal.returns

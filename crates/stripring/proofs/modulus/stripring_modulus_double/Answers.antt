@@ -1,7 +1,6 @@
 -- The flat form of what `modular`'s call answers.
 use mathlib.Core.Path.{ap, ◌∙◌}
 use Rattle.flat.specs.Modulus.{flat_modulus}
-use borrow.Author.Rules.{rules}
 use Rattle.stripring.proofs.modulus.stripring_modulus_double.Goals as goal
 
 pub returns : goal.returns

@@ -1,5 +1,4 @@
 -- The flat form of what `sched`'s call answers.
-use borrow.Author.Rules.{rules}
 use Rattle.stripring.proofs.operation.stripring_operation_default.Goals as goal
 
 pub returns : goal.returns

@@ -1,5 +1,4 @@
 -- The flat form of the operation that the numbers stand for.
-use borrow.Author.Rules.{rules}
 use Rattle.stripring.proofs.operation.stripring_operation_new.Goals as goal
 
 pub returns : goal.returns

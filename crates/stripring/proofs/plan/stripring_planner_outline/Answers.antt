@@ -1,5 +1,4 @@
 -- The flat form of what `planner`'s call answers.
-use borrow.Author.Rules.{rules}
 use Rattle.stripring.proofs.plan.stripring_planner_outline.Goals as goal
 
 pub returns : goal.returns

@@ -1,7 +1,6 @@
 -- The flat form of what `planner`'s call answers, with the plan that it leaves.
 use mathlib.Core.Path.{ap}
 use Rattle.flat.specs.Planner.{flat_proposal}
-use borrow.Author.Rules.{rules}
 use Rattle.stripring.proofs.plan.stripring_planner_propose.Goals as goal
 
 pub returns : goal.returns

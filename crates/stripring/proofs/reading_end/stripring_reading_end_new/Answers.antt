@@ -1,5 +1,4 @@
 -- The flat form of what `ends`' call answers.
-use borrow.Author.Rules.{rules}
 use Rattle.stripring.proofs.reading_end.stripring_reading_end_new.Goals as goal
 
 pub returns : goal.returns

@@ -1,7 +1,6 @@
 -- The flat form of what `ends`' call answers on the end that the numbers stand for, with the memory that it leaves.
 use mathlib.Core.Path.{ap}
 use Rattle.flat.specs.ReadingEnd.{flat_got_left}
-use borrow.Author.Rules.{rules}
 use Rattle.stripring.proofs.reading_end.stripring_reading_end_read.Goals as goal
 
 pub returns : goal.returns

@@ -1,5 +1,4 @@
 -- The flat form of what `receiver`'s call answers on what the numbers stand for.
-use borrow.Author.Rules.{rules}
 use Rattle.stripring.proofs.receiver_record.stripring_receiver_new.Goals as goal
 
 pub returns : goal.returns

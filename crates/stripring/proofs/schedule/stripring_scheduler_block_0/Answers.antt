@@ -1,5 +1,4 @@
 -- The flat form of what `sched`'s call answers on the scheduler that the numbers stand for.
-use borrow.Author.Rules.{rules}
 use Rattle.stripring.proofs.schedule.stripring_scheduler_block_0.Goals as goal
 
 pub returns : goal.returns

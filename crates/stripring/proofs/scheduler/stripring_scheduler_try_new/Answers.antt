@@ -1,5 +1,4 @@
 -- The flat form of what `sched`'s call answers.
-use borrow.Author.Rules.{rules}
 use Rattle.stripring.proofs.scheduler.stripring_scheduler_try_new.Goals as goal
 
 pub returns : goal.returns

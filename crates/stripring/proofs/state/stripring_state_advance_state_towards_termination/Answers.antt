@@ -1,8 +1,4 @@
 -- The flat form of what `receiver`'s call answers on what the numbers stand for.
-use borrow.Author.Rules.{rules}
-use Rattle.stripring.proofs.state.stripring_state_advance_state_towards_termination.Statement.{
-  statement,
-}
 use Rattle.stripring.proofs.state.stripring_state_advance_state_towards_termination.Goals as goal
 
 pub returns : goal.returns

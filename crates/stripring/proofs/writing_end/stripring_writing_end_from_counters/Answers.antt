@@ -1,5 +1,4 @@
 -- The flat form of what `ends`' call answers.
-use borrow.Author.Rules.{rules}
 use Rattle.stripring.proofs.writing_end.stripring_writing_end_from_counters.Goals as goal
 
 pub returns : goal.returns

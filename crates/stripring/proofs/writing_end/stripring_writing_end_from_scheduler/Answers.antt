@@ -1,5 +1,4 @@
 -- The flat form of what `ends`' call answers on the scheduler that the numbers stand for.
-use borrow.Author.Rules.{rules}
 use Rattle.stripring.proofs.writing_end.stripring_writing_end_from_scheduler.Goals as goal
 
 pub returns : goal.returns

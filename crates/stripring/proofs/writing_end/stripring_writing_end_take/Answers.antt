@@ -1,5 +1,4 @@
 -- The flat form of what `ends`' call answers on the end and the counter that the numbers stand for.
-use borrow.Author.Rules.{rules}
 use Rattle.stripring.proofs.writing_end.stripring_writing_end_take.Goals as goal
 
 pub returns : goal.returns

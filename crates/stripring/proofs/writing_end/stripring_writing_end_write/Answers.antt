@@ -1,7 +1,6 @@
 -- The flat form of what `ends`' call answers on the end that the numbers stand for, with the memory that it leaves.
 use mathlib.Core.Path.{ap}
 use Rattle.flat.specs.WritingEnd.{flat_wrote_left}
-use borrow.Author.Rules.{rules}
 use Rattle.stripring.proofs.writing_end.stripring_writing_end_write.Goals as goal
 
 pub returns : goal.returns

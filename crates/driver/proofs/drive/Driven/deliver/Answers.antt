@@ -1,7 +1,6 @@
 -- The copy, of a call that was not refused.
 use mathlib.Core.Path.{refl}
 use Rattle.driver.proofs.DriveLaws.{delivered_for_lem, delivered_in}
-use borrow.Author.Rules.{rules}
 use Rattle.driver.proofs.drive.Driven.deliver.Goals as goal
 
 pub returns-in-Of : goal.returns-in-Of

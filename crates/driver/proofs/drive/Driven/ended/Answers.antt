@@ -1,7 +1,6 @@
 -- By what the call has come to.
 use mathlib.Core.Path.{refl}
 use Rattle.driver.proofs.DriveLaws.{ended_for_lem}
-use borrow.Author.Rules.{rules}
 use Rattle.driver.proofs.drive.Driven.ended.Goals as goal
 
 pub returns-in-Of : goal.returns-in-Of

@@ -1,5 +1,4 @@
 -- The scheduler's tests.
-use borrow.Author.Rules.{rules}
 use Rattle.ends.proofs.reading_end.ReadingEnd.checked.Goals as goal
 
 pub returns-in-Sound : goal.returns-in-Sound

@@ -1,5 +1,4 @@
 -- The scheduler's tests.
-use borrow.Author.Rules.{rules}
 use Rattle.ends.proofs.reading_end.ReadingEnd.from_counters.Goals as goal
 
 pub returns : goal.returns

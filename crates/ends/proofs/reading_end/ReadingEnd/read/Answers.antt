@@ -1,5 +1,4 @@
 -- What the copy answers and leaves, as this end's.
-use borrow.Author.Rules.{rules}
 use Rattle.ends.proofs.reading_end.ReadingEnd.read.Goals as goal
 
 pub returns-in-Moved : goal.returns-in-Moved

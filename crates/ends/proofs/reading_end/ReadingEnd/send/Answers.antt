@@ -1,6 +1,5 @@
 -- The scheduler's counter, or its refusal.
 use mathlib.Core.Path.{sym, ◌∙◌}
-use borrow.Author.Rules.{rules}
 use Rattle.ends.proofs.reading_end.ReadingEnd.send.Goals as goal
 
 pub returns-in-Of : goal.returns-in-Of

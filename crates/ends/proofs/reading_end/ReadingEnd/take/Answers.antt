@@ -2,7 +2,6 @@
 use mathlib.Core.Path.{sym, ◌∙◌}
 use native.Mathlib.Omega.{arith}
 use Rattle.ends.proofs.Taking.{data_shrinks, data_stays, data_refused}
-use borrow.Author.Rules.{rules}
 use Rattle.ends.proofs.reading_end.ReadingEnd.take.Goals as goal
 
 pub returns-then-next-s : goal.returns-then-next-s

@@ -1,5 +1,4 @@
 -- A copy's refusal has its own values; 10 has none.
-use borrow.Author.Rules.{rules}
 use Rattle.ends.proofs.refusal.Refusal.values.Goals as goal
 
 pub returns-in-Copy : goal.returns-in-Copy

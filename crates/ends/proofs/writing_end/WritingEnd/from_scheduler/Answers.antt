@@ -1,5 +1,4 @@
 -- The scheduler's tests.
-use borrow.Author.Rules.{rules}
 use Rattle.ends.proofs.writing_end.WritingEnd.from_scheduler.Goals as goal
 
 pub returns : goal.returns

@@ -2,7 +2,6 @@
 use mathlib.Core.Path.{sym, ◌∙◌}
 use native.Mathlib.Omega.{arith}
 use Rattle.ends.proofs.Taking.{space_shrinks, space_stays, space_refused}
-use borrow.Author.Rules.{rules}
 use Rattle.ends.proofs.writing_end.WritingEnd.take.Goals as goal
 
 pub returns-then-next-s : goal.returns-then-next-s

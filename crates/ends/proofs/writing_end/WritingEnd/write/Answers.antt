@@ -1,5 +1,4 @@
 -- What the copy answers and leaves, as this end's.
-use borrow.Author.Rules.{rules}
 use Rattle.ends.proofs.writing_end.WritingEnd.write.Goals as goal
 
 pub returns-in-Moved : goal.returns-in-Moved

@@ -3,7 +3,6 @@ use mathlib.Core.Path.{sym, ◌∙◌}
 use native.Mathlib.Omega.{arith}
 use Rattle.receiver.proofs.AdmissionLaws.{passed_sound}
 use Rattle.receiver.proofs.ResumedLaws.{resumed_steps, answered_on, not_admitted, passes}
-use borrow.Author.Rules.{rules}
 use Rattle.receiver.proofs.call.Call.answered.Goals as goal
 
 pub resumed-requires : goal.resumed-requires

@@ -2,7 +2,6 @@
 use mathlib.Core.Path.{sym, ◌∙◌}
 use Rattle.receiver.proofs.AdmissionLaws.{passed_sound}
 use Rattle.receiver.specs.declared.admission.Memory.TheVariants.{Of}
-use borrow.Author.Rules.{rules}
 use Rattle.receiver.proofs.call.Call.begin_read.Goals as goal
 
 pub read-requires : goal.read-requires

@@ -1,6 +1,5 @@
 -- Servicing, of a record that passes its tests.
 use mathlib.Core.Path.{sym, ◌∙◌}
-use borrow.Author.Rules.{rules}
 use Rattle.receiver.proofs.call.Call.begin_service.Goals as goal
 
 pub returns-in-Passed : goal.returns-in-Passed

@@ -1,6 +1,5 @@
 -- Draining with 32, of a record that passes its tests.
 use mathlib.Core.Path.{sym, ◌∙◌}
-use borrow.Author.Rules.{rules}
 use Rattle.receiver.proofs.call.Call.begin_shutdown.Goals as goal
 
 pub returns-in-Passed : goal.returns-in-Passed

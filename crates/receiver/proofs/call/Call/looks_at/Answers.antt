@@ -1,5 +1,4 @@
 -- By the phase.
-use borrow.Author.Rules.{rules}
 use Rattle.receiver.proofs.call.Call.looks_at.Goals as goal
 
 pub returns-in-Receive : goal.returns-in-Receive

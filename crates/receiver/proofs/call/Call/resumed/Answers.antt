@@ -1,7 +1,6 @@
 -- By the phase.
 use mathlib.Core.Path.{refl}
 use Rattle.receiver.proofs.ResumedLaws.{resumed_by_lem}
-use borrow.Author.Rules.{rules}
 use Rattle.receiver.proofs.call.Call.resumed.Goals as goal
 
 pub returns-in-Receive : goal.returns-in-Receive

@@ -1,6 +1,5 @@
 -- By the phase.
 use Rattle.receiver.proofs.CallLaws.{retries_by}
-use borrow.Author.Rules.{rules}
 use Rattle.receiver.proofs.call.Call.retries.Goals as goal
 
 pub returns-in-Receive : goal.returns-in-Receive

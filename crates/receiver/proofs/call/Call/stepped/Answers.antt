@@ -1,7 +1,6 @@
 -- An interruption that is waited out, or the answer is taken.
 use mathlib.Core.Path.{sym, ◌∙◌}
 use Rattle.receiver.proofs.ResumedLaws.{steps_back}
-use borrow.Author.Rules.{rules}
 use Rattle.receiver.proofs.call.Call.stepped.Goals as goal
 
 pub returns-then-retries : goal.returns-then-retries

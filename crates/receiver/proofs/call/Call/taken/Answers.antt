@@ -1,7 +1,6 @@
 -- By the phase: no answer to a receive or to a send is an interruption here.
 use mathlib.Core.Path.{refl}
 use Rattle.receiver.proofs.ResumedLaws.{stepped_by_lem, steps_received, uninterrupted}
-use borrow.Author.Rules.{rules}
 use Rattle.receiver.proofs.call.Call.taken.Goals as goal
 
 pub after_receive-requires : goal.after_receive-requires

@@ -1,5 +1,4 @@
 -- By whether it is told.
-use borrow.Author.Rules.{rules}
 use Rattle.receiver.proofs.call.Ending.met.Goals as goal
 
 pub returns-then-self : goal.returns-then-self

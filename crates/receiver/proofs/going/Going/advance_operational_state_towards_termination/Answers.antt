@@ -1,5 +1,4 @@
 -- The advanced state, then the shutdown.
-use borrow.Author.Rules.{rules}
 use Rattle.receiver.proofs.going.Going.advance_operational_state_towards_termination.Goals as goal
 
 pub returns : goal.returns

@@ -3,7 +3,6 @@ use Prim.Native.Nat.{ℕ}
 use mathlib.Core.Path.{sym, ap, ◌∙◌}
 use Rattle.receiver.proofs.CallLaws.{sent_covered}
 use Rattle.states.specs.Answer.{sent_of}
-use borrow.Author.Rules.{rules}
 use Rattle.receiver.proofs.going.Going.after_send.Goals as goal
 
 pub sent-requires-in-Sent : goal.sent-requires-in-Sent

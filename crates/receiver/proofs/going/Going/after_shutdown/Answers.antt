@@ -1,6 +1,5 @@
 -- By what the answer says.
 use mathlib.Core.Path.{sym, ◌∙◌}
-use borrow.Author.Rules.{rules}
 use Rattle.receiver.proofs.going.Going.after_shutdown.Goals as goal
 
 pub returns-in-Done : goal.returns-in-Done

@@ -1,7 +1,6 @@
 -- A batch, or the end.
 use borrow.Author.Tests.{eq-eqb, ne_eqb}
 use Rattle.receiver.specs.Call.{flush_call}
-use borrow.Author.Rules.{rules}
 use Rattle.receiver.proofs.going.Going.flush_chunk_acknowledgements.Goals as goal
 
 pub returns-then-receiver-eq0 : goal.returns-then-receiver-eq0

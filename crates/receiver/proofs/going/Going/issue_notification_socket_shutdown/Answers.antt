@@ -1,7 +1,6 @@
 -- By the state.
 use mathlib.Core.Path.{◌∙◌}
 use Rattle.receiver.proofs.CallLaws.{by_state}
-use borrow.Author.Rules.{rules}
 use Rattle.receiver.proofs.going.Going.issue_notification_socket_shutdown.Goals as goal
 
 pub returns-in-Normal : goal.returns-in-Normal

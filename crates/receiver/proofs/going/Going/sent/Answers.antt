@@ -1,6 +1,5 @@
 -- Nothing sent drains; else the next batch.
 use borrow.Author.Tests.{eq-eqb, ne_eqb}
-use borrow.Author.Rules.{rules}
 use Rattle.receiver.proofs.going.Going.sent.Goals as goal
 
 pub returns-then-n-eq0 : goal.returns-then-n-eq0

@@ -1,6 +1,5 @@
 -- The stored failure, or the first batch.
 use mathlib.Core.Path.{sym, ◌∙◌}
-use borrow.Author.Rules.{rules}
 use Rattle.receiver.proofs.going.Going.service.Goals as goal
 
 pub returns-in-Some : goal.returns-in-Some

@@ -1,7 +1,6 @@
 -- By whether a shutdown has succeeded.
 use mathlib.Core.Path.{◌∙◌}
 use Rattle.receiver.proofs.CallLaws.{by_issued}
-use borrow.Author.Rules.{rules}
 use Rattle.receiver.proofs.going.Going.shut_or_finish.Goals as goal
 
 pub returns-then-self : goal.returns-then-self

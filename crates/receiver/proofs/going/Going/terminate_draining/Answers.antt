@@ -1,5 +1,4 @@
 -- By the parts.
-use borrow.Author.Rules.{rules}
 use Rattle.receiver.proofs.going.Going.terminate_draining.Goals as goal
 
 pub returns : goal.returns

@@ -1,6 +1,5 @@
 -- Blocked, or a failure.
 use borrow.Author.Tests.{eq-eqb, ne_eqb}
-use borrow.Author.Rules.{rules}
 use Rattle.receiver.proofs.going.Going.unsent.Goals as goal
 
 pub returns-then-errno-eq-WOULDBLOCK : goal.returns-then-errno-eq-WOULDBLOCK

@@ -1,5 +1,4 @@
 -- Nothing beside it.
-use borrow.Author.Rules.{rules}
 use Rattle.receiver.proofs.receiver.Outcome.done.Goals as goal
 
 pub returns : goal.returns

@@ -1,6 +1,5 @@
 -- The scheduler's tests.
 use mathlib.Core.Path.{sym, ◌∙◌}
-use borrow.Author.Rules.{rules}
 use Rattle.receiver.proofs.receiver.ReceiverState.new.Goals as goal
 
 pub returns-in-Sound : goal.returns-in-Sound

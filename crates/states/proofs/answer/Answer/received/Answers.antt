@@ -2,7 +2,6 @@
 use mathlib.Core.Path.{sym, ◌∙◌}
 use borrow.Author.Tests.{eq-eqb, ne_eqb, lt-leb, le-leb}
 use Rattle.states.specs.Answer.{received_of}
-use borrow.Author.Rules.{rules}
 use Rattle.states.proofs.answer.Answer.received.Goals as goal
 
 pub returns-then-self-gt255 : goal.returns-then-self-gt255

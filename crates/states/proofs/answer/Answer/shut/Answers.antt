@@ -2,7 +2,6 @@
 use mathlib.Core.Path.{sym, ◌∙◌}
 use borrow.Author.Tests.{eq-eqb, ne_eqb}
 use Rattle.states.specs.Answer.{shut_of}
-use borrow.Author.Rules.{rules}
 use Rattle.states.proofs.answer.Answer.shut.Goals as goal
 
 pub returns-then-self-eq4 : goal.returns-then-self-eq4

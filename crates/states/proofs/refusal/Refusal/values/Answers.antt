@@ -1,5 +1,4 @@
 -- A copy's refusal has its own values; of 11 to 13 only 12 has one.
-use borrow.Author.Rules.{rules}
 use Rattle.states.proofs.refusal.Refusal.values.Goals as goal
 
 pub returns-in-Copy : goal.returns-in-Copy

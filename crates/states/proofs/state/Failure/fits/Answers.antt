@@ -1,7 +1,6 @@
 -- The cases of the definition.
 use borrow.Author.Tests.{eq-eqb, ne_eqb}
 use Rattle.states.specs.State.{fits_errno}
-use borrow.Author.Rules.{rules}
 use Rattle.states.proofs.state.Failure.fits.Goals as goal
 
 pub returns-then-e-eq0 : goal.returns-then-e-eq0

@@ -1,5 +1,4 @@
 -- The cases of the definition.
-use borrow.Author.Rules.{rules}
 use Rattle.states.proofs.state.Failure.is_errno.Goals as goal
 
 pub returns-in-Io : goal.returns-in-Io

@@ -1,7 +1,6 @@
 -- The reason rule: where both are the end of the stream, either is the reason.
 use mathlib.Core.Path.{sym, ◌∙◌}
 use Rattle.states.proofs.StateLaws.{end_gives_way, error_stays}
-use borrow.Author.Rules.{rules}
 use Rattle.states.proofs.state.Failure.towards_error.Goals as goal
 
 pub returns-then-is_errno : goal.returns-then-is_errno

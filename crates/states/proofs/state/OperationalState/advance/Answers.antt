@@ -1,7 +1,6 @@
 -- Both normalised, then by the cases of the rule.
 use mathlib.Core.Path.{sym, ◌∙◌}
 use Rattle.states.proofs.StateLaws.{drain_on, drain_stays}
-use borrow.Author.Rules.{rules}
 use Rattle.states.proofs.state.OperationalState.advance.Goals as goal
 
 pub returns-in-Normal : goal.returns-in-Normal

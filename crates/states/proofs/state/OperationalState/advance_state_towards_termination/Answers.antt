@@ -1,7 +1,5 @@
 -- By the two tests, the own failure's first.
 use mathlib.Core.Path.{sym, ◌∙◌}
-use borrow.Author.Tests.{not-true, not-false}
-use borrow.Author.Rules.{rules}
 use Rattle.states.proofs.state.OperationalState.advance_state_towards_termination.Goals as goal
 
 pub returns-then-not-fits : goal.returns-then-not-fits

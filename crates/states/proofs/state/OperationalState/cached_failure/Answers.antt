@@ -1,5 +1,4 @@
 -- The cases of the definition.
-use borrow.Author.Rules.{rules}
 use Rattle.states.proofs.state.OperationalState.cached_failure.Goals as goal
 
 pub returns-in-Draining : goal.returns-in-Draining

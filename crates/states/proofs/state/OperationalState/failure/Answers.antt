@@ -1,6 +1,5 @@
 -- By the test.
 use mathlib.Core.Path.{sym, ◌∙◌}
-use borrow.Author.Rules.{rules}
 use Rattle.states.proofs.state.OperationalState.failure.Goals as goal
 
 pub returns-then-fits : goal.returns-then-fits

@@ -1,7 +1,6 @@
 -- Only a failure of 11 is changed.
 use mathlib.Core.Path.{sym, ◌∙◌}
 use Rattle.states.proofs.StateLaws.{blocked_is_normal, other_stays, none_stays}
-use borrow.Author.Rules.{rules}
 use Rattle.states.proofs.state.OperationalState.normal.Goals as goal
 
 pub returns-then-is_errno : goal.returns-then-is_errno

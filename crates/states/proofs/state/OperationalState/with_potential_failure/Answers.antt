@@ -1,7 +1,5 @@
 -- By the test, then by the case.
 use mathlib.Core.Path.{sym, ◌∙◌}
-use borrow.Author.Tests.{not-true, not-false}
-use borrow.Author.Rules.{rules}
 use Rattle.states.proofs.state.OperationalState.with_potential_failure.Goals as goal
 
 pub returns-then-not-fits : goal.returns-then-not-fits

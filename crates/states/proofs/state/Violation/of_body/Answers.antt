@@ -1,5 +1,4 @@
 -- What is left behind the header.
-use borrow.Author.Rules.{rules}
 use Rattle.states.proofs.state.Violation.of_body.Goals as goal
 
 pub returns : goal.returns

@@ -1,5 +1,4 @@
 -- The five cases of the definition.
-use borrow.Author.Rules.{rules}
 use Rattle.states.proofs.state.Violation.overflow.Goals as goal
 
 pub returns-in-InvalidChunkAnnouncement : goal.returns-in-InvalidChunkAnnouncement

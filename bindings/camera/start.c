@@ -13,6 +13,18 @@ void *memcpy(void *to, const void *from, size_t len) {
   return to;
 }
 
+void *memmove(void *to, const void *from, size_t len) {
+  unsigned char *t = to;
+  const unsigned char *f = from;
+  if (t <= f) {
+    return memcpy(to, from, len);
+  }
+  while (len-- > 0) {
+    t[len] = f[len];
+  }
+  return to;
+}
+
 void *memset(void *to, int byte, size_t len) {
   unsigned char *t = to;
   while (len-- > 0) {

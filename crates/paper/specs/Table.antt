@@ -57,7 +57,6 @@ use Rattle.sched.proofs.scheduler.RingBufferScheduler.try_register_write.Reads a
 use Rattle.states.specs.declared.state.Failure.TheVariants.{Io}
 use Rattle.states.specs.declared.state.OperationalState.{OperationalState}
 use Rattle.states.specs.declared.state.OperationalState.TheVariants.{Draining, Terminated}
-use Rattle.states.specs.declared.state.StateAnswer.{StateAnswer}
 use Rattle.states.specs.declared.state.StateAnswer.TheVariants as state
 use Rattle.states.proofs.state.OperationalState.advance_state_towards_termination.Kinds as advance_kinds
 use Rattle.states.proofs.state.OperationalState.advance_state_towards_termination.Reads as advance

@@ -4,7 +4,7 @@
 
 ghost use Rattle.std.specs.Prelude.{◌≡◌, length};
 
-use anyhow::{Context, Result, bail};
+use anyhow::{Context, Result};
 use planline::{Cut, Question, answer_last, answer_next};
 use std::io;
 use std::io::{Read, Write};
@@ -14,6 +14,7 @@ use std::io::{Read, Write};
 enum Source {
     Open,
     Ended,
+    Failed,
 }
 
 #[derive(Clone, Copy)]
@@ -22,14 +23,23 @@ struct Reading {
     source: Source,
 }
 
+// How far the piece is answered, and whether all text that had to make room was written.
+#[derive(Clone, Copy)]
+struct Progress {
+    cut: Cut,
+    is_written: bool,
+}
+
 // The question's header, and then the answer to each line.
 pub fn answer_all(rt: &(impl Input + Print), question: Question) -> Result<()> {
     let mut input = rt.reader();
     let mut output = io::writer(rt);
     let mut line = [0u8; 121];
     let mut out = large_buffer();
-    print_header(&mut output, question)?;
-    answer_lines(&mut input, &mut output, question, &mut line, &mut out)
+    if print_header(&mut output, question)? {
+        answer_lines(&mut input, &mut output, question, &mut line, &mut out)?;
+    }
+    Ok(())
 }
 
 // 65,536 zeros. The `ensures` keeps the proofs from writing the zeros out.
@@ -39,7 +49,7 @@ fn large_buffer() -> [u8; 65536]
     [0; 65536]
 }
 
-fn print_header(output: &mut impl Write, question: Question) -> Result<()> {
+fn print_header(output: &mut impl Write, question: Question) -> Result<bool> {
     match question {
         Question::Ring => print(output, b"ring plan\n", 10),
         Question::Strips => print(output, b"strip plan\n", 11),
@@ -47,11 +57,12 @@ fn print_header(output: &mut impl Write, question: Question) -> Result<()> {
 }
 
 // The first n bytes; planline answers no index behind the buffer's end.
-fn print(output: &mut impl Write, out: &[u8], n: usize) -> Result<()> {
+fn print(output: &mut impl Write, out: &[u8], n: usize) -> Result<bool> {
     if n > out.len() {
-        bail!("an answer ends behind its buffer");
+        return Ok(false);
     }
-    output.write_all(&out[..n]).context("standard output")
+    output.write_all(&out[..n]).context("standard output")?;
+    Ok(true)
 }
 
 // One line more; where its answer has no room, the text so far makes room.
@@ -62,24 +73,33 @@ fn answer_one(
     cut: Cut,
     piece: &[u8],
     out: &mut [u8],
-) -> Result<Cut> {
+) -> Result<Progress> {
     let more = answer_next(question, line, cut.held, piece, cut.next, out, cut.at);
     if more.next != cut.next {
-        return Ok(more);
+        return Ok(Progress {
+            cut: more,
+            is_written: true,
+        });
     }
-    print(output, out, cut.at)?;
-    Ok(Cut {
-        held: cut.held,
-        next: cut.next,
-        at: 0,
+    let is_written = print(output, out, cut.at)?;
+    Ok(Progress {
+        cut: Cut {
+            held: cut.held,
+            next: cut.next,
+            at: 0,
+        },
+        is_written,
     })
 }
 
-fn has_more(cut: Cut, len: usize) -> bool {
-    cut.next < len
+fn has_more(progress: Progress, len: usize) -> bool {
+    if progress.is_written {
+        return progress.cut.next < len;
+    }
+    false
 }
 
-// Nothing here shows that a piece is used up, so the loop counts its turns down, from a number that no run uses up.
+// Nothing here shows that a piece is used up, so the loop counts its turns, to a number that no run uses up.
 fn answer_piece(
     output: &mut impl Write,
     question: Question,
@@ -88,21 +108,31 @@ fn answer_piece(
     piece: &[u8],
     out: &mut [u8],
 ) -> Result<Reading> {
-    let mut cut = Cut {
-        held,
-        next: 0,
-        at: 0,
+    let mut progress = Progress {
+        cut: Cut {
+            held,
+            next: 0,
+            at: 0,
+        },
+        is_written: true,
     };
     for _ in 0..u64::MAX {
-        if !has_more(cut, piece.len()) {
+        if !has_more(progress, piece.len()) {
             break;
         }
-        cut = answer_one(output, question, line, cut, piece, out)?;
+        progress = answer_one(output, question, line, progress.cut, piece, out)?;
     }
-    print(output, out, cut.at)?;
+    if progress.is_written {
+        if print(output, out, progress.cut.at)? {
+            return Ok(Reading {
+                held: progress.cut.held,
+                source: Source::Open,
+            });
+        }
+    }
     Ok(Reading {
-        held: cut.held,
-        source: Source::Open,
+        held: 0,
+        source: Source::Failed,
     })
 }
 

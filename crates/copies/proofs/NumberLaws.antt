@@ -1,45 +1,30 @@
 -- A number that is read byte by byte.
-use Prim.Native.Nat.{ℕ, suc, ◌+◌, ◌*◌, ◌%◌, ◌<◌, ◌≤◌}
+use Prim.Native.Nat.{ℕ, suc, ◌+◌, ◌%◌, ◌<◌, ◌≤◌}
 use mathlib.Core.Path.{◌≡◌, sym, ap, ◌∙◌}
-use mathlib.Core.List.{List}
-use mathlib.Core.Logic.{◌≢◌}
+use mathlib.Core.List.{List, [], ◌∷◌, ◌++◌}
 use native.Mathlib.Omega.{arith}
-use native.Mathlib.Nat.{mod-lt, mod-eq_of_lt, mod-add-mod, mod_self}
+use native.Mathlib.Nat.{mod-add-mod, add_assoc}
 use borrow.Author.Tests.{lt-ltb, le-ltb}
-use lib.ListN.{length, get_or}
+use lib.ListN.{length, get_or, take}
+use Rattle.std.proofs.lemmas.Grind.{common_steps}
+use Rattle.std.proofs.lemmas.List.{take_all, take_more_set}
+use Rattle.std.specs.Int.{w64, from_be_bytes}
 use Rattle.copies.specs.Number.{number_from, big_endian_of}
 use Rattle.copies.specs.Promises.{number_at}
 use Rattle.copies.specs.Ring.{get}
-use Rattle.copies.proofs.Ring.{get_place}
+use Rattle.copies.proofs.Ring.{get_append}
 
--- the place behind the last is the first
-pub turns : (l p : ℕ) → p + 1 ≡ l → 0 ≡ (p + 1) % l
-turns l p e = sym (ap (λ (x : ℕ). x % l) e ∙ mod_self l)
+-- one byte more, and the place behind it
+pub get_more : (l : ℕ) (bytes : List ℕ) (p n : ℕ) → get l bytes p (n + 1) ≡ get l bytes p n ++ get_or bytes ((p + n) % l) 0 ∷ []
+get_more l bytes p n = get_append l bytes p n 1
 
-pub goes_on : (l p : ℕ) → p < l → p + 1 ≢ l → p + 1 ≡ (p + 1) % l
-goes_on l p h e = sym (mod-eq_of_lt (omega (arith, h, e)))
+pub next_round : (l p n next after : ℕ) → next ≡ (p + n) % l → after ≡ (next + 1) % l → after ≡ (p + (n + 1)) % l
+next_round l p n next after e f = f ∙ ap (λ (x : ℕ). (x + 1) % l) e ∙ mod-add-mod (p + n) l 1 ∙ ap (λ (x : ℕ). x % l) (add_assoc p n 1)
 
-module _ (l : ℕ) (bytes : List ℕ) (p : ℕ) (h : p < l) where
-  behind : (x y : ℕ) → x ≡ y % l → (x + 1) % l ≡ suc y % l
-  behind x y e = ap (λ (z : ℕ). (z + 1) % l) e ∙ mod-add-mod y l 1 ∙ ap (λ (z : ℕ). z % l) (let k : y + 1 ≡ suc y = omega arith in k)
-
-  -- four bytes, each with the place behind it
-  pub half : (n a a' b b' c c' d d' : ℕ) → (a ≡ n * 256 + get_or bytes p 0) × (a' ≡ (p + 1) % l) → (b ≡ a * 256 + get_or bytes a' 0) × (b' ≡ (a' + 1) % l) →
-      (c ≡ b * 256 + get_or bytes b' 0) × (c' ≡ (b' + 1) % l) → (d ≡ c * 256 + get_or bytes c' 0) × (d' ≡ (c' + 1) % l) → (d ≡ number_from n (get l bytes p 4)) × (d' ≡ (p + 4) % l)
-  unfolding number_from
-  half n a a' b b' c c' d d' (ea, pa) (eb, pb) (ec, pc) (ed, pd) =
-      let p0 : p % l ≡ p = mod-eq_of_lt h in
-      let p1 : a' ≡ suc p % l = pa ∙ ap (λ (z : ℕ). z % l) (let k : p + 1 ≡ suc p = omega arith in k) in
-      let p2 : b' ≡ suc (suc p) % l = pb ∙ behind a' (suc p) p1 in
-      let p3 : c' ≡ suc (suc (suc p)) % l = pc ∙ behind b' (suc (suc p)) p2 in
-      let p4 : d' ≡ suc (suc (suc (suc p))) % l = pd ∙ behind c' (suc (suc (suc p))) p3 in
-      (rw (ed, ec, eb, ea, p1, p2, p3, p0), p4 ∙ ap (λ (z : ℕ). z % l) (let k : suc (suc (suc (suc p))) ≡ p + 4 = omega arith in k))
-
-  pub both : (a a' d : ℕ) → (a ≡ number_from 0 (get l bytes p 4)) × (a' ≡ (p + 4) % l) → d ≡ number_from a (get l bytes a' 4) → d ≡ number_from 0 (get l bytes p 8)
-  unfolding number_from
-  both a a' d (ea, pa) ed =
-      let e : get l bytes a' 4 ≡ get l bytes (suc (suc (suc (suc p)))) 4 = get_place l bytes a' (suc (suc (suc (suc p)))) 4 (mod-eq_of_lt (omega (arith, pa, mod-lt (p + 4) (let k : 0 < l = omega (arith, h) in k))) ∙ pa ∙ ap (λ (z : ℕ). z % l) (let k : p + 4 ≡ suc (suc (suc (suc p))) = omega arith in k)) in
-      ed ∙ ap (λ (x : ℕ). number_from x (get l bytes a' 4)) ea ∙ ap (number_from (number_from 0 (get l bytes p 4))) e
+-- eight bytes, most significant first, are the number that they are folded to
+eight_bytes : (l : ℕ) (bytes : List ℕ) (p : ℕ) → from_be_bytes w64 (get l bytes p 8) ≡ number_from 0 (get l bytes p 8)
+unfolding number_from
+eight_bytes l bytes p = omega arith
 
 -- ---- where the place is
 module _ (bytes : List ℕ) (p : ℕ) where
@@ -50,6 +35,13 @@ module _ (bytes : List ℕ) (p : ℕ) where
   pub outside : length bytes ≤ p → big_endian_of bytes p ≡ 0
   unfolding big_endian_of
   outside h = rw (le-ltb p (length bytes) h)
+
+  -- at the loop's end
+  pub all_read : (front : List ℕ) (i n : ℕ) → p < length bytes → i ≤ 8 → 8 ≤ i → length front ≡ 8 → take i front ≡ get (length bytes) bytes p i → n ≡ from_be_bytes w64 front → n ≡ big_endian_of bytes p
+  all_read front i n h a b e f g =
+      let k : i ≡ 8 = omega arith in
+      let whole : take 8 front ≡ front = take_all 8 front (omega arith) in
+      g ∙ ap (from_be_bytes w64) (sym whole ∙ (rw k at f)) ∙ eight_bytes (length bytes) bytes p ∙ sym (inside h)
 
 -- the eight cells, folded one by one, are the number
 pub number_at_lem : (L : ℕ) (ring : List ℕ) (k : ℕ) → number_from 0 (get L ring k 8) ≡ number_at L ring k
@@ -63,3 +55,6 @@ number_at_lem L ring k =
     let e6 : k + 6 ≡ suc (suc (suc (suc (suc (suc k))))) = omega arith in
     let e7 : k + 7 ≡ suc (suc (suc (suc (suc (suc (suc k)))))) = omega arith in
     rw (e1, e2, e3, e4, e5, e6, e7) (omega arith)
+
+-- what `big_endian` is proved by
+pub ruleset reading = (common_steps, outside, get_more, next_round, take_more_set)

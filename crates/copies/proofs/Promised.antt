@@ -1,5 +1,7 @@
 -- The copies keep what specs/Promises.antt and specs/Given.antt say: first of the definitions, then of the calls, which is of
 -- whatever an attached contract allows.
+use Rattle.operations.specs.Given.{of_result}
+use Rattle.std.proofs.Common.{Result, Ok, Err}
 use Prim.Native.Nat.{ℕ, min}
 use mathlib.Core.Path.{◌≡◌, refl, sym, ap, ◌∙◌}
 use mathlib.Core.Bool.{Bool, true, false}
@@ -17,31 +19,22 @@ use Rattle.operations.specs.Portion.{portion_of}
 use Rattle.operations.proofs.PortionLaws.{left_over}
 use Rattle.operations.specs.declared.operation.OperationType.TheVariants.{Read, Write}
 use Rattle.operations.specs.declared.refusal.Refusal as sched
-use Rattle.sched.specs.declared.scheduler.Checked.{Checked}
-use Rattle.sched.specs.declared.scheduler.Checked.TheVariants as checked
 use Rattle.sched.specs.declared.scheduler.RingBufferScheduler.{RingBufferScheduler}
 use Rattle.sched.specs.Scheduler.{IsSound, sound_of, greatest_in, offset_in}
 use Rattle.sched.proofs.Laws.{sound_both, sound_is, greatest_most}
 use Rattle.modular.proofs.Saying.{Keeps}
 use Rattle.operations.specs.Given as operations
 use Rattle.sched.specs.Given.{Given, taken}
-use Rattle.sched.specs.Given as sched_given
 use Rattle.operations.proofs.Given.{number_some}
 use Rattle.sched.proofs.Given.{record_exactly}
 use Rattle.sched.proofs.RegisterLaws.{moved}
 use Rattle.operations.specs.Refusal.{number_of, values_of}
-use Rattle.copies.specs.declared.Copied.{Copied}
-use Rattle.copies.specs.declared.Copied.TheVariants as copied
-use Rattle.copies.specs.declared.Ready.{Ready}
-use Rattle.copies.specs.declared.Ready.TheVariants as ready
 use Rattle.copies.specs.declared.refusal.Refusal.TheVariants.{Scheduler, RingMemory}
 use Rattle.copies.specs.declared.refusal.Refusal.{Refusal}
-use Rattle.copies.specs.declared.lent.Told.{Told}
-use Rattle.copies.specs.declared.lent.Told.TheVariants as told
 use Rattle.copies.specs.Ring.{get}
 use Rattle.copies.specs.Copies.{ready_from, ready_of, write_of, read_of, write_from, read_from}
 use Rattle.copies.specs.Lent.{told_of, record_after, WriteLeaves, ReadLeaves}
-use Rattle.copies.specs.Given.{Verdict, verdict, Exactly, GivenCopy, made, by_scheduler, given_9, of_checked, of_ready, of_copied, of_told}
+use Rattle.copies.specs.Given.{Verdict, verdict, Exactly, GivenCopy, made, by_scheduler, given_9, of_copy, of_scheduler}
 use Rattle.copies.specs.Promises.{CellsOf, Writes, Reads, CopyWrites, CopyReads}
 use Rattle.copies.specs.Promises as promise
 use Rattle.copies.proofs.Ring.{length_get, get_d_get, put_own, get_own, get_put}
@@ -52,54 +45,56 @@ use Rattle.copies.proofs.write.Kinds as write_kinds
 use Rattle.copies.proofs.write.Reads as write
 use Rattle.copies.proofs.read.Kinds as read_kinds
 use Rattle.copies.proofs.read.Reads as read
+use Rattle.copies.specs.declared.Copied.{Copied}
+use Rattle.operations.specs.declared.portion.Portion.{Portion}
 
 -- ---- the tests
 -- the two ways that the scheduler's tests go
-pub data Checks (s : RingBufferScheduler) : Checked → Type 0 where
-  passes : IsSound s → Checks s (checked.Sound s)
-  fails : (e : sched.Refusal) → sound_of s ≡ checked.Refused e → Checks s (checked.Refused e)
+pub data Checks (s : RingBufferScheduler) : Result RingBufferScheduler sched.Refusal → Type 0 where
+  passes : IsSound s → Checks s (Ok s)
+  fails : (e : sched.Refusal) → sound_of s ≡ Err e → Checks s (Err e)
 
 pub checks : (s : RingBufferScheduler) → Checks s (sound_of s)
 checks s = by (sound_of s) refl
   where
-    by : (c : Checked) → sound_of s ≡ c → Checks s c
-    by (checked.Sound u) e =
+    by : (c : Result RingBufferScheduler sched.Refusal) → sound_of s ≡ c → Checks s c
+    by (Ok u) e =
         let b = sound_both u s (sym e) in
         rw b.1 (passes b.0)
-    by (checked.Refused r) e = fails r e
+    by (Err r) e = fails r e
 
 -- and the three ways that they go with that of the memory
-data Tested (s : RingBufferScheduler) (n : ℕ) : Ready → Type 0 where
-  right : IsSound s → n ≡ s.buf_len → Tested s n (ready.Sound s)
-  wrong : IsSound s → n ≢ s.buf_len → Tested s n (ready.Refused RingMemory)
-  unsound : (e : sched.Refusal) → sound_of s ≡ checked.Refused e → Tested s n (ready.Refused (Scheduler e))
+data Tested (s : RingBufferScheduler) (n : ℕ) : Result RingBufferScheduler Refusal → Type 0 where
+  right : IsSound s → n ≡ s.buf_len → Tested s n (Ok s)
+  wrong : IsSound s → n ≢ s.buf_len → Tested s n (Err RingMemory)
+  unsound : (e : sched.Refusal) → sound_of s ≡ Err e → Tested s n (Err (Scheduler e))
 
 tested : (s : RingBufferScheduler) (n : ℕ) → Tested s n (ready_of s n)
 unfolding ready_from
 tested s n = by (sound_of s) (checks s)
   where
-    same : IsSound s → (b : Bool) → eqb n s.buf_len ≡ b → Tested s n (ready_from n (checked.Sound s))
+    same : IsSound s → (b : Bool) → eqb n s.buf_len ≡ b → Tested s n (ready_from n (Ok s))
     same h true q = rw q (right h (eqb-true _ _ q))
     same h false q = rw q (wrong h (eqb-false _ _ q))
 
-    by : (c : Checked) → Checks s c → Tested s n (ready_from n c)
+    by : (c : Result RingBufferScheduler sched.Refusal) → Checks s c → Tested s n (ready_from n c)
     by c (passes h) = same h (eqb n s.buf_len) refl
     by c (fails e q) = unsound e q
 
 -- ---- when a copy is refused
 -- what the scheduler's own table says of an answer of its tests
 module _ (s : RingBufferScheduler) where
-  pub refusal_given : (e : sched.Refusal) → sound_of s ≡ checked.Refused e → Given s (number_of e) (values_of e)
+  pub refusal_given : (e : sched.Refusal) → sound_of s ≡ Err e → Given s (number_of e) (values_of e)
   refusal_given e q = rw q at (record_exactly s).only
 
-  pub given_refusal : (e : sched.Refusal) → sound_of s ≡ checked.Refused e → (k : ℕ) (vs : List ℕ) → Given s k vs → verdict (number_of e) (values_of e) ≡ verdict k vs
+  pub given_refusal : (e : sched.Refusal) → sound_of s ≡ Err e → (k : ℕ) (vs : List ℕ) → Given s k vs → verdict (number_of e) (values_of e) ≡ verdict k vs
   given_refusal e q k vs g =
       let t = (record_exactly s).always k vs g in
       let n : number_of e ≡ k = rw q at t.0 in
       let v : values_of e ≡ vs = rw q at t.1 in
       rw (n, v)
 
-  pub sound_not_refused : (e : sched.Refusal) → sound_of s ≡ checked.Refused e → IsSound s → ⊥
+  pub sound_not_refused : (e : sched.Refusal) → sound_of s ≡ Err e → IsSound s → ⊥
   sound_not_refused e q h = let z : ◌≡◌ {A = ℕ} 0 1 = cc (sound_is s h) in omega arith
 
   given_sound : IsSound s → (k : ℕ) (vs : List ℕ) → Given s k vs → verdict 0 [] ≡ verdict k vs
@@ -113,17 +108,17 @@ module _ (s : RingBufferScheduler) where
   sound_given h k vs g = sym (ap (λ (v : Verdict). v.number) (given_sound h k vs g))
 
 -- what is exact of an answer of the scheduler's tests is so as a verdict of a copy
-pub as_checked : {G : ℕ → List ℕ → Type 0} (c : Checked) → operations.Exactly G (sched_given.of_checked c) → Exactly G (of_checked c)
-as_checked (checked.Sound s) x = record { only = x.only; always = λ k vs g. let t = x.always k vs g in λ i. verdict (t.0 i) (t.1 i) }
-as_checked (checked.Refused e) x = record { only = x.only; always = λ k vs g. let t = x.always k vs g in λ i. verdict (t.0 i) (t.1 i) }
+pub as_checked : {G : ℕ → List ℕ → Type 0} (c : Result RingBufferScheduler sched.Refusal) → operations.Exactly G (of_result c) → Exactly G (of_scheduler c)
+as_checked (Ok s) x = record { only = x.only; always = λ k vs g. let t = x.always k vs g in λ i. verdict (t.0 i) (t.1 i) }
+as_checked (Err e) x = record { only = x.only; always = λ k vs g. let t = x.always k vs g in λ i. verdict (t.0 i) (t.1 i) }
 
 -- so its tests are refused exactly by its table
-pub checked_given : (s : RingBufferScheduler) (c : Checked) → Checks s c → Exactly (Given s) (of_checked c)
+pub checked_given : (s : RingBufferScheduler) (c : Result RingBufferScheduler sched.Refusal) → Checks s c → Exactly (Given s) (of_scheduler c)
 checked_given s c (passes h) = record { only = taken h; always = given_sound s h }
 checked_given s c (fails e q) = record { only = refusal_given s e q; always = given_refusal s e q }
 
 module _ (s : RingBufferScheduler) (n : ℕ) where
-  given : (z : Ready) → Tested s n z → Exactly (GivenCopy s n) (of_ready z)
+  given : (z : Result RingBufferScheduler Refusal) → Tested s n z → Exactly (GivenCopy s n) (of_copy z)
   given z (right h e) = record { only = made h e; always = λ k vs g. so g }
     where
       so : {k : ℕ} {vs : List ℕ} → GivenCopy s n k vs → verdict 0 [] ≡ verdict k vs
@@ -143,21 +138,21 @@ module _ (s : RingBufferScheduler) (n : ℕ) where
       so {k} {vs} (by_scheduler p g) = given_refusal s e q k vs g
       so (given_9 g f) = absurd (sound_not_refused s e q g)
 
-pub ready_given : (s : RingBufferScheduler) (n : ℕ) → Exactly (GivenCopy s n) (of_ready (ready_of s n))
+pub ready_given : (s : RingBufferScheduler) (n : ℕ) → Exactly (GivenCopy s n) (of_copy (ready_of s n))
 ready_given s n = given s n (ready_of s n) (tested s n)
 
 -- a copy is refused just where the tests are
-same_write : (ring src : List ℕ) (z : Ready) → of_ready z ≡ of_copied (write_from ring src z).answer
-same_write ring src (ready.Sound u) = refl
-same_write ring src (ready.Refused e) = refl
+same_write : (ring src : List ℕ) (z : Result RingBufferScheduler Refusal) → of_copy z ≡ of_copy (write_from ring src z).answer
+same_write ring src (Ok u) = refl
+same_write ring src (Err e) = refl
 
-same_read : (ring dst : List ℕ) (z : Ready) → of_ready z ≡ of_copied (read_from ring dst z).answer
-same_read ring dst (ready.Sound u) = refl
-same_read ring dst (ready.Refused e) = refl
+same_read : (ring dst : List ℕ) (z : Result RingBufferScheduler Refusal) → of_copy z ≡ of_copy (read_from ring dst z).answer
+same_read ring dst (Ok u) = refl
+same_read ring dst (Err e) = refl
 
-same_told : (c : Copied) → of_copied c ≡ of_told (told_of c)
-same_told (copied.Moved u p) = refl
-same_told (copied.Refused e) = refl
+same_told : (c : Result Copied Refusal) → of_copy c ≡ of_copy (told_of c)
+same_told (Ok m) = refl
+same_told (Err e) = refl
 
 -- ---- what is got from a ring: as many bytes, each that of its cell
 pub got_cells : (l : ℕ) (ring : List ℕ) (at n : ℕ) → (length (get l ring at n) ≡ n) × CellsOf l ring at (get l ring at n)
@@ -165,7 +160,7 @@ got_cells l ring at n = (length_get l ring at n, λ j h. get_d_get l ring at n j
 
 -- ---- what a copy moves and leaves alone
 module _ (s : RingBufferScheduler) (ring : List ℕ) where
-  writes : (src : List ℕ) (z : Ready) → Tested s (length ring) z →
+  writes : (src : List ℕ) (z : Result RingBufferScheduler Refusal) → Tested s (length ring) z →
       Writes s ring src (told_of (write_from ring src z).answer) (record_after s (write_from ring src z).answer) (write_from ring src z).memory
   writes src z (right h e) =
       let n : ℕ = min (length src) (greatest_in s Write) in
@@ -176,7 +171,7 @@ module _ (s : RingBufferScheduler) (ring : List ℕ) where
   writes src z (wrong h ne) = promise.refuses RingMemory
   writes src z (unsound r q) = promise.refuses (Scheduler r)
 
-  reads : (dst : List ℕ) (z : Ready) → Tested s (length ring) z →
+  reads : (dst : List ℕ) (z : Result RingBufferScheduler Refusal) → Tested s (length ring) z →
       Reads s ring dst (told_of (read_from ring dst z).answer) (record_after s (read_from ring dst z).answer) (read_from ring dst z).memory
   reads dst z (right h e) =
       let n : ℕ = min (length dst) (greatest_in s Read) in
@@ -187,18 +182,18 @@ module _ (s : RingBufferScheduler) (ring : List ℕ) where
   reads dst z (unsound r q) = promise.refuses (Scheduler r)
 
 -- a refused copy leaves the memory
-pub write_left : (s : RingBufferScheduler) (ring src : List ℕ) (e : Refusal) (after : RingBufferScheduler) (memory : List ℕ) → Writes s ring src (told.Refused e) after memory → memory ≡ ring
+pub write_left : (s : RingBufferScheduler) (ring src : List ℕ) (e : Refusal) (after : RingBufferScheduler) (memory : List ℕ) → Writes s ring src (Err e) after memory → memory ≡ ring
 write_left s ring src e after memory (promise.refuses f) = refl
 
-pub read_left : (s : RingBufferScheduler) (ring dst : List ℕ) (e : Refusal) (after : RingBufferScheduler) (memory : List ℕ) → Reads s ring dst (told.Refused e) after memory → memory ≡ dst
+pub read_left : (s : RingBufferScheduler) (ring dst : List ℕ) (e : Refusal) (after : RingBufferScheduler) (memory : List ℕ) → Reads s ring dst (Err e) after memory → memory ≡ dst
 read_left s ring dst e after memory (promise.refuses f) = refl
 
 -- ---- of the definitions
 module _ (s : RingBufferScheduler) (ring bytes : List ℕ) where
-  pub written_given : Exactly (GivenCopy s (length ring)) (of_copied (write_of s ring bytes).answer)
+  pub written_given : Exactly (GivenCopy s (length ring)) (of_copy (write_of s ring bytes).answer)
   written_given = rw (← same_write ring bytes (ready_of s (length ring))) (given s (length ring) _ (tested s (length ring)))
 
-  pub got_given : Exactly (GivenCopy s (length ring)) (of_copied (read_of s ring bytes).answer)
+  pub got_given : Exactly (GivenCopy s (length ring)) (of_copy (read_of s ring bytes).answer)
   got_given = rw (← same_read ring bytes (ready_of s (length ring))) (given s (length ring) _ (tested s (length ring)))
 
   pub written_promised : Writes s ring bytes (told_of (write_of s ring bytes).answer) (record_after s (write_of s ring bytes).answer) (write_of s ring bytes).memory
@@ -213,31 +208,31 @@ abbrev pub KeepsLeft : (n : ℕ) (ps : List (ParamKind n)) (r : ResultKind n) �
 KeepsLeft n ps r L P =
     (κs : Lfts n) (a : Dens κs ps) (z : (res_t r κs).Denot) (ws : Lasts (ended_of n ps r) κs a) → L κs a z (at_exit (ended_of n ps r) κs a ws) → P κs a z ws
 
-pub demand_ring_memory_given : Keeps 0 ready_kinds.ps ready_kinds.r ready_reads.Learnt (λ κs a z. Exactly (GivenCopy a.0 a.1.0) (of_ready z))
+pub demand_ring_memory_given : Keeps 0 ready_kinds.ps ready_kinds.r ready_reads.Learnt (λ κs a z. Exactly (GivenCopy a.0 a.1.0) (of_copy z))
 demand_ring_memory_given κs a z (ws, p) = rw (demand_ring_memory_says κs a z ws p) (given a.0 a.1.0 _ (tested a.0 a.1.0))
 
 -- what passes the tests is the record itself
-same_record : (s u : RingBufferScheduler) (n : ℕ) (z : Ready) → Tested s n z → z ≡ ready.Sound u → u ≡ s
+same_record : (s u : RingBufferScheduler) (n : ℕ) (z : Result RingBufferScheduler Refusal) → Tested s n z → z ≡ Ok u → u ≡ s
 same_record s u n _ (right h l) e = cc
-same_record s u n _ (wrong h l) e = let k : ◌≡◌ {A = ℕ} 0 1 = cc in absurd (omega arith)
-same_record s u n _ (unsound r l) e = let k : ◌≡◌ {A = ℕ} 0 1 = cc in absurd (omega arith)
+same_record s u n _ (wrong h l) e = cc
+same_record s u n _ (unsound r l) e = cc
 
-pub demand_ring_memory_same : Keeps 0 ready_kinds.ps ready_kinds.r ready_reads.Learnt (λ κs a z. (u : RingBufferScheduler) → z ≡ ready.Sound u → u ≡ a.0)
+pub demand_ring_memory_same : Keeps 0 ready_kinds.ps ready_kinds.r ready_reads.Learnt (λ κs a z. (u : RingBufferScheduler) → z ≡ Ok u → u ≡ a.0)
 demand_ring_memory_same κs a z (ws, p) u e = same_record a.0 u a.1.0 _ (tested a.0 a.1.0) (sym (demand_ring_memory_says κs a z ws p) ∙ e)
 
-pub write_given : Keeps 2 write_kinds.ps write_kinds.r write.Learnt (λ κs a z. Exactly (GivenCopy a.0 (length a.1.0.now)) (of_copied z))
+pub write_given : Keeps 2 write_kinds.ps write_kinds.r write.Learnt (λ κs a z. Exactly (GivenCopy a.0 (length a.1.0.now)) (of_copy z))
 write_given κs a z (ws, p) = rw (write_says κs a z ws p).0 (written_given a.0 a.1.0.now a.1.1.0.now)
 
-pub read_given : Keeps 2 read_kinds.ps read_kinds.r read.Learnt (λ κs a z. Exactly (GivenCopy a.0 (length a.1.0.now)) (of_copied z))
+pub read_given : Keeps 2 read_kinds.ps read_kinds.r read.Learnt (λ κs a z. Exactly (GivenCopy a.0 (length a.1.0.now)) (of_copy z))
 read_given κs a z (ws, p) = rw (read_says κs a z ws p).0 (got_given a.0 a.1.0.now a.1.1.0.now)
 
-by_write : (s : RingBufferScheduler) (ring src : List ℕ) (c : Copied) (memory : List ℕ) → Writes s ring src (told_of c) (record_after s c) memory → CopyWrites s ring src c memory
-by_write s ring src (copied.Moved u p) memory w = w
-by_write s ring src (copied.Refused e) memory w = w
+by_write : (s : RingBufferScheduler) (ring src : List ℕ) (c : Result Copied Refusal) (memory : List ℕ) → Writes s ring src (told_of c) (record_after s c) memory → CopyWrites s ring src c memory
+by_write s ring src (Ok m) memory w = w
+by_write s ring src (Err e) memory w = w
 
-by_read : (s : RingBufferScheduler) (ring dst : List ℕ) (c : Copied) (memory : List ℕ) → Reads s ring dst (told_of c) (record_after s c) memory → CopyReads s ring dst c memory
-by_read s ring dst (copied.Moved u p) memory w = w
-by_read s ring dst (copied.Refused e) memory w = w
+by_read : (s : RingBufferScheduler) (ring dst : List ℕ) (c : Result Copied Refusal) (memory : List ℕ) → Reads s ring dst (told_of c) (record_after s c) memory → CopyReads s ring dst c memory
+by_read s ring dst (Ok m) memory w = w
+by_read s ring dst (Err e) memory w = w
 
 pub write_promised : KeepsLeft 2 write_kinds.ps write_kinds.r write.Learnt
     (λ κs a z ws. CopyWrites a.0 a.1.0.now a.1.1.0.now z ws.1.0)
@@ -252,11 +247,11 @@ read_promised κs a z ws p =
     rw (q.0, q.1) (by_read a.0 a.1.0.now a.1.1.0.now (read_of a.0 a.1.0.now a.1.1.0.now).answer (read_of a.0 a.1.0.now a.1.1.0.now).memory (got_promised a.0 a.1.0.now a.1.1.0.now))
 
 -- ---- and of the calls over a lent scheduler
-module _ (s : RingBufferScheduler) (ring bytes : List ℕ) (r : Told) (after : RingBufferScheduler) (memory : List ℕ) where
-  pub write_lent_given : WriteLeaves s ring bytes r after memory → Exactly (GivenCopy s (length ring)) (of_told r)
+module _ (s : RingBufferScheduler) (ring bytes : List ℕ) (r : Result Portion Refusal) (after : RingBufferScheduler) (memory : List ℕ) where
+  pub write_lent_given : WriteLeaves s ring bytes r after memory → Exactly (GivenCopy s (length ring)) (of_copy r)
   write_lent_given p = rw ((write_lent_says s ring bytes r after memory p).0, ← same_told (write_of s ring bytes).answer) (written_given s ring bytes)
 
-  pub read_lent_given : ReadLeaves s ring bytes r after memory → Exactly (GivenCopy s (length ring)) (of_told r)
+  pub read_lent_given : ReadLeaves s ring bytes r after memory → Exactly (GivenCopy s (length ring)) (of_copy r)
   read_lent_given p = rw ((read_lent_says s ring bytes r after memory p).0, ← same_told (read_of s ring bytes).answer) (got_given s ring bytes)
 
   pub write_lent_promised : WriteLeaves s ring bytes r after memory → Writes s ring bytes r after memory

@@ -1,12 +1,12 @@
 -- What each public call says, in the order of the paper: whatever its attached contract allows is this definition of its
 -- arguments, and what it leaves in the lent memory is this one.
+use Rattle.std.proofs.Common.{Result}
 use Prim.Native.Nat.{ℕ}
 use mathlib.Core.Path.{◌≡◌, ap}
 use mathlib.Core.List.{List}
 use Rattle.modular.proofs.Saying.{Says, Leaves}
 use Rattle.sched.specs.declared.scheduler.RingBufferScheduler.{RingBufferScheduler}
 use Rattle.operations.specs.Refusal.{packed}
-use Rattle.copies.specs.declared.lent.Told.{Told}
 use Rattle.copies.specs.Refusal.{number_of, values_of}
 use Rattle.copies.specs.Copies.{Left, ready_of, write_of, read_of}
 use Rattle.copies.specs.Lent.{told_of, record_after, WriteLeaves, ReadLeaves}
@@ -23,6 +23,8 @@ use Rattle.copies.proofs.refusal.Refusal.number.Kinds as Refusal-number-kinds
 use Rattle.copies.proofs.refusal.Refusal.number.Reads as Refusal-number
 use Rattle.copies.proofs.refusal.Refusal.values.Kinds as values_kinds
 use Rattle.copies.proofs.refusal.Refusal.values.Reads as values
+use Rattle.operations.specs.declared.portion.Portion.{Portion}
+use Rattle.copies.specs.declared.refusal.Refusal.{Refusal}
 
 pub demand_ring_memory_says : Says 0 demand_ring_memory_kinds.ps demand_ring_memory_kinds.r demand_ring_memory.Learnt (λ κs a. ready_of a.0 a.1.0)
 demand_ring_memory_says κs a z ws p = p
@@ -50,10 +52,10 @@ pub values_says : Says 0 values_kinds.ps values_kinds.r values.Learnt (λ κs a.
 values_says κs a z ws p = p
 
 -- ---- the calls over a lent scheduler: the toolchain reads no such contract, so each cites one predicate of its outcome
-pub write_lent_says : (s : RingBufferScheduler) (ring src : List ℕ) (r : Told) (after : RingBufferScheduler) (memory : List ℕ) → WriteLeaves s ring src r after memory →
+pub write_lent_says : (s : RingBufferScheduler) (ring src : List ℕ) (r : Result Portion Refusal) (after : RingBufferScheduler) (memory : List ℕ) → WriteLeaves s ring src r after memory →
     (r ≡ told_of (write_of s ring src).answer) × (after ≡ record_after s (write_of s ring src).answer) × (memory ≡ (write_of s ring src).memory)
 write_lent_says s ring src r after memory p = p
 
-pub read_lent_says : (s : RingBufferScheduler) (ring dst : List ℕ) (r : Told) (after : RingBufferScheduler) (memory : List ℕ) → ReadLeaves s ring dst r after memory →
+pub read_lent_says : (s : RingBufferScheduler) (ring dst : List ℕ) (r : Result Portion Refusal) (after : RingBufferScheduler) (memory : List ℕ) → ReadLeaves s ring dst r after memory →
     (r ≡ told_of (read_of s ring dst).answer) × (after ≡ record_after s (read_of s ring dst).answer) × (memory ≡ (read_of s ring dst).memory)
 read_lent_says s ring dst r after memory p = p

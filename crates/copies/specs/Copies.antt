@@ -1,37 +1,34 @@
 -- What a copy answers, and what it leaves in the lent memory.
-use Rattle.std.specs.Prelude.{ℕ, ◌+◌, cond, List, ◌++◌, eqb, length, take, drop}
+use Rattle.std.specs.Prelude.{ℕ, ◌+◌, cond, List, ◌++◌, eqb, length, take, drop, Result, Ok, Err}
 use Rattle.operations.specs.declared.operation.OperationType.TheVariants.{Read, Write}
-use Rattle.sched.specs.declared.scheduler.Checked.{Checked}
-use Rattle.sched.specs.declared.scheduler.Checked.TheVariants as checked
 use Rattle.sched.specs.declared.register.Move.{Move}
 use Rattle.sched.specs.declared.scheduler.RingBufferScheduler.{RingBufferScheduler}
 use Rattle.sched.specs.Scheduler.{sound_of, move_in}
-use Rattle.copies.specs.declared.Copied.{Copied}
-use Rattle.copies.specs.declared.Copied.TheVariants as copied
-use Rattle.copies.specs.declared.Ready.{Ready}
-use Rattle.copies.specs.declared.Ready.TheVariants as ready
 use Rattle.copies.specs.declared.refusal.Refusal.TheVariants.{Scheduler, RingMemory}
 use Rattle.copies.specs.Ring.{put, get}
+use Rattle.copies.specs.declared.Copied.{Copied}
+use Rattle.copies.specs.declared.refusal.Refusal as copies
+use Rattle.operations.specs.declared.refusal.Refusal.{Refusal}
 
 -- 1 to 5 and 20, then 9 where the lent ring memory is not L bytes
-unfoldable pub ready_from : ℕ → Checked → Ready
-ready_from n (checked.Sound s) = cond (eqb n s.buf_len) (ready.Sound s) (ready.Refused RingMemory)
-ready_from n (checked.Refused e) = ready.Refused (Scheduler e)
+unfoldable pub ready_from : ℕ → Result RingBufferScheduler Refusal → Result RingBufferScheduler copies.Refusal
+ready_from n (Ok s) = cond (eqb n s.buf_len) (Ok s) (Err RingMemory)
+ready_from n (Err e) = Err (Scheduler e)
 
-abbrev pub ready_of : RingBufferScheduler → ℕ → Ready
+abbrev pub ready_of : RingBufferScheduler → ℕ → Result RingBufferScheduler copies.Refusal
 ready_of s n = ready_from n (sound_of s)
 
 -- what a copy leaves: its answer, which holds the record, and the lent memory that it may change
 pub record Left : Type 0 where
-  pub answer : Copied
+  pub answer : Result Copied copies.Refusal
   pub memory : List ℕ
 
-abbrev pub left : Copied → List ℕ → Left
+abbrev pub left : Result Copied copies.Refusal → List ℕ → Left
 left a m = record { answer = a; memory = m }
 
 -- what a move comes to, once its bytes are copied: how many were moved and how many left over are the scheduler's
-abbrev pub moved_by : Move → Copied
-moved_by m = copied.Moved m.scheduler m.portion
+abbrev pub moved_by : Move → Result Copied copies.Refusal
+moved_by m = Ok (record { scheduler = m.scheduler; portion = m.portion })
 
 -- a write moves the front of the source to the cells from the offset on
 abbrev pub write_by : Move → ℕ → List ℕ → List ℕ → Left
@@ -48,13 +45,13 @@ abbrev pub read_in : RingBufferScheduler → List ℕ → List ℕ → Left
 read_in s ring dst = read_by (move_in s Read (length dst)) s.buf_len ring dst
 
 -- a refused copy leaves the memory as it was
-abbrev pub write_from : List ℕ → List ℕ → Ready → Left
-write_from ring src (ready.Sound s) = write_in s ring src
-write_from ring src (ready.Refused e) = left (copied.Refused e) ring
+abbrev pub write_from : List ℕ → List ℕ → Result RingBufferScheduler copies.Refusal → Left
+write_from ring src (Ok s) = write_in s ring src
+write_from ring src (Err e) = left (Err e) ring
 
-abbrev pub read_from : List ℕ → List ℕ → Ready → Left
-read_from ring dst (ready.Sound s) = read_in s ring dst
-read_from ring dst (ready.Refused e) = left (copied.Refused e) dst
+abbrev pub read_from : List ℕ → List ℕ → Result RingBufferScheduler copies.Refusal → Left
+read_from ring dst (Ok s) = read_in s ring dst
+read_from ring dst (Err e) = left (Err e) dst
 
 abbrev pub write_of : RingBufferScheduler → List ℕ → List ℕ → Left
 write_of s ring src = write_from ring src (ready_of s (length ring))

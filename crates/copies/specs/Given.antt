@@ -1,19 +1,13 @@
 -- The paper's table of the numbers that refuse a copy: when each is given, and with which values. 1 to 5 and 20 are the scheduler's,
 -- then comes 9, and there is no other.
-use Rattle.std.specs.Prelude.{ℕ, ◌<◌, ◌≡◌, ◌≢◌, List, []}
-use Rattle.sched.specs.declared.scheduler.Checked.{Checked}
-use Rattle.sched.specs.declared.scheduler.Checked.TheVariants as checked
+use Rattle.std.specs.Prelude.{ℕ, ◌<◌, ◌≡◌, ◌≢◌, List, [], Result, Ok, Err}
 use Rattle.sched.specs.declared.scheduler.RingBufferScheduler.{RingBufferScheduler}
 use Rattle.operations.specs.Refusal as sched
 use Rattle.sched.specs.Scheduler.{IsSound}
 use Rattle.sched.specs.Given.{Given}
-use Rattle.copies.specs.declared.Copied.{Copied}
-use Rattle.copies.specs.declared.Copied.TheVariants as copied
-use Rattle.copies.specs.declared.lent.Told.{Told}
-use Rattle.copies.specs.declared.lent.Told.TheVariants as told
-use Rattle.copies.specs.declared.Ready.{Ready}
-use Rattle.copies.specs.declared.Ready.TheVariants as ready
 use Rattle.copies.specs.Refusal.{number_of, values_of}
+use Rattle.copies.specs.declared.refusal.Refusal as copies
+use Rattle.operations.specs.declared.refusal.Refusal.{Refusal}
 
 -- ---- what a caller is told: a number and its values, 0 and none where nothing is refused
 pub record Verdict : Type 0 where
@@ -35,19 +29,11 @@ module _ (s : RingBufferScheduler) (n : ℕ) where
     by_scheduler : {k : ℕ} {vs : List ℕ} → 0 < k → Given s k vs → GivenCopy k vs
     given_9 : IsSound s → n ≢ s.buf_len → GivenCopy 9 []
 
--- ---- the verdict in each kind of answer
-abbrev pub of_checked : Checked → Verdict
-of_checked (checked.Sound s) = verdict 0 []
-of_checked (checked.Refused e) = verdict (sched.number_of e) (sched.values_of e)
+-- ---- the verdict in an answer, whatever it is of
+abbrev pub of_scheduler : {A : Type 0} → Result A Refusal → Verdict
+of_scheduler (Ok s) = verdict 0 []
+of_scheduler (Err e) = verdict (sched.number_of e) (sched.values_of e)
 
-abbrev pub of_ready : Ready → Verdict
-of_ready (ready.Sound s) = verdict 0 []
-of_ready (ready.Refused e) = verdict (number_of e) (values_of e)
-
-abbrev pub of_copied : Copied → Verdict
-of_copied (copied.Moved s p) = verdict 0 []
-of_copied (copied.Refused e) = verdict (number_of e) (values_of e)
-
-abbrev pub of_told : Told → Verdict
-of_told (told.Moved p) = verdict 0 []
-of_told (told.Refused e) = verdict (number_of e) (values_of e)
+abbrev pub of_copy : {A : Type 0} → Result A copies.Refusal → Verdict
+of_copy (Ok s) = verdict 0 []
+of_copy (Err e) = verdict (number_of e) (values_of e)

@@ -1,5 +1,5 @@
 -- What a copy promises of the memory before and after it, in other words than those of its definition.
-use Rattle.std.specs.Prelude.{ℕ, ◌+◌, ◌*◌, ◌%◌, ◌^◌, ◌<◌, min, ◌≡◌, ◌≢◌, List, length, get_or, take, drop}
+use Rattle.std.specs.Prelude.{ℕ, ◌+◌, ◌*◌, ◌%◌, ◌^◌, ◌<◌, min, ◌≡◌, ◌≢◌, List, length, get_or, take, drop, Result, Ok, Err}
 use Rattle.operations.specs.declared.operation.OperationType.TheVariants.{Read, Write}
 use Rattle.operations.specs.declared.portion.Portion.{Portion}
 use Rattle.operations.specs.Promise.{LeftOver}
@@ -7,11 +7,8 @@ use Rattle.sched.specs.declared.scheduler.RingBufferScheduler.{RingBufferSchedul
 use Rattle.sched.specs.Promise.{MovedBy}
 use Rattle.sched.specs.Scheduler.{greatest_in, offset_in}
 use Rattle.copies.specs.declared.refusal.Refusal.{Refusal}
-use Rattle.copies.specs.declared.Copied.{Copied}
-use Rattle.copies.specs.declared.Copied.TheVariants as copied
-use Rattle.copies.specs.declared.lent.Told.{Told}
-use Rattle.copies.specs.declared.lent.Told.TheVariants as told
 use Rattle.copies.specs.Ring.{get}
+use Rattle.copies.specs.declared.Copied.{Copied}
 
 -- ---- numbers
 -- the cell k of a ring of length L
@@ -41,32 +38,32 @@ module _ (s : RingBufferScheduler) (ring : List ℕ) where
   -- A write is refused, and changes neither the scheduler nor the memory. Or it moves exactly the smaller of what is asked and
   -- the greatest length, which is what is registered, and leaves the others over; the front of the source then stands in its cells,
   -- and no other changed.
-  pub data Writes (src : List ℕ) : Told → RingBufferScheduler → List ℕ → Type 0 where
-    refuses : (e : Refusal) → Writes src (told.Refused e) s ring
+  pub data Writes (src : List ℕ) : Result Portion Refusal → RingBufferScheduler → List ℕ → Type 0 where
+    refuses : (e : Refusal) → Writes src (Err e) s ring
     moves : (n : Portion) (after : RingBufferScheduler) (memory : List ℕ) →
         n.len ≡ min (length src) (greatest_in s Write) →
         LeftOver (length src) (greatest_in s Write) n.len n.remainder →
         MovedBy s Write n.len after →
         get s.buf_len memory (offset_in s Write).0 n.len ≡ take n.len src →
         OnlyCells s.buf_len (offset_in s Write).0 n.len ring memory →
-        Writes src (told.Moved n) after memory
+        Writes src (Ok n) after memory
 
   -- A read likewise: the front of the destination then holds what stands in its cells, and the rest of it stays.
-  pub data Reads (dst : List ℕ) : Told → RingBufferScheduler → List ℕ → Type 0 where
-    refuses : (e : Refusal) → Reads dst (told.Refused e) s dst
+  pub data Reads (dst : List ℕ) : Result Portion Refusal → RingBufferScheduler → List ℕ → Type 0 where
+    refuses : (e : Refusal) → Reads dst (Err e) s dst
     moves : (n : Portion) (after : RingBufferScheduler) (memory : List ℕ) →
         n.len ≡ min (length dst) (greatest_in s Read) →
         LeftOver (length dst) (greatest_in s Read) n.len n.remainder →
         MovedBy s Read n.len after →
         take n.len memory ≡ get s.buf_len ring (offset_in s Read).0 n.len →
         OnlyFront n.len dst memory →
-        Reads dst (told.Moved n) after memory
+        Reads dst (Ok n) after memory
 
 -- so of an answer by value, which holds the record after and the portion; a refused one leaves the record
-abbrev pub CopyWrites : RingBufferScheduler → List ℕ → List ℕ → Copied → List ℕ → Type 0
-CopyWrites s ring src (copied.Moved u p) memory = Writes s ring src (told.Moved p) u memory
-CopyWrites s ring src (copied.Refused e) memory = Writes s ring src (told.Refused e) s memory
+abbrev pub CopyWrites : RingBufferScheduler → List ℕ → List ℕ → Result Copied Refusal → List ℕ → Type 0
+CopyWrites s ring src (Ok m) memory = Writes s ring src (Ok m.portion) m.scheduler memory
+CopyWrites s ring src (Err e) memory = Writes s ring src (Err e) s memory
 
-abbrev pub CopyReads : RingBufferScheduler → List ℕ → List ℕ → Copied → List ℕ → Type 0
-CopyReads s ring dst (copied.Moved u p) memory = Reads s ring dst (told.Moved p) u memory
-CopyReads s ring dst (copied.Refused e) memory = Reads s ring dst (told.Refused e) s memory
+abbrev pub CopyReads : RingBufferScheduler → List ℕ → List ℕ → Result Copied Refusal → List ℕ → Type 0
+CopyReads s ring dst (Ok m) memory = Reads s ring dst (Ok m.portion) m.scheduler memory
+CopyReads s ring dst (Err e) memory = Reads s ring dst (Err e) s memory

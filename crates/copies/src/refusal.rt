@@ -1,6 +1,7 @@
 // Why a copy refuses, by number and values.
 ghost use Rattle.std.specs.Prelude.{◌≡◌};
 ghost use Rattle.operations.specs.Refusal.{packed};
+ghost use Rattle.copies.specs.declared.refusal.Refusal.TheVariants.{Scheduler};
 ghost use Rattle.copies.specs.Refusal.{number_of, values_of};
 
 use sched::Values;
@@ -12,6 +13,16 @@ pub enum Refusal {
     RingMemory,
 }
 
+// What the scheduler refuses is told as it is.
+impl From<sched::Refusal> for Refusal {
+    ghost from_gives = { λ e r. r ≡ Scheduler e };
+
+    fn from(e: sched::Refusal) -> Refusal {
+        Refusal::Scheduler(e)
+    }
+}
+
+// No derive knows the paper's numbers, and a trait over the refusals of both crates would be longer than two arms.
 impl Refusal {
     pub fn number(self) -> u64
         ensures { result ≡ number_of self }

@@ -1,4 +1,5 @@
 -- The held fill, of the runs: the record of a receiver that an accepted run answers passes every test, 20 among them.
+use Rattle.std.proofs.Common.{Result, Ok, Err}
 use Prim.Native.Nat.{ℕ, ◌+◌}
 use mathlib.Core.Path.{◌≡◌, sym, subst}
 use mathlib.Core.Bool.{false}
@@ -13,10 +14,6 @@ use Rattle.receiver.specs.Handed.{sent_by}
 use Rattle.receiver.specs.declared.call.Call.{Call}
 use Rattle.receiver.specs.declared.call.Phase.{Phase}
 use Rattle.receiver.specs.declared.call.Phase.TheVariants as phase
-use Rattle.receiver.specs.declared.call.Step.{Step}
-use Rattle.receiver.specs.declared.call.Step.TheVariants.{Of, Refused}
-use Rattle.receiver.specs.declared.receiver.Ended.{Ended}
-use Rattle.receiver.specs.declared.receiver.Ended.TheVariants as ended
 use Rattle.receiver.specs.declared.receiver.ReceiverState.{ReceiverState}
 use Rattle.receiver.proofs.CaseSteps.{made_takes}
 use Rattle.receiver.proofs.Made.{Made}
@@ -28,16 +25,18 @@ use Rattle.driver.specs.Promise.{MayLeave}
 use Rattle.driver.specs.Run.{read_of}
 use Rattle.driver.proofs.Along.{Holds, driven_holds}
 use Rattle.driver.proofs.PromisedSum.{left_by}
+use Rattle.receiver.specs.declared.receiver.Ended.{Ended}
+use Rattle.states.specs.declared.refusal.Refusal.{Refusal}
 
-abbrev pub Holding : Ended → Type 0
-Holding (ended.Accepted q o used) = Passes q.scheduler
-Holding (ended.Refused r) = Unit {0}
+abbrev pub Holding : Result Ended Refusal → Type 0
+Holding (Ok m) = Passes m.receiver.scheduler
+Holding (Err r) = Unit {0}
 
 module _ (ring : List ℕ) where
   abbrev Kept : Call → ℕ → Type 0
   Kept c n = Sound c
 
-  keeps : (c : Call) → Made c → over_of c ≡ false → (n : ℕ) → Kept c n → (a : Answer) (place : ℕ) (d : Call) → answered_of c ring a place ≡ Of d → Kept d (n + sent_by a)
+  keeps : (c : Call) → Made c → over_of c ≡ false → (n : ℕ) → Kept c n → (a : Answer) (place : ℕ) (d : Call) → answered_of c ring a place ≡ Ok d → Kept d (n + sent_by a)
   keeps c m w n h a place d e = takes_sound c ring a d h c.phase (subst (Goes (Takes c ring a)) e (made_takes c m ring a place))
 
   ended_by_lem : (c : Call) (i : ℕ) (ph : Phase) → Sound c → Holding (ended_by ph c i)
@@ -46,23 +45,23 @@ module _ (ring : List ℕ) where
   ended_by_lem c i (phase.Shutdown e) h = tt
   ended_by_lem c i (phase.Finished o) h = passes c.receiver.scheduler h
 
-  ended_for_lem : (x : Step) (i n : ℕ) → Holds ring Kept keeps x n → Holding (ended_for x i)
-  ended_for_lem (Of c) i n h = ended_by_lem c i c.phase h.1
-  ended_for_lem (Refused r) i n h = tt
+  ended_for_lem : (x : Result Call Refusal) (i n : ℕ) → Holds ring Kept keeps x n → Holding (ended_for x i)
+  ended_for_lem (Ok c) i n h = ended_by_lem c i c.phase h.1
+  ended_for_lem (Err r) i n h = tt
 
-  begun : (x : Step) → MadeBy x → Goes Sound x → Holds ring Kept keeps x 0
-  begun (Of c) m h = (m, h)
-  begun (Refused r) m h = tt
+  begun : (x : Result Call Refusal) → MadeBy x → Goes Sound x → Holds ring Kept keeps x 0
+  begun (Ok c) m h = (m, h)
+  begun (Err r) m h = tt
 
-  run_holds : (x : Step) → MadeBy x → Goes Sound x → (answers : List Answer) → Holding (ended_of (driven_of x ring answers))
+  run_holds : (x : Result Call Refusal) → MadeBy x → Goes Sound x → (answers : List Answer) → Holding (ended_of (driven_of x ring answers))
   run_holds x m h answers = let d = driven_of x ring answers in ended_for_lem d.step d.used _ (driven_holds ring Kept keeps x answers (begun x m h))
 
 read_holds : (q : ReceiverState) (ring : List ℕ) (asked top : ℕ) (answers : List Answer) → Holding (ended_of (read_of q ring asked top answers))
 read_holds q ring asked top answers = run_holds ring (begin_read_of q (length ring) top asked) (begin_read_made q (length ring) top asked) (read_begun_sound q (length ring) top asked) answers
 
-turned_holds : (r : Ended) → Holding r → Holding (end_of_stream_in r)
-turned_holds (ended.Accepted q o used) h = h
-turned_holds (ended.Refused r) h = tt
+turned_holds : (r : Result Ended Refusal) → Holding r → Holding (end_of_stream_in r)
+turned_holds (Ok m) h = h
+turned_holds (Err r) h = tt
 
 call_holds : (q : ReceiverState) (c : Asked) → Holding (ends_of q c)
 call_holds q (services answers) = run_holds [] (begin_service_of q) (service_made q) (service_begun_sound q) answers
@@ -71,5 +70,5 @@ call_holds q (reads_impl ring asked top answers) = read_holds q ring asked top a
 call_holds q (reads ring asked top answers) = turned_holds (ended_of (read_of q ring asked top answers)) (read_holds q ring asked top answers)
 
 -- ---- of the calls: the four runs, over any memory and answers
-pub run_passes : (q : ReceiverState) (c : Asked) (r : Ended) → MayLeave q c r → Holding r
+pub run_passes : (q : ReceiverState) (c : Asked) (r : Result Ended Refusal) → MayLeave q c r → Holding r
 run_passes q c r p = subst Holding (sym (left_by q c r p)) (call_holds q c)

@@ -1,12 +1,12 @@
 -- The pending count over any list of calls: what it was, and one for each chunk that was handed out whole, less all that was sent.
-use Rattle.std.specs.Prelude.{ℕ, ◌+◌, List, [], ◌∷◌, take}
+use Rattle.std.specs.Prelude.{ℕ, ◌+◌, List, [], ◌∷◌, take, Result, Ok, Err}
 use Rattle.receiver.specs.Handed.{sent_by, whole_in}
 use Rattle.states.specs.declared.answer.Answer.{Answer}
-use Rattle.receiver.specs.declared.receiver.Ended.{Ended}
-use Rattle.receiver.specs.declared.receiver.Ended.TheVariants.{Accepted, Refused}
 use Rattle.receiver.specs.declared.receiver.ReceiverState.{ReceiverState}
 use Rattle.driver.specs.Drive.{ended_of, end_of_stream_in}
 use Rattle.driver.specs.Run.{service_of, shutdown_of, read_of}
+use Rattle.receiver.specs.declared.receiver.Ended.{Ended}
+use Rattle.states.specs.declared.refusal.Refusal.{Refusal}
 
 -- a call, with what is lent to it: the ring, the destination's length and the most descriptors of a read, and the answers
 pub data Asked : Type 0 where
@@ -16,7 +16,7 @@ pub data Asked : Type 0 where
   shuts : List Answer → Asked
 
 -- what it leaves
-abbrev pub ends_of : ReceiverState → Asked → Ended
+abbrev pub ends_of : ReceiverState → Asked → Result Ended Refusal
 ends_of q (reads ring asked top answers) = end_of_stream_in (ended_of (read_of q ring asked top answers))
 ends_of q (reads_impl ring asked top answers) = ended_of (read_of q ring asked top answers)
 ends_of q (services answers) = service_of q answers
@@ -34,20 +34,20 @@ sent_in [] = 0
 sent_in (a ∷ rest) = sent_by a + sent_in rest
 
 -- of a call: what it sent, by the answers that it used; whether it handed a chunk out whole; the record after it
-abbrev pub sent_over : List Answer → Ended → ℕ
-sent_over answers (Accepted q o used) = sent_in (take used answers)
-sent_over answers (Refused r) = 0
+abbrev pub sent_over : List Answer → Result Ended Refusal → ℕ
+sent_over answers (Ok m) = sent_in (take m.used answers)
+sent_over answers (Err r) = 0
 
-abbrev pub whole_over : Ended → ℕ
-whole_over (Accepted q o used) = whole_in q o
-whole_over (Refused r) = 0
+abbrev pub whole_over : Result Ended Refusal → ℕ
+whole_over (Ok m) = whole_in m.receiver m.outcome
+whole_over (Err r) = 0
 
-abbrev pub next_over : ReceiverState → Ended → ReceiverState
-next_over q (Accepted r o used) = r
-next_over q (Refused r) = q
+abbrev pub next_over : ReceiverState → Result Ended Refusal → ReceiverState
+next_over q (Ok m) = m.receiver
+next_over q (Err r) = q
 
 -- ---- over a list of calls: `ends` is what each leaves
-module _ (ends : ReceiverState → Asked → Ended) where
+module _ (ends : ReceiverState → Asked → Result Ended Refusal) where
   abbrev pub next_of : ReceiverState → Asked → ReceiverState
   next_of q c = next_over q (ends q c)
 

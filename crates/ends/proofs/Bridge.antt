@@ -1,5 +1,6 @@
 -- Demand 3 is about the calls: of any six functions whose outcomes the attached contracts allow, and in the statement no
 -- definition of a call is named. The bridge is six lines: whatever such a contract allows is what `plain` does.
+use Rattle.std.proofs.Common.{Result}
 use Prim.Native.Nat.{ℕ}
 use mathlib.Core.Path.{◌≡◌, refl, sym, subst}
 use mathlib.Core.List.{List, []}
@@ -9,13 +10,9 @@ use denote.MutBor.{MutBor}
 use denote.Triple.Clauses.{at_exit}
 use borrow.Fn.Kinds.{ended_of}
 use Rattle.ends.specs.declared.writing_end.WrittenCounter.{WrittenCounter}
-use Rattle.ends.specs.declared.writing_end.WrittenCounterAnswer.{WrittenCounterAnswer}
 use Rattle.ends.specs.declared.writing_end.WritingEnd.{WritingEnd}
-use Rattle.ends.specs.declared.writing_end.WritingEndAnswer.{WritingEndAnswer}
 use Rattle.ends.specs.declared.reading_end.ReadCounter.{ReadCounter}
-use Rattle.ends.specs.declared.reading_end.ReadCounterAnswer.{ReadCounterAnswer}
 use Rattle.ends.specs.declared.reading_end.ReadingEnd.{ReadingEnd}
-use Rattle.ends.specs.declared.reading_end.ReadingEndAnswer.{ReadingEndAnswer}
 use Rattle.ends.specs.Ends.{WroteLeft, GotLeft}
 use Rattle.ends.specs.Plain.{Calls, definitions, Demand3-of}
 use Rattle.ends.proofs.Plain.{demand3_plain}
@@ -31,6 +28,7 @@ use Rattle.ends.proofs.writing_end.WritingEnd.take.Kinds as take_w_kinds
 use Rattle.ends.proofs.writing_end.WritingEnd.take.Reads as take_w
 use Rattle.ends.proofs.reading_end.ReadingEnd.take.Kinds as take_r_kinds
 use Rattle.ends.proofs.reading_end.ReadingEnd.take.Reads as take_r
+use Rattle.ends.specs.declared.refusal.Refusal.{Refusal}
 
 -- ---- the outcomes that the attached contracts allow on these values, wherever the memory is that is lent
 abbrev Address : Type 0
@@ -57,16 +55,16 @@ MayRead e ring dst x =
     read.Learnt κs (e, (shown p ring, (lent q dst, tt))) x.answer
     (at_exit (ended_of 2 read_kinds.ps read_kinds.r) κs (e, (shown p ring, (lent q dst, tt))) (tt, (tt, (x.memory, tt))))
 
-abbrev pub MaySendW : WritingEnd → WrittenCounterAnswer → Type 0
+abbrev pub MaySendW : WritingEnd → Result WrittenCounter Refusal → Type 0
 MaySendW e z = send_w.Learnt tt (e, tt) z (at_exit (ended_of 0 send_w_kinds.ps send_w_kinds.r) tt (e, tt) (tt, tt))
 
-abbrev pub MaySendR : ReadingEnd → ReadCounterAnswer → Type 0
+abbrev pub MaySendR : ReadingEnd → Result ReadCounter Refusal → Type 0
 MaySendR e z = send_r.Learnt tt (e, tt) z (at_exit (ended_of 0 send_r_kinds.ps send_r_kinds.r) tt (e, tt) (tt, tt))
 
-abbrev pub MayTakeW : WritingEnd → ReadCounter → WritingEndAnswer → Type 0
+abbrev pub MayTakeW : WritingEnd → ReadCounter → Result WritingEnd Refusal → Type 0
 MayTakeW e n z = take_w.Learnt tt (e, (n, tt)) z (at_exit (ended_of 0 take_w_kinds.ps take_w_kinds.r) tt (e, (n, tt)) (tt, (tt, tt)))
 
-abbrev pub MayTakeR : ReadingEnd → WrittenCounter → ReadingEndAnswer → Type 0
+abbrev pub MayTakeR : ReadingEnd → WrittenCounter → Result ReadingEnd Refusal → Type 0
 MayTakeR e n z = take_r.Learnt tt (e, (n, tt)) z (at_exit (ended_of 0 take_r_kinds.ps take_r_kinds.r) tt (e, (n, tt)) (tt, (tt, tt)))
 
 pub record Allowed (c : Calls) : Type 0 where
@@ -84,16 +82,16 @@ write_is e ring src x (κs, p, q, may) = may
 pub read_is : (e : ReadingEnd) (ring dst : List ℕ) (x : GotLeft) → MayRead e ring dst x → x ≡ definitions.read e ring dst
 read_is e ring dst x (κs, p, q, may) = may
 
-pub send_w_is : (e : WritingEnd) (z : WrittenCounterAnswer) → MaySendW e z → z ≡ definitions.send_w e
+pub send_w_is : (e : WritingEnd) (z : Result WrittenCounter Refusal) → MaySendW e z → z ≡ definitions.send_w e
 send_w_is e z may = may
 
-pub send_r_is : (e : ReadingEnd) (z : ReadCounterAnswer) → MaySendR e z → z ≡ definitions.send_r e
+pub send_r_is : (e : ReadingEnd) (z : Result ReadCounter Refusal) → MaySendR e z → z ≡ definitions.send_r e
 send_r_is e z may = may
 
-pub take_w_is : (e : WritingEnd) (n : ReadCounter) (z : WritingEndAnswer) → MayTakeW e n z → z ≡ definitions.take_w e n
+pub take_w_is : (e : WritingEnd) (n : ReadCounter) (z : Result WritingEnd Refusal) → MayTakeW e n z → z ≡ definitions.take_w e n
 take_w_is e n z may = may
 
-pub take_r_is : (e : ReadingEnd) (n : WrittenCounter) (z : ReadingEndAnswer) → MayTakeR e n z → z ≡ definitions.take_r e n
+pub take_r_is : (e : ReadingEnd) (n : WrittenCounter) (z : Result ReadingEnd Refusal) → MayTakeR e n z → z ≡ definitions.take_r e n
 take_r_is e n z may = may
 
 calls_are : (c : Calls) → Allowed c → definitions ≡ c

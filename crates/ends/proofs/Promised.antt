@@ -1,4 +1,5 @@
 -- The calls of the ends keep what specs/Promises.antt says: whatever an attached contract allows.
+use Rattle.std.proofs.Common.{Result, Ok, Err}
 use Prim.Native.Nat.{ℕ, ◌≤◌, ◌<◌}
 use mathlib.Core.Path.{◌≡◌, refl, sym, ap, subst, ◌∙◌}
 use mathlib.Core.Bool.{Bool, true, false, cond}
@@ -10,12 +11,8 @@ use lib.ListN.{length}
 use borrow.Author.Tests.{ltb-true, ltb-false}
 use Rattle.operations.specs.declared.operation.OperationType.{OperationType}
 use Rattle.operations.specs.declared.operation.OperationType.TheVariants.{Read, Write}
-use Rattle.sched.specs.declared.scheduler.Checked.{Checked}
-use Rattle.sched.specs.declared.scheduler.Checked.TheVariants as checked
 use Rattle.sched.specs.declared.scheduler.RingBufferScheduler.{RingBufferScheduler}
 use Rattle.operations.specs.declared.counter.Counter.{Counter}
-use Rattle.operations.specs.declared.counter.CounterAnswer.{CounterAnswer}
-use Rattle.operations.specs.declared.counter.CounterAnswer.TheVariants as counter
 use Rattle.sched.specs.Scheduler.{scheduler_of, IsSound, sound_of, counter_in, data_in, space_in, greatest_in, tested, with_counter_of}
 use Rattle.modular.proofs.Saying.{Keeps}
 use Rattle.sched.specs.Given.{GivenCounters, counted, given_1, given_2, given_3, given_4, given_5, GivenWith, new}
@@ -23,25 +20,19 @@ use Rattle.sched.specs.Promise.{Built, Replaced}
 use Rattle.operations.proofs.Given.{number_some}
 use Rattle.sched.proofs.Given.{counters_exactly, with_exactly}
 use Rattle.sched.proofs.PromisedFill.{built, built_is, built_counted, replaced}
-use Rattle.copies.specs.declared.Copied.{Copied}
-use Rattle.copies.specs.declared.Copied.TheVariants as copied
 use Rattle.copies.specs.declared.refusal.Refusal.TheVariants.{Scheduler}
 use Rattle.copies.specs.Copies.{write_of, read_of}
 use Rattle.copies.specs.Lent.{told_of, record_after}
-use Rattle.copies.specs.Given.{Verdict, verdict, Exactly, GivenCopy, of_checked, of_copied}
+use Rattle.copies.specs.Given.{Verdict, verdict, Exactly, GivenCopy, of_copy, of_scheduler}
 use Rattle.copies.specs.Promises.{Writes, Reads}
 use Rattle.copies.proofs.Promised.{KeepsLeft, Checks, passes, fails, checks, as_checked, checked_given, written_given, got_given, written_promised, got_promised, write_left, read_left}
 use Rattle.ends.specs.declared.refusal.Refusal.TheVariants.{Copy, RanBack}
 use Rattle.ends.specs.declared.writing_end.WrittenCounter.{WrittenCounter}
 use Rattle.ends.specs.declared.writing_end.WritingEnd.{WritingEnd}
-use Rattle.ends.specs.declared.writing_end.WritingEndAnswer.TheVariants as writing
-use Rattle.ends.specs.declared.writing_end.WrittenCounterAnswer.TheVariants as written_counter
 use Rattle.ends.specs.declared.reading_end.ReadCounter.{ReadCounter}
 use Rattle.ends.specs.declared.reading_end.ReadingEnd.{ReadingEnd}
-use Rattle.ends.specs.declared.reading_end.ReadingEndAnswer.TheVariants as reading
-use Rattle.ends.specs.declared.reading_end.ReadCounterAnswer.TheVariants as read_counter
 use Rattle.ends.specs.Ends.{writing_end, reading_end, writing_end_from, reading_end_from, wrote_from, got_from, written_sent_from, read_sent_from, take_read_from, take_written_from}
-use Rattle.ends.specs.Promises.{GivenTake, takes, by_record, given_10, refused_by, of_writing_end, of_reading_end, of_wrote, of_got, of_written, of_read, EndWrites, EndReads, BuiltW, BuiltR, MadeW, MadeR, SentW, SentR, TookW, TookR}
+use Rattle.ends.specs.Promises.{GivenTake, takes, by_record, given_10, refused_by, EndWrites, EndReads, BuiltW, BuiltR, MadeW, MadeR, SentW, SentR, TookW, TookR, of_end}
 use Rattle.ends.proofs.Says.{WritingEnd-new-says, WritingEnd-from-counters-says, WritingEnd-from-scheduler-says, ReadingEnd-new-says, ReadingEnd-from-counters-says, ReadingEnd-from-scheduler-says, WritingEnd-write-says, ReadingEnd-read-says, WritingEnd-send-says, ReadingEnd-send-says, WritingEnd-take-says, ReadingEnd-take-says}
 use Rattle.ends.proofs.writing_end.WritingEnd.new.Kinds as new_w_kinds
 use Rattle.ends.proofs.writing_end.WritingEnd.new.Reads as new_w
@@ -67,104 +58,107 @@ use Rattle.ends.proofs.writing_end.WritingEnd.take.Kinds as take_w_kinds
 use Rattle.ends.proofs.writing_end.WritingEnd.take.Reads as take_w
 use Rattle.ends.proofs.reading_end.ReadingEnd.take.Kinds as take_r_kinds
 use Rattle.ends.proofs.reading_end.ReadingEnd.take.Reads as take_r
+use Rattle.copies.specs.declared.Copied.{Copied}
+use Rattle.copies.specs.declared.refusal.Refusal as copies
+use Rattle.operations.specs.declared.refusal.Refusal.{Refusal}
 
 -- ---- what an end asks, of the tests' answer
-abbrev counter_by : OperationType → Checked → CounterAnswer
-counter_by t c = tested c (λ s. counter.Of (counter_in s t)) counter.Refused
+abbrev counter_by : OperationType → Result RingBufferScheduler Refusal → Result Counter Refusal
+counter_by t c = tested c (λ s. Ok (counter_in s t)) Err
 
 -- ---- of the definitions: each answer's verdict is that of what it is made of
-writing_same : (c : Checked) → of_checked c ≡ of_writing_end (writing_end_from c)
-writing_same (checked.Sound s) = refl
-writing_same (checked.Refused e) = refl
+writing_same : (c : Result RingBufferScheduler Refusal) → of_scheduler c ≡ of_end (writing_end_from c)
+writing_same (Ok s) = refl
+writing_same (Err e) = refl
 
-reading_same : (c : Checked) → of_checked c ≡ of_reading_end (reading_end_from c)
-reading_same (checked.Sound s) = refl
-reading_same (checked.Refused e) = refl
+reading_same : (c : Result RingBufferScheduler Refusal) → of_scheduler c ≡ of_end (reading_end_from c)
+reading_same (Ok s) = refl
+reading_same (Err e) = refl
 
-written_same : (c : Checked) → of_checked c ≡ of_written (written_sent_from (counter_by Write c))
-written_same (checked.Sound s) = refl
-written_same (checked.Refused e) = refl
+written_same : (c : Result RingBufferScheduler Refusal) → of_scheduler c ≡ of_end (written_sent_from (counter_by Write c))
+written_same (Ok s) = refl
+written_same (Err e) = refl
 
-read_same : (c : Checked) → of_checked c ≡ of_read (read_sent_from (counter_by Read c))
-read_same (checked.Sound s) = refl
-read_same (checked.Refused e) = refl
+read_same : (c : Result RingBufferScheduler Refusal) → of_scheduler c ≡ of_end (read_sent_from (counter_by Read c))
+read_same (Ok s) = refl
+read_same (Err e) = refl
 
-wrote_same : (c : Copied) → of_copied c ≡ of_wrote (wrote_from c)
-wrote_same (copied.Moved s p) = refl
-wrote_same (copied.Refused e) = refl
+wrote_same : (c : Result Copied copies.Refusal) → of_copy c ≡ of_end (wrote_from c)
+wrote_same (Ok m) = refl
+wrote_same (Err e) = refl
 
-got_same : (c : Copied) → of_copied c ≡ of_got (got_from c)
-got_same (copied.Moved s p) = refl
-got_same (copied.Refused e) = refl
+got_same : (c : Result Copied copies.Refusal) → of_copy c ≡ of_end (got_from c)
+got_same (Ok m) = refl
+got_same (Err e) = refl
 
-wrote_promised : (e : WritingEnd) (ring src : List ℕ) (c : Copied) (memory : List ℕ) → Writes e.scheduler ring src (told_of c) (record_after e.scheduler c) memory → EndWrites e ring src (wrote_from c) memory
-wrote_promised e ring src (copied.Moved s p) memory w = w
-wrote_promised e ring src (copied.Refused r) memory w = write_left e.scheduler ring src r e.scheduler memory w
+wrote_promised : (e : WritingEnd) (ring src : List ℕ) (c : Result Copied copies.Refusal) (memory : List ℕ) → Writes e.scheduler ring src (told_of c) (record_after e.scheduler c) memory → EndWrites e ring src (wrote_from c) memory
+wrote_promised e ring src (Ok m) memory w = w
+wrote_promised e ring src (Err r) memory w = write_left e.scheduler ring src r e.scheduler memory w
 
-got_end_promised : (e : ReadingEnd) (ring dst : List ℕ) (c : Copied) (memory : List ℕ) → Reads e.scheduler ring dst (told_of c) (record_after e.scheduler c) memory → EndReads e ring dst (got_from c) memory
-got_end_promised e ring dst (copied.Moved s p) memory w = w
-got_end_promised e ring dst (copied.Refused r) memory w = read_left e.scheduler ring dst r e.scheduler memory w
+got_end_promised : (e : ReadingEnd) (ring dst : List ℕ) (c : Result Copied copies.Refusal) (memory : List ℕ) → Reads e.scheduler ring dst (told_of c) (record_after e.scheduler c) memory → EndReads e ring dst (got_from c) memory
+got_end_promised e ring dst (Ok m) memory w = w
+got_end_promised e ring dst (Err r) memory w = read_left e.scheduler ring dst r e.scheduler memory w
 
 -- of the scheduler's tests: refused by their table, or made of the record that passes
 never : {A : Type 0} → ◌≡◌ {A = ℕ} 0 1 → A
 never z = absurd (omega arith)
 
-made_w : (s : RingBufferScheduler) (c : Checked) → Checks s c → MadeW s (writing_end_from c)
+made_w : (s : RingBufferScheduler) (c : Result RingBufferScheduler Refusal) → Checks s c → MadeW s (writing_end_from c)
 made_w s c k = (rw (← writing_same c) (checked_given s c k), holds c k)
   where
-    holds : (c : Checked) → Checks s c → (e : WritingEnd) → writing_end_from c ≡ writing.Of e → e.scheduler ≡ s
+    holds : (c : Result RingBufferScheduler Refusal) → Checks s c → (e : WritingEnd) → writing_end_from c ≡ Ok e → e.scheduler ≡ s
     holds c (passes h) e q = let p : e ≡ writing_end s = cc in ap (λ (x : WritingEnd). x.scheduler) p
-    holds c (fails r p) e q = let z : ◌≡◌ {A = ℕ} 0 1 = cc in never z
+    holds c (fails r p) e q = cc
 
-made_r : (s : RingBufferScheduler) (c : Checked) → Checks s c → MadeR s (reading_end_from c)
+made_r : (s : RingBufferScheduler) (c : Result RingBufferScheduler Refusal) → Checks s c → MadeR s (reading_end_from c)
 made_r s c k = (rw (← reading_same c) (checked_given s c k), holds c k)
   where
-    holds : (c : Checked) → Checks s c → (e : ReadingEnd) → reading_end_from c ≡ reading.Of e → e.scheduler ≡ s
+    holds : (c : Result RingBufferScheduler Refusal) → Checks s c → (e : ReadingEnd) → reading_end_from c ≡ Ok e → e.scheduler ≡ s
     holds c (passes h) e q = let p : e ≡ reading_end s = cc in ap (λ (x : ReadingEnd). x.scheduler) p
-    holds c (fails r p) e q = let z : ◌≡◌ {A = ℕ} 0 1 = cc in never z
+    holds c (fails r p) e q = cc
 
-built_w : (l : ℕ) (w r : Counter) (c : Checked) → sound_of (scheduler_of l w r) ≡ c → BuiltW l w r (writing_end_from c)
+built_w : (l : ℕ) (w r : Counter) (c : Result RingBufferScheduler Refusal) → sound_of (scheduler_of l w r) ≡ c → BuiltW l w r (writing_end_from c)
 built_w l w r c q = (rw (← writing_same c, ← q) (as_checked (sound_of (scheduler_of l w r)) (counters_exactly l w r)), holds c q)
   where
-    holds : (c : Checked) → sound_of (scheduler_of l w r) ≡ c → (e : WritingEnd) → writing_end_from c ≡ writing.Of e → Built l w r e.scheduler
-    holds (checked.Sound u) q e p = let f : e ≡ writing_end u = cc in subst (λ (x : WritingEnd). Built l w r x.scheduler) (sym f) (built l w r u q)
-    holds (checked.Refused x) q e p = let z : ◌≡◌ {A = ℕ} 0 1 = cc in never z
+    holds : (c : Result RingBufferScheduler Refusal) → sound_of (scheduler_of l w r) ≡ c → (e : WritingEnd) → writing_end_from c ≡ Ok e → Built l w r e.scheduler
+    holds (Ok u) q e p = let f : e ≡ writing_end u = cc in subst (λ (x : WritingEnd). Built l w r x.scheduler) (sym f) (built l w r u q)
+    holds (Err x) q e p = cc
 
-built_r : (l : ℕ) (w r : Counter) (c : Checked) → sound_of (scheduler_of l w r) ≡ c → BuiltR l w r (reading_end_from c)
+built_r : (l : ℕ) (w r : Counter) (c : Result RingBufferScheduler Refusal) → sound_of (scheduler_of l w r) ≡ c → BuiltR l w r (reading_end_from c)
 built_r l w r c q = (rw (← reading_same c, ← q) (as_checked (sound_of (scheduler_of l w r)) (counters_exactly l w r)), holds c q)
   where
-    holds : (c : Checked) → sound_of (scheduler_of l w r) ≡ c → (e : ReadingEnd) → reading_end_from c ≡ reading.Of e → Built l w r e.scheduler
-    holds (checked.Sound u) q e p = let f : e ≡ reading_end u = cc in subst (λ (x : ReadingEnd). Built l w r x.scheduler) (sym f) (built l w r u q)
-    holds (checked.Refused x) q e p = let z : ◌≡◌ {A = ℕ} 0 1 = cc in never z
+    holds : (c : Result RingBufferScheduler Refusal) → sound_of (scheduler_of l w r) ≡ c → (e : ReadingEnd) → reading_end_from c ≡ Ok e → Built l w r e.scheduler
+    holds (Ok u) q e p = let f : e ≡ reading_end u = cc in subst (λ (x : ReadingEnd). Built l w r x.scheduler) (sym f) (built l w r u q)
+    holds (Err x) q e p = cc
 
-sent_w : (e : WritingEnd) (c : Checked) → Checks e.scheduler c → SentW e (written_sent_from (counter_by Write c))
+sent_w : (e : WritingEnd) (c : Result RingBufferScheduler Refusal) → Checks e.scheduler c → SentW e (written_sent_from (counter_by Write c))
 sent_w e c k = (rw (← written_same c) (checked_given e.scheduler c k), own_counter c k)
   where
-    own_counter : (c : Checked) → Checks e.scheduler c → (n : WrittenCounter) → written_sent_from (counter_by Write c) ≡ written_counter.Of n → n.0 ≡ e.scheduler.items_written
+    own_counter : (c : Result RingBufferScheduler Refusal) → Checks e.scheduler c → (n : WrittenCounter) → written_sent_from (counter_by Write c) ≡ Ok n → n.0 ≡ e.scheduler.items_written
     own_counter c (passes h) n q = let p : n ≡ record { 0 = e.scheduler.items_written } = cc in ap (λ (x : WrittenCounter). x.0) p
-    own_counter c (fails r p) n q = let z : ◌≡◌ {A = ℕ} 0 1 = cc in never z
+    own_counter c (fails r p) n q = cc
 
-sent_r : (e : ReadingEnd) (c : Checked) → Checks e.scheduler c → SentR e (read_sent_from (counter_by Read c))
+sent_r : (e : ReadingEnd) (c : Result RingBufferScheduler Refusal) → Checks e.scheduler c → SentR e (read_sent_from (counter_by Read c))
 sent_r e c k = (rw (← read_same c) (checked_given e.scheduler c k), own_counter c k)
   where
-    own_counter : (c : Checked) → Checks e.scheduler c → (n : ReadCounter) → read_sent_from (counter_by Read c) ≡ read_counter.Of n → n.0 ≡ e.scheduler.items_read
+    own_counter : (c : Result RingBufferScheduler Refusal) → Checks e.scheduler c → (n : ReadCounter) → read_sent_from (counter_by Read c) ≡ Ok n → n.0 ≡ e.scheduler.items_read
     own_counter c (passes h) n q = let p : n ≡ record { 0 = e.scheduler.items_read } = cc in ap (λ (x : ReadCounter). x.0) p
-    own_counter c (fails r p) n q = let z : ◌≡◌ {A = ℕ} 0 1 = cc in never z
+    own_counter c (fails r p) n q = cc
 
 -- ---- taking
 module _ (s : RingBufferScheduler) (t other : OperationType) (c : Counter) where
-  abbrev of_taking : Checked → Verdict
-  of_taking (checked.Sound u) = cond (ltb (greatest_in u t) (greatest_in s t)) (verdict 10 []) (verdict 0 [])
-  of_taking (checked.Refused e) = refused_by (Copy (Scheduler e))
+  abbrev of_taking : Result RingBufferScheduler Refusal → Verdict
+  of_taking (Ok u) = cond (ltb (greatest_in u t) (greatest_in s t)) (verdict 10 []) (verdict 0 [])
+  of_taking (Err e) = refused_by (Copy (Scheduler e))
 
-  with_given : Exactly (GivenWith s other c) (of_checked (with_counter_of s other c))
+  with_given : Exactly (GivenWith s other c) (of_scheduler (with_counter_of s other c))
   with_given = as_checked (with_counter_of s other c) (with_exactly s c other)
 
-  number_is : (x : Checked) → with_counter_of s other c ≡ x → (k : ℕ) (vs : List ℕ) → GivenWith s other c k vs → (of_checked x).number ≡ k
-  number_is x p k vs g = ap (λ (y : Checked). (of_checked y).number) (sym p) ∙ ap (λ (v : Verdict). v.number) (with_given.always k vs g)
+  number_is : (x : Result RingBufferScheduler Refusal) → with_counter_of s other c ≡ x → (k : ℕ) (vs : List ℕ) → GivenWith s other c k vs → (of_scheduler x).number ≡ k
+  number_is x p k vs g = ap (λ (y : Result RingBufferScheduler Refusal). (of_scheduler y).number) (sym p) ∙ ap (λ (v : Verdict). v.number) (with_given.always k vs g)
 
-  taking : (x : Checked) → with_counter_of s other c ≡ x → Exactly (GivenTake s t other c) (of_taking x)
-  taking (checked.Sound u) p = by (ltb (greatest_in u t) (greatest_in s t)) refl
+  taking : (x : Result RingBufferScheduler Refusal) → with_counter_of s other c ≡ x → Exactly (GivenTake s t other c) (of_taking x)
+  taking (Ok u) p = by (ltb (greatest_in u t) (greatest_in s t)) refl
     where
       r : IsSound s × Replaced s other c u
       r = replaced s other c u p
@@ -173,7 +167,7 @@ module _ (s : RingBufferScheduler) (t other : OperationType) (c : Counter) where
       same v q = ap (λ (x : RingBufferScheduler). greatest_in x t) (built_is _ _ _ v q ∙ sym (built_is _ _ _ u r.1))
 
       none : {A : Type 0} {k : ℕ} {vs : List ℕ} → 0 < k → GivenWith s other c k vs → A
-      none {k = k} {vs} l g = absurd (omega (arith, number_is (checked.Sound u) p k vs g))
+      none {k = k} {vs} l g = absurd (omega (arith, number_is (Ok u) p k vs g))
 
       back : greatest_in u t < greatest_in s t → {k : ℕ} {vs : List ℕ} → GivenTake s t other c k vs → verdict 10 [] ≡ verdict k vs
       back lt (takes i v q le) = absurd (omega (arith, same v q))
@@ -188,54 +182,54 @@ module _ (s : RingBufferScheduler) (t other : OperationType) (c : Counter) where
       by : (b : Bool) → ltb (greatest_in u t) (greatest_in s t) ≡ b → Exactly (GivenTake s t other c) (cond (ltb (greatest_in u t) (greatest_in s t)) (verdict 10 []) (verdict 0 []))
       by true q = rw q (record { only = given_10 r.0 u r.1 (ltb-true _ _ q); always = λ k vs f. back (ltb-true _ _ q) f })
       by false q = rw q (record { only = takes r.0 u r.1 (ltb-false _ _ q); always = λ k vs f. on (ltb-false _ _ q) f })
-  taking (checked.Refused e) p = record { only = by_record (number_some e) (rw p at with_given.only); always = λ k vs f. so f }
+  taking (Err e) p = record { only = by_record (number_some e) (rw p at with_given.only); always = λ k vs f. so f }
     where
       not : {A : Type 0} → IsSound s → (v : RingBufferScheduler) → Replaced s other c v → A
-      not h v q = absurd (omega (arith, number_some e, number_is (checked.Refused e) p 0 [] (new h (counted (built_counted _ _ _ v q)))))
+      not h v q = absurd (omega (arith, number_some e, number_is (Err e) p 0 [] (new h (counted (built_counted _ _ _ v q)))))
 
       so : {k : ℕ} {vs : List ℕ} → GivenTake s t other c k vs → refused_by (Copy (Scheduler e)) ≡ verdict k vs
       so (takes i v q le) = not i v q
       so {k} {vs} (by_record l g) = rw p at (with_given.always k vs g)
       so (given_10 i v q lt) = not i v q
 
-took_w : (e : WritingEnd) (c : ReadCounter) (x : Checked) → with_counter_of e.scheduler Read c.0 ≡ x → TookW e c (take_read_from e.scheduler x)
+took_w : (e : WritingEnd) (c : ReadCounter) (x : Result RingBufferScheduler Refusal) → with_counter_of e.scheduler Read c.0 ≡ x → TookW e c (take_read_from e.scheduler x)
 unfolding take_read_from
 took_w e c x p = (rw (told x) (taking e.scheduler Write Read c.0 x p), holds x p)
   where
-    told : (x : Checked) → of_writing_end (take_read_from e.scheduler x) ≡ of_taking e.scheduler Write Read c.0 x
-    told (checked.Refused r) = refl
-    told (checked.Sound u) = by (ltb (space_in u) (space_in e.scheduler))
+    told : (x : Result RingBufferScheduler Refusal) → of_end (take_read_from e.scheduler x) ≡ of_taking e.scheduler Write Read c.0 x
+    told (Err r) = refl
+    told (Ok u) = by (ltb (space_in u) (space_in e.scheduler))
       where
-        by : (b : Bool) → of_writing_end (cond b (writing.Refused RanBack) (writing.Of (writing_end u))) ≡ cond b (verdict 10 []) (verdict 0 [])
+        by : (b : Bool) → of_end (cond b (Err RanBack) (Ok (writing_end u))) ≡ cond b (verdict 10 []) (verdict 0 [])
         by true = refl
         by false = refl
 
-    holds : (x : Checked) → with_counter_of e.scheduler Read c.0 ≡ x → (f : WritingEnd) → take_read_from e.scheduler x ≡ writing.Of f → Replaced e.scheduler Read c.0 f.scheduler
-    holds (checked.Refused r) q f m = let z : ◌≡◌ {A = ℕ} 0 1 = cc in never z
-    holds (checked.Sound u) q f m = by (ltb (space_in u) (space_in e.scheduler)) m
+    holds : (x : Result RingBufferScheduler Refusal) → with_counter_of e.scheduler Read c.0 ≡ x → (f : WritingEnd) → take_read_from e.scheduler x ≡ Ok f → Replaced e.scheduler Read c.0 f.scheduler
+    holds (Err r) q f m = cc
+    holds (Ok u) q f m = by (ltb (space_in u) (space_in e.scheduler)) m
       where
-        by : (b : Bool) → cond b (writing.Refused RanBack) (writing.Of (writing_end u)) ≡ writing.Of f → Replaced e.scheduler Read c.0 f.scheduler
-        by true m = let z : ◌≡◌ {A = ℕ} 0 1 = cc in never z
+        by : (b : Bool) → cond b (Err RanBack) (Ok (writing_end u)) ≡ Ok f → Replaced e.scheduler Read c.0 f.scheduler
+        by true m = cc
         by false m = let g : f ≡ writing_end u = cc in subst (λ (y : WritingEnd). Replaced e.scheduler Read c.0 y.scheduler) (sym g) (replaced e.scheduler Read c.0 u q).1
 
-took_r : (e : ReadingEnd) (c : WrittenCounter) (x : Checked) → with_counter_of e.scheduler Write c.0 ≡ x → TookR e c (take_written_from e.scheduler x)
+took_r : (e : ReadingEnd) (c : WrittenCounter) (x : Result RingBufferScheduler Refusal) → with_counter_of e.scheduler Write c.0 ≡ x → TookR e c (take_written_from e.scheduler x)
 unfolding take_written_from
 took_r e c x p = (rw (told x) (taking e.scheduler Read Write c.0 x p), holds x p)
   where
-    told : (x : Checked) → of_reading_end (take_written_from e.scheduler x) ≡ of_taking e.scheduler Read Write c.0 x
-    told (checked.Refused r) = refl
-    told (checked.Sound u) = by (ltb (data_in u) (data_in e.scheduler))
+    told : (x : Result RingBufferScheduler Refusal) → of_end (take_written_from e.scheduler x) ≡ of_taking e.scheduler Read Write c.0 x
+    told (Err r) = refl
+    told (Ok u) = by (ltb (data_in u) (data_in e.scheduler))
       where
-        by : (b : Bool) → of_reading_end (cond b (reading.Refused RanBack) (reading.Of (reading_end u))) ≡ cond b (verdict 10 []) (verdict 0 [])
+        by : (b : Bool) → of_end (cond b (Err RanBack) (Ok (reading_end u))) ≡ cond b (verdict 10 []) (verdict 0 [])
         by true = refl
         by false = refl
 
-    holds : (x : Checked) → with_counter_of e.scheduler Write c.0 ≡ x → (f : ReadingEnd) → take_written_from e.scheduler x ≡ reading.Of f → Replaced e.scheduler Write c.0 f.scheduler
-    holds (checked.Refused r) q f m = let z : ◌≡◌ {A = ℕ} 0 1 = cc in never z
-    holds (checked.Sound u) q f m = by (ltb (data_in u) (data_in e.scheduler)) m
+    holds : (x : Result RingBufferScheduler Refusal) → with_counter_of e.scheduler Write c.0 ≡ x → (f : ReadingEnd) → take_written_from e.scheduler x ≡ Ok f → Replaced e.scheduler Write c.0 f.scheduler
+    holds (Err r) q f m = cc
+    holds (Ok u) q f m = by (ltb (data_in u) (data_in e.scheduler)) m
       where
-        by : (b : Bool) → cond b (reading.Refused RanBack) (reading.Of (reading_end u)) ≡ reading.Of f → Replaced e.scheduler Write c.0 f.scheduler
-        by true m = let z : ◌≡◌ {A = ℕ} 0 1 = cc in never z
+        by : (b : Bool) → cond b (Err RanBack) (Ok (reading_end u)) ≡ Ok f → Replaced e.scheduler Write c.0 f.scheduler
+        by true m = cc
         by false m = let g : f ≡ reading_end u = cc in subst (λ (y : ReadingEnd). Replaced e.scheduler Write c.0 y.scheduler) (sym g) (replaced e.scheduler Write c.0 u q).1
 
 -- the own record passes, so of the new one's numbers only those of the new counter are left
@@ -275,20 +269,20 @@ pub ReadingEnd-from-scheduler-promised : Keeps 0 scheduler_r_kinds.ps scheduler_
 ReadingEnd-from-scheduler-promised κs a z (ws, p) = rw (ReadingEnd-from-scheduler-says κs a z ws p) (made_r a.0 _ (checks a.0))
 
 pub WritingEnd-write-promised : KeepsLeft 2 write_kinds.ps write_kinds.r write.Learnt
-    (λ κs a z ws. Exactly (GivenCopy a.0.scheduler (length a.1.0.now)) (of_wrote z) × EndWrites a.0 a.1.0.now a.1.1.0.now z ws.1.0)
+    (λ κs a z ws. Exactly (GivenCopy a.0.scheduler (length a.1.0.now)) (of_end z) × EndWrites a.0 a.1.0.now a.1.1.0.now z ws.1.0)
 WritingEnd-write-promised κs a z ws p =
     let q = WritingEnd-write-says κs a z ws p in
-    let c : Copied = (write_of a.0.scheduler a.1.0.now a.1.1.0.now).answer in
+    let c : Result Copied copies.Refusal = (write_of a.0.scheduler a.1.0.now a.1.1.0.now).answer in
     rw (q.0, q.1) (
       rw (← wrote_same c) (written_given a.0.scheduler a.1.0.now a.1.1.0.now),
       wrote_promised a.0 a.1.0.now a.1.1.0.now c _ (written_promised a.0.scheduler a.1.0.now a.1.1.0.now),
     )
 
 pub ReadingEnd-read-promised : KeepsLeft 2 read_kinds.ps read_kinds.r read.Learnt
-    (λ κs a z ws. Exactly (GivenCopy a.0.scheduler (length a.1.0.now)) (of_got z) × EndReads a.0 a.1.0.now a.1.1.0.now z ws.1.1.0)
+    (λ κs a z ws. Exactly (GivenCopy a.0.scheduler (length a.1.0.now)) (of_end z) × EndReads a.0 a.1.0.now a.1.1.0.now z ws.1.1.0)
 ReadingEnd-read-promised κs a z ws p =
     let q = ReadingEnd-read-says κs a z ws p in
-    let c : Copied = (read_of a.0.scheduler a.1.0.now a.1.1.0.now).answer in
+    let c : Result Copied copies.Refusal = (read_of a.0.scheduler a.1.0.now a.1.1.0.now).answer in
     rw (q.0, q.1) (
       rw (← got_same c) (got_given a.0.scheduler a.1.0.now a.1.1.0.now),
       got_end_promised a.0 a.1.0.now a.1.1.0.now c _ (got_promised a.0.scheduler a.1.0.now a.1.1.0.now),

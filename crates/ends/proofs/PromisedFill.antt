@@ -1,10 +1,9 @@
 -- The held fill, of the ends' calls: the record of an end that an accepted call answers passes every test, 20 among them.
+use Rattle.std.proofs.Common.{Result, Ok, Err}
 use mathlib.Core.Path.{◌≡◌, subst, sym, refl}
 use mathlib.Core.List.{List}
 use Prim.Native.Nat.{ℕ}
 use Rattle.modular.proofs.Saying.{Keeps}
-use Rattle.copies.specs.declared.lent.Told.TheVariants as told
-use Rattle.sched.specs.declared.scheduler.Checked.{Checked}
 use Rattle.sched.specs.Given.{Passes}
 use Rattle.sched.specs.Promise.{Taken}
 use Rattle.sched.proofs.Counting.{taken_sound}
@@ -15,15 +14,7 @@ use Rattle.copies.proofs.PromisedFill.{writes_hold, reads_hold}
 use Rattle.ends.specs.Ends.{writing_end_from, reading_end_from}
 use Rattle.ends.specs.Promises.{EndWrites, EndReads}
 use Rattle.ends.specs.declared.writing_end.WritingEnd.{WritingEnd}
-use Rattle.ends.specs.declared.writing_end.WritingEndAnswer.{WritingEndAnswer}
-use Rattle.ends.specs.declared.writing_end.WritingEndAnswer.TheVariants as writing
-use Rattle.ends.specs.declared.writing_end.Wrote.{Wrote}
-use Rattle.ends.specs.declared.writing_end.Wrote.TheVariants as wrote
 use Rattle.ends.specs.declared.reading_end.ReadingEnd.{ReadingEnd}
-use Rattle.ends.specs.declared.reading_end.ReadingEndAnswer.{ReadingEndAnswer}
-use Rattle.ends.specs.declared.reading_end.ReadingEndAnswer.TheVariants as reading
-use Rattle.ends.specs.declared.reading_end.Got.{Got}
-use Rattle.ends.specs.declared.reading_end.Got.TheVariants as got
 use Rattle.ends.proofs.Promised.{WritingEnd-new-promised, WritingEnd-from-counters-promised, WritingEnd-write-promised, WritingEnd-take-promised, ReadingEnd-new-promised, ReadingEnd-from-counters-promised, ReadingEnd-read-promised, ReadingEnd-take-promised}
 use Rattle.ends.proofs.Says.{WritingEnd-from-scheduler-says, ReadingEnd-from-scheduler-says}
 use Rattle.ends.proofs.writing_end.WritingEnd.new.Kinds as new_w_kinds
@@ -46,39 +37,44 @@ use Rattle.ends.proofs.reading_end.ReadingEnd.read.Kinds as read_kinds
 use Rattle.ends.proofs.reading_end.ReadingEnd.read.Reads as read
 use Rattle.ends.proofs.reading_end.ReadingEnd.take.Kinds as take_r_kinds
 use Rattle.ends.proofs.reading_end.ReadingEnd.take.Reads as take_r
+use Rattle.ends.specs.declared.reading_end.Got.{Got}
+use Rattle.sched.specs.declared.scheduler.RingBufferScheduler.{RingBufferScheduler}
+use Rattle.ends.specs.declared.writing_end.Wrote.{Wrote}
+use Rattle.ends.specs.declared.refusal.Refusal as ends
+use Rattle.operations.specs.declared.refusal.Refusal.{Refusal}
 
-abbrev pub HoldingW : WritingEndAnswer → Type 0
-HoldingW (writing.Of e) = Passes e.scheduler
-HoldingW (writing.Refused r) = Unit {0}
+abbrev pub HoldingW : Result WritingEnd ends.Refusal → Type 0
+HoldingW (Ok e) = Passes e.scheduler
+HoldingW (Err r) = Unit {0}
 
-abbrev pub HoldingR : ReadingEndAnswer → Type 0
-HoldingR (reading.Of e) = Passes e.scheduler
-HoldingR (reading.Refused r) = Unit {0}
+abbrev pub HoldingR : Result ReadingEnd ends.Refusal → Type 0
+HoldingR (Ok e) = Passes e.scheduler
+HoldingR (Err r) = Unit {0}
 
-abbrev pub WroteHolding : Wrote → Type 0
-WroteHolding (wrote.Moved e p) = Passes e.scheduler
-WroteHolding (wrote.Refused r) = Unit {0}
+abbrev pub WroteHolding : Result Wrote ends.Refusal → Type 0
+WroteHolding (Ok m) = Passes m.end.scheduler
+WroteHolding (Err r) = Unit {0}
 
-abbrev pub GotHolding : Got → Type 0
-GotHolding (got.Moved e p) = Passes e.scheduler
-GotHolding (got.Refused r) = Unit {0}
+abbrev pub GotHolding : Result Got ends.Refusal → Type 0
+GotHolding (Ok m) = Passes m.end.scheduler
+GotHolding (Err r) = Unit {0}
 
 -- ---- from what is promised of them
-holds_W : (z : WritingEndAnswer) → ((e : WritingEnd) → z ≡ writing.Of e → Taken e.scheduler) → HoldingW z
-holds_W (writing.Of e) h = passes e.scheduler (taken_sound e.scheduler (h e refl))
-holds_W (writing.Refused r) h = tt
+holds_W : (z : Result WritingEnd ends.Refusal) → ((e : WritingEnd) → z ≡ Ok e → Taken e.scheduler) → HoldingW z
+holds_W (Ok e) h = passes e.scheduler (taken_sound e.scheduler (h e refl))
+holds_W (Err r) h = tt
 
-holds_R : (z : ReadingEndAnswer) → ((e : ReadingEnd) → z ≡ reading.Of e → Taken e.scheduler) → HoldingR z
-holds_R (reading.Of e) h = passes e.scheduler (taken_sound e.scheduler (h e refl))
-holds_R (reading.Refused r) h = tt
+holds_R : (z : Result ReadingEnd ends.Refusal) → ((e : ReadingEnd) → z ≡ Ok e → Taken e.scheduler) → HoldingR z
+holds_R (Ok e) h = passes e.scheduler (taken_sound e.scheduler (h e refl))
+holds_R (Err r) h = tt
 
-wrote_holds : (e : WritingEnd) (ring src : List ℕ) (z : Wrote) (memory : List ℕ) → EndWrites e ring src z memory → WroteHolding z
-wrote_holds e ring src (wrote.Moved f p) memory w = writes_hold e.scheduler ring src (told.Moved p) f.scheduler memory w
-wrote_holds e ring src (wrote.Refused r) memory w = tt
+wrote_holds : (e : WritingEnd) (ring src : List ℕ) (z : Result Wrote ends.Refusal) (memory : List ℕ) → EndWrites e ring src z memory → WroteHolding z
+wrote_holds e ring src (Ok m) memory w = writes_hold e.scheduler ring src (Ok m.portion) m.end.scheduler memory w
+wrote_holds e ring src (Err r) memory w = tt
 
-got_holds : (e : ReadingEnd) (ring dst : List ℕ) (z : Got) (memory : List ℕ) → EndReads e ring dst z memory → GotHolding z
-got_holds e ring dst (got.Moved f p) memory w = reads_hold e.scheduler ring dst (told.Moved p) f.scheduler memory w
-got_holds e ring dst (got.Refused r) memory w = tt
+got_holds : (e : ReadingEnd) (ring dst : List ℕ) (z : Result Got ends.Refusal) (memory : List ℕ) → EndReads e ring dst z memory → GotHolding z
+got_holds e ring dst (Ok m) memory w = reads_hold e.scheduler ring dst (Ok m.portion) m.end.scheduler memory w
+got_holds e ring dst (Err r) memory w = tt
 
 -- ---- made
 pub WritingEnd-new-passes : Keeps 0 new_w_kinds.ps new_w_kinds.r new_w.Learnt (λ κs a z. HoldingW z)
@@ -90,7 +86,7 @@ WritingEnd-from-counters-passes κs a z p = holds_W z (λ e q. ((WritingEnd-from
 pub WritingEnd-from-scheduler-passes : Keeps 0 scheduler_w_kinds.ps scheduler_w_kinds.r scheduler_w.Learnt (λ κs a z. HoldingW z)
 WritingEnd-from-scheduler-passes κs a z p = subst HoldingW (sym (WritingEnd-from-scheduler-says κs a z p.0 p.1)) (by _ (checks a.0))
   where
-    by : (c : Checked) → Checks a.0 c → HoldingW (writing_end_from c)
+    by : (c : Result RingBufferScheduler Refusal) → Checks a.0 c → HoldingW (writing_end_from c)
     by c (copy.passes h) = passes a.0 h
     by c (copy.fails r q) = tt
 
@@ -103,7 +99,7 @@ ReadingEnd-from-counters-passes κs a z p = holds_R z (λ e q. ((ReadingEnd-from
 pub ReadingEnd-from-scheduler-passes : Keeps 0 scheduler_r_kinds.ps scheduler_r_kinds.r scheduler_r.Learnt (λ κs a z. HoldingR z)
 ReadingEnd-from-scheduler-passes κs a z p = subst HoldingR (sym (ReadingEnd-from-scheduler-says κs a z p.0 p.1)) (by _ (checks a.0))
   where
-    by : (c : Checked) → Checks a.0 c → HoldingR (reading_end_from c)
+    by : (c : Result RingBufferScheduler Refusal) → Checks a.0 c → HoldingR (reading_end_from c)
     by c (copy.passes h) = passes a.0 h
     by c (copy.fails r q) = tt
 

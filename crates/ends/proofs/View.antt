@@ -1,5 +1,6 @@
 -- What the calls do to a record whose counters are positions seen modulo 2L: the positions w and r count all bytes since the
 -- counters stood at c. All arithmetic modulo 2L is here; what is built on it speaks of positions alone.
+use Rattle.std.proofs.Common.{Ok}
 use Prim.Native.Nat.{ℕ, ◌+◌, ◌*◌, ◌-◌, ◌%◌, ◌^◌, ◌≤◌, ◌<◌, min}
 use mathlib.Core.Path.{◌≡◌, refl}
 use mathlib.Core.List.{List, ◌++◌}
@@ -12,12 +13,9 @@ use Rattle.operations.specs.Portion.{portion_of}
 use Rattle.sched.specs.declared.scheduler.RingBufferScheduler.{RingBufferScheduler}
 use Rattle.sched.specs.Scheduler.{scheduler_of, IsSound, data_in, space_in}
 use Rattle.sched.proofs.Laws.{sound_is}
-use Rattle.copies.specs.declared.Copied.TheVariants as copied
 use Rattle.copies.specs.Ring.{put, get}
 use Rattle.copies.specs.Copies.{ready_from, left, write_of, read_of}
 use Rattle.copies.proofs.Ring.{put_place, get_place}
-use Rattle.ends.specs.declared.writing_end.WritingEndAnswer.TheVariants as writing
-use Rattle.ends.specs.declared.reading_end.ReadingEndAnswer.TheVariants as reading
 use Rattle.ends.specs.Ends.{writing_end, reading_end, take_read_from, take_read_of, take_written_from, take_written_of}
 
 -- the counter of a position
@@ -66,7 +64,7 @@ module _ (l c w r : ℕ) (h : Near l w r) where
 
   pub write_view : (ring src : List ℕ) → length ring ≡ l →
       write_of (view l c w r) ring src ≡
-      left (copied.Moved (view l c (w + min (length src) (l - (w - r))) r) (portion_of (length src) (l - (w - r))))
+      left (Ok (record { scheduler = view l c (w + min (length src) (l - (w - r))) r; portion = portion_of (length src) (l - (w - r)) }))
       (put l ring (c + w) (take (min (length src) (l - (w - r))) src))
   unfolding ready_from
   write_view ring src e =
@@ -82,7 +80,7 @@ module _ (l c w r : ℕ) (h : Near l w r) where
 
   pub read_view : (ring dst : List ℕ) → length ring ≡ l →
       read_of (view l c w r) ring dst ≡
-      left (copied.Moved (view l c w (r + min (length dst) (w - r))) (portion_of (length dst) (w - r)))
+      left (Ok (record { scheduler = view l c w (r + min (length dst) (w - r)); portion = portion_of (length dst) (w - r) }))
       (get l ring (c + r) (min (length dst) (w - r)) ++ drop (min (length dst) (w - r)) dst)
   unfolding ready_from
   read_view ring dst e =
@@ -98,7 +96,7 @@ module _ (l c w r : ℕ) (h : Near l w r) where
 
 -- a position that is not behind the last one heard is taken
 module _ (l c w r p : ℕ) (h : Near l w r) where
-  pub take_read_view : r ≤ p → p ≤ w → take_read_of (writing_end (view l c w r)) (record { 0 = record { 0 = seen l c p } }) ≡ writing.Of (writing_end (view l c w p))
+  pub take_read_view : r ≤ p → p ≤ w → take_read_of (writing_end (view l c w r)) (record { 0 = record { 0 = seen l c p } }) ≡ Ok (writing_end (view l c w p))
   unfolding take_read_from
   take_read_view lo hi =
       let n : Near l w p = record { pos = h.pos; top = h.top; low = hi; high = omega arith } in
@@ -106,7 +104,7 @@ module _ (l c w r p : ℕ) (h : Near l w r) where
       rw (le-ltb (space_in (view l c w p)) (space_in (view l c w r)) (omega (arith, space_view l c w r h, space_view l c w p n)))
       )
 
-  pub take_written_view : w ≤ p → p ≤ r + l → take_written_of (reading_end (view l c w r)) (record { 0 = record { 0 = seen l c p } }) ≡ reading.Of (reading_end (view l c p r))
+  pub take_written_view : w ≤ p → p ≤ r + l → take_written_of (reading_end (view l c w r)) (record { 0 = record { 0 = seen l c p } }) ≡ Ok (reading_end (view l c p r))
   unfolding take_written_from
   take_written_view lo hi =
       let n : Near l p r = record { pos = h.pos; top = h.top; low = omega arith; high = hi } in

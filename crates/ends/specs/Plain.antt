@@ -1,60 +1,51 @@
 -- The kind with plain counters: docs/PAPER.md, "Sending and taking".
-use Rattle.std.specs.Prelude.{ℕ, ◌≤◌, ◌<◌, ◌≡◌, List, length}
+use Rattle.std.specs.Prelude.{ℕ, ◌≤◌, ◌<◌, ◌≡◌, List, length, Result, Ok, Err}
 use Rattle.sched.specs.declared.scheduler.RingBufferScheduler.{RingBufferScheduler}
 use Rattle.sched.specs.Promise as promise
 use Rattle.ends.specs.declared.writing_end.WrittenCounter.{WrittenCounter}
-use Rattle.ends.specs.declared.writing_end.WrittenCounterAnswer.{WrittenCounterAnswer}
-use Rattle.ends.specs.declared.writing_end.WrittenCounterAnswer.TheVariants as written_counter
 use Rattle.ends.specs.declared.writing_end.WritingEnd.{WritingEnd}
-use Rattle.ends.specs.declared.writing_end.WritingEndAnswer.{WritingEndAnswer}
-use Rattle.ends.specs.declared.writing_end.WritingEndAnswer.TheVariants as writing
-use Rattle.ends.specs.declared.writing_end.Wrote.{Wrote}
-use Rattle.ends.specs.declared.writing_end.Wrote.TheVariants as wrote
 use Rattle.ends.specs.declared.reading_end.ReadCounter.{ReadCounter}
-use Rattle.ends.specs.declared.reading_end.ReadCounterAnswer.{ReadCounterAnswer}
-use Rattle.ends.specs.declared.reading_end.ReadCounterAnswer.TheVariants as read_counter
 use Rattle.ends.specs.declared.reading_end.ReadingEnd.{ReadingEnd}
-use Rattle.ends.specs.declared.reading_end.ReadingEndAnswer.{ReadingEndAnswer}
-use Rattle.ends.specs.declared.reading_end.ReadingEndAnswer.TheVariants as reading
-use Rattle.ends.specs.declared.reading_end.Got.{Got}
-use Rattle.ends.specs.declared.reading_end.Got.TheVariants as got
 use Rattle.ends.specs.Refusal.{number_of}
 use Rattle.ends.specs.Ends.{writing_end, reading_end, WroteLeft, wrote_of, GotLeft, got_of, written_sent_of, read_sent_of, take_read_of, take_written_of}
 use Rattle.ends.specs.World.{Kind, Copied, Taken, Sent, sent, unsent, done, refused, HoldsFrom}
+use Rattle.ends.specs.declared.reading_end.Got.{Got}
+use Rattle.ends.specs.declared.writing_end.Wrote.{Wrote}
+use Rattle.ends.specs.declared.refusal.Refusal.{Refusal}
 
 -- an answer of a call as one of the world's; a refused call leaves the caller's record as it was
-abbrev pub copied_w : WritingEnd → Wrote → List ℕ → Copied WritingEnd
-copied_w e (wrote.Moved f p) memory = record { answer = done p.len; end = f; memory = memory }
-copied_w e (wrote.Refused r) memory = record { answer = refused (number_of r); end = e; memory = memory }
+abbrev pub copied_w : WritingEnd → Result Wrote Refusal → List ℕ → Copied WritingEnd
+copied_w e (Ok m) memory = record { answer = done m.portion.len; end = m.end; memory = memory }
+copied_w e (Err r) memory = record { answer = refused (number_of r); end = e; memory = memory }
 
-abbrev pub copied_r : ReadingEnd → Got → List ℕ → Copied ReadingEnd
-copied_r e (got.Moved f p) memory = record { answer = done p.len; end = f; memory = memory }
-copied_r e (got.Refused r) memory = record { answer = refused (number_of r); end = e; memory = memory }
+abbrev pub copied_r : ReadingEnd → Result Got Refusal → List ℕ → Copied ReadingEnd
+copied_r e (Ok m) memory = record { answer = done m.portion.len; end = m.end; memory = memory }
+copied_r e (Err r) memory = record { answer = refused (number_of r); end = e; memory = memory }
 
-abbrev pub sent_w : WrittenCounterAnswer → Sent WrittenCounter
-sent_w (written_counter.Of c) = sent c
-sent_w (written_counter.Refused r) = unsent (number_of r)
+abbrev pub sent_w : Result WrittenCounter Refusal → Sent WrittenCounter
+sent_w (Ok c) = sent c
+sent_w (Err r) = unsent (number_of r)
 
-abbrev pub sent_r : ReadCounterAnswer → Sent ReadCounter
-sent_r (read_counter.Of c) = sent c
-sent_r (read_counter.Refused r) = unsent (number_of r)
+abbrev pub sent_r : Result ReadCounter Refusal → Sent ReadCounter
+sent_r (Ok c) = sent c
+sent_r (Err r) = unsent (number_of r)
 
-abbrev pub taken_w : WritingEnd → WritingEndAnswer → Taken WritingEnd
-taken_w e (writing.Of f) = record { answer = done 0; end = f }
-taken_w e (writing.Refused r) = record { answer = refused (number_of r); end = e }
+abbrev pub taken_w : WritingEnd → Result WritingEnd Refusal → Taken WritingEnd
+taken_w e (Ok f) = record { answer = done 0; end = f }
+taken_w e (Err r) = record { answer = refused (number_of r); end = e }
 
-abbrev pub taken_r : ReadingEnd → ReadingEndAnswer → Taken ReadingEnd
-taken_r e (reading.Of f) = record { answer = done 0; end = f }
-taken_r e (reading.Refused r) = record { answer = refused (number_of r); end = e }
+abbrev pub taken_r : ReadingEnd → Result ReadingEnd Refusal → Taken ReadingEnd
+taken_r e (Ok f) = record { answer = done 0; end = f }
+taken_r e (Err r) = record { answer = refused (number_of r); end = e }
 
 -- the six calls of the two ends, as functions: a call's answer, and what it leaves in the memory that it may change
 pub record Calls : Type 0 where
   pub write : WritingEnd → List ℕ → List ℕ → WroteLeft
   pub read : ReadingEnd → List ℕ → List ℕ → GotLeft
-  pub send_w : WritingEnd → WrittenCounterAnswer
-  pub send_r : ReadingEnd → ReadCounterAnswer
-  pub take_w : WritingEnd → ReadCounter → WritingEndAnswer
-  pub take_r : ReadingEnd → WrittenCounter → ReadingEndAnswer
+  pub send_w : WritingEnd → Result WrittenCounter Refusal
+  pub send_r : ReadingEnd → Result ReadCounter Refusal
+  pub take_w : WritingEnd → ReadCounter → Result WritingEnd Refusal
+  pub take_r : ReadingEnd → WrittenCounter → Result ReadingEnd Refusal
 
 -- A note's age is how many bytes its sender had moved. Notes come in order, so none is old, and no copy is left aside.
 abbrev pub kind_of : Calls → Kind

@@ -7,6 +7,6 @@ mod reading_end;
 mod refusal;
 mod writing_end;
 
-pub use reading_end::{Got, ReadCounter, ReadCounterAnswer, ReadingEnd, ReadingEndAnswer};
+pub use reading_end::{Got, ReadCounter, ReadingEnd};
 pub use refusal::Refusal;
-pub use writing_end::{WritingEnd, WritingEndAnswer, WrittenCounter, WrittenCounterAnswer, Wrote};
+pub use writing_end::{WritingEnd, WrittenCounter, Wrote};

@@ -1,6 +1,8 @@
 // Why an end refuses, with its number and values.
 ghost use Rattle.std.specs.Prelude.{◌≡◌};
 ghost use Rattle.operations.specs.Refusal.{packed};
+ghost use Rattle.copies.specs.declared.refusal.Refusal.TheVariants.{Scheduler};
+ghost use Rattle.ends.specs.declared.refusal.Refusal.TheVariants.{Copy};
 ghost use Rattle.ends.specs.Refusal.{number_of, values_of};
 
 use sched::Values;
@@ -12,6 +14,24 @@ pub enum Refusal {
     RanBack,
 }
 
+// What a copy refuses is told as it is, and so is what the scheduler refuses.
+impl From<copies::Refusal> for Refusal {
+    ghost from_gives = { λ e r. r ≡ Copy e };
+
+    fn from(e: copies::Refusal) -> Refusal {
+        Refusal::Copy(e)
+    }
+}
+
+impl From<sched::Refusal> for Refusal {
+    ghost from_gives = { λ e r. r ≡ Copy (Scheduler e) };
+
+    fn from(e: sched::Refusal) -> Refusal {
+        Refusal::Copy(copies::Refusal::Scheduler(e))
+    }
+}
+
+// No derive knows the paper's numbers, and a trait over the refusals of both crates would be longer than two arms.
 impl Refusal {
     pub fn number(self) -> u64
         ensures { result ≡ number_of self }

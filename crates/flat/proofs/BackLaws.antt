@@ -1,13 +1,10 @@
 -- Whatever goes out flat comes back in as it was: so a host drives a call in progress as the receiver itself would. That the fields
 -- have the right names is in StandsLaws.antt.
+use Rattle.std.proofs.Common.{Option, Some, None, ℕ}
 use Prim.Native.Nat.{ℕ}
 use mathlib.Core.Path.{◌≡◌, refl, ap}
 use mathlib.Core.Bool.{Bool, true, false}
 use mathlib.Core.List.{List}
-use Rattle.modular.specs.declared.OptionModulus.{OptionModulus}
-use Rattle.modular.specs.declared.OptionModulus.TheVariants as modulus
-use Rattle.modular.specs.declared.OptionNumber.{OptionNumber}
-use Rattle.modular.specs.declared.OptionNumber.TheVariants as number
 use Rattle.operations.specs.Refusal.{type_number}
 use Rattle.sched.specs.declared.block.Bit.{Bit}
 use Rattle.sched.specs.declared.block.Bit.TheVariants.{Zero, One}
@@ -21,13 +18,9 @@ use Rattle.sched.specs.declared.block.BufferLayout.TheVariants.{DataFreeData, Fr
 use Rattle.operations.specs.declared.diff.Diff.{Diff}
 use Rattle.operations.specs.declared.diff.Diff.TheVariants.{Same, Different}
 use Rattle.operations.specs.declared.list.CumulativeOffset.{CumulativeOffset}
-use Rattle.operations.specs.declared.list.CumulativeOffsets.{CumulativeOffsets}
-use Rattle.operations.specs.declared.list.CumulativeOffsets.TheVariants as starts
+use Rattle.operations.specs.Lists.{CumulativeOffsets, OutsideRanges, ScheduledOperations}
+use Rattle.operations.specs.declared.list.AtMostTwo.TheVariants as starts
 use Rattle.operations.specs.declared.list.OutsideRange.{OutsideRange}
-use Rattle.operations.specs.declared.list.OutsideRanges.{OutsideRanges}
-use Rattle.operations.specs.declared.list.OutsideRanges.TheVariants as ranges
-use Rattle.operations.specs.declared.list.ScheduledOperations.{ScheduledOperations}
-use Rattle.operations.specs.declared.list.ScheduledOperations.TheVariants as list
 use Rattle.operations.specs.declared.operation.ScheduledOperation.{ScheduledOperation}
 use Rattle.sched.specs.declared.scheduler.RingBufferScheduler.{RingBufferScheduler}
 use Rattle.ends.specs.declared.reading_end.ReadingEnd.{ReadingEnd}
@@ -72,17 +65,18 @@ use Rattle.flat.specs.Refusal.{scheduler_refusal_at, receiver_refusal_at}
 use Rattle.flat.specs.Scheduler.{scheduler_at, flat_scheduler}
 use Rattle.flat.specs.State.{state_at, flat_state}
 use Rattle.flat.specs.WritingEnd.{writing_end_at, flat_writing_end}
+use Rattle.modular.specs.declared.Modulus.{Modulus}
 
 -- ---- moduli and differences
-pub modulus_back_lem : (m : OptionModulus) → modulus_back (flat_modulus m) ≡ m
+pub modulus_back_lem : (m : Option Modulus) → modulus_back (flat_modulus m) ≡ m
 unfolding modulus_back
-modulus_back_lem (modulus.Some m) = refl
-modulus_back_lem modulus.None = refl
+modulus_back_lem (Some m) = refl
+modulus_back_lem None = refl
 
-pub number_back_lem : (n : OptionNumber) → number_back (flat_number n) ≡ n
+pub number_back_lem : (n : Option ℕ) → number_back (flat_number n) ≡ n
 unfolding number_back
-number_back_lem (number.Some n) = refl
-number_back_lem number.None = refl
+number_back_lem (Some n) = refl
+number_back_lem None = refl
 
 pub diff_back : (d : Diff) → diff_at (flat_diff d) ≡ d
 unfolding diff_at
@@ -109,9 +103,9 @@ operation_back o = rw (type_back o.typ)
 
 pub operations_back : (ops : ScheduledOperations) → operations_at (flat_operations ops) ≡ ops
 unfolding operations_at
-operations_back list.None = refl
-operations_back (list.One x) = ap list.One (operation_back x)
-operations_back (list.Two x y) = rw (operation_back x, operation_back y)
+operations_back starts.None = refl
+operations_back (starts.One x) = ap starts.One (operation_back x)
+operations_back (starts.Two x y) = rw (operation_back x, operation_back y)
 
 start_back : (x : CumulativeOffset) → start_at x.start (flat_operation x.op) ≡ x
 start_back x = rw (operation_back x.op)
@@ -127,9 +121,9 @@ range_back x = rw (operation_back x.op)
 
 pub ranges_back : (ops : OutsideRanges) → ranges_at (flat_ranges ops) ≡ ops
 unfolding ranges_at
-ranges_back ranges.None = refl
-ranges_back (ranges.One x) = ap ranges.One (range_back x)
-ranges_back (ranges.Two x y) = rw (range_back x, range_back y)
+ranges_back starts.None = refl
+ranges_back (starts.One x) = ap starts.One (range_back x)
+ranges_back (starts.Two x y) = rw (range_back x, range_back y)
 
 block_type_back : (t : BlockType) → block_type_at (block_type_number t) ≡ t
 unfolding block_type_at

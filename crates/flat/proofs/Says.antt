@@ -12,7 +12,7 @@ use Rattle.flat.specs.Modulus.{flat_modulus, flat_number}
 use Rattle.flat.specs.Operation.{flat_next, flat_operation, operation_at, type_at}
 use Rattle.flat.specs.ReadingEnd.{flat_got, flat_read_counter, flat_reading_end, flat_reading_end_answer, read_counter_at, reading_end_at}
 use Rattle.flat.specs.Receiver.{flat_ended, flat_receiver_answer, receiver_at}
-use Rattle.flat.specs.Scheduler.{flat_checked, flat_registered, scheduler_at}
+use Rattle.flat.specs.Scheduler.{flat_checked, scheduler_at}
 use Rattle.flat.specs.State.{flat_state_answer, state_at}
 use Rattle.flat.specs.WritingEnd.{flat_writing_end, flat_writing_end_answer, flat_written_counter, flat_wrote, writing_end_at, written_counter_at}
 use Rattle.flat.proofs.block.block_type.Kinds as block_type_kinds
@@ -103,8 +103,6 @@ use Rattle.flat.proofs.scheduler.scheduler.Kinds as scheduler_kinds
 use Rattle.flat.proofs.scheduler.scheduler.Reads as scheduler
 use Rattle.flat.proofs.scheduler.flat_checked.Kinds as flat_checked_kinds
 use Rattle.flat.proofs.scheduler.flat_checked.Reads as flat_checked_lem
-use Rattle.flat.proofs.scheduler.flat_registered.Kinds as flat_registered_kinds
-use Rattle.flat.proofs.scheduler.flat_registered.Reads as flat_registered_lem
 use Rattle.flat.proofs.state.state.Kinds as state_kinds
 use Rattle.flat.proofs.state.state.Reads as state
 use Rattle.flat.proofs.state.flat_state_answer.Kinds as flat_state_answer_kinds
@@ -266,9 +264,6 @@ scheduler_says κs a z ws p = p
 
 pub flat_checked_says : Says 0 flat_checked_kinds.ps flat_checked_kinds.r flat_checked_lem.Learnt (λ κs a. flat_checked a.0)
 flat_checked_says κs a z ws p = p
-
-pub flat_registered_says : Says 0 flat_registered_kinds.ps flat_registered_kinds.r flat_registered_lem.Learnt (λ κs a. flat_registered a.0)
-flat_registered_says κs a z ws p = p
 
 -- ---- state.rt
 pub state_says : Says 0 state_kinds.ps state_kinds.r state.Learnt (λ κs a. state_at a.0)

@@ -1,10 +1,7 @@
 -- What goes out stands for what was flattened: specs/Stands.antt, of every flat form.
+use Rattle.std.proofs.Common.{Option, Some, None, ℕ}
 use mathlib.Core.Path.{refl}
 use mathlib.Core.Bool.{Bool, true, false}
-use Rattle.modular.specs.declared.OptionModulus.{OptionModulus}
-use Rattle.modular.specs.declared.OptionModulus.TheVariants as modulus
-use Rattle.modular.specs.declared.OptionNumber.{OptionNumber}
-use Rattle.modular.specs.declared.OptionNumber.TheVariants as number
 use Rattle.operations.specs.Refusal.{type_number}
 use Rattle.sched.specs.declared.block.Bit.{Bit}
 use Rattle.sched.specs.declared.block.Bit.TheVariants.{Zero, One}
@@ -18,10 +15,8 @@ use Rattle.sched.specs.declared.block.BufferLayout.TheVariants.{DataFreeData, Fr
 use Rattle.operations.specs.declared.diff.Diff.{Diff}
 use Rattle.operations.specs.declared.diff.Diff.TheVariants.{Same, Different}
 use Rattle.operations.specs.declared.list.OutsideRange.{OutsideRange}
-use Rattle.operations.specs.declared.list.OutsideRanges.{OutsideRanges}
-use Rattle.operations.specs.declared.list.OutsideRanges.TheVariants as outside
-use Rattle.operations.specs.declared.list.ScheduledOperations.{ScheduledOperations}
-use Rattle.operations.specs.declared.list.ScheduledOperations.TheVariants as list
+use Rattle.operations.specs.Lists.{OutsideRanges, ScheduledOperations}
+use Rattle.operations.specs.declared.list.AtMostTwo.TheVariants as outside
 use Rattle.operations.specs.declared.operation.OperationType.{OperationType}
 use Rattle.operations.specs.declared.operation.OperationType.TheVariants.{Read, Write}
 use Rattle.operations.specs.declared.operation.ScheduledOperation.{ScheduledOperation}
@@ -52,6 +47,7 @@ use Rattle.flat.specs.Receiver.{no_receiver, flat_receiver}
 use Rattle.flat.specs.Scheduler.{flat_scheduler}
 use Rattle.flat.specs.Stands.{BesideStands, CameStands, BoolStands, TypeStands, BlockTypeStands, BitStands, LayoutStands, FillStands, ModulusStands, NumberStands, DiffStands, SchedulerStands, OperationStands, BlockStands, RangeStands, NoOutcome, NoEnding, NoReceiver, NoCall, OperationsStands, RangesStands, FailureStands, StateStands, ReceiverStands, OutcomeStands, EndingStands, PhaseStands, CallStands, NoFailure}
 use Rattle.flat.specs.State.{flat_state}
+use Rattle.modular.specs.declared.Modulus.{Modulus}
 
 -- ---- the header's numbers
 pub bool_stands : (b : Bool) → BoolStands (bool_number b) b
@@ -80,13 +76,13 @@ fill_stands Partial = refl
 fill_stands Full = refl
 
 -- ---- moduli and differences
-pub modulus_stands : (m : OptionModulus) → ModulusStands (flat_modulus m) m
-modulus_stands (modulus.Some m) = (refl, refl)
-modulus_stands modulus.None = (refl, refl)
+pub modulus_stands : (m : Option Modulus) → ModulusStands (flat_modulus m) m
+modulus_stands (Some m) = (refl, refl)
+modulus_stands None = (refl, refl)
 
-pub number_stands : (n : OptionNumber) → NumberStands (flat_number n) n
-number_stands (number.Some n) = (refl, refl)
-number_stands number.None = (refl, refl)
+pub number_stands : (n : Option ℕ) → NumberStands (flat_number n) n
+number_stands (Some n) = (refl, refl)
+number_stands None = (refl, refl)
 
 pub diff_stands : (d : Diff) → DiffStands (flat_diff d) d
 diff_stands (Same v) = (refl, refl, refl)
@@ -106,9 +102,9 @@ range_stands : (x : OutsideRange) → RangeStands (flat_range x) x
 range_stands x = (refl, refl, operation_stands x.op)
 
 pub operations_stand : (ops : ScheduledOperations) → OperationsStands (flat_operations ops) ops
-operations_stand list.None = (refl, (refl, refl, refl), (refl, refl, refl))
-operations_stand (list.One x) = (refl, operation_stands x, (refl, refl, refl))
-operations_stand (list.Two x y) = (refl, operation_stands x, operation_stands y)
+operations_stand outside.None = (refl, (refl, refl, refl), (refl, refl, refl))
+operations_stand (outside.One x) = (refl, operation_stands x, (refl, refl, refl))
+operations_stand (outside.Two x y) = (refl, operation_stands x, operation_stands y)
 
 pub ranges_stand : (ops : OutsideRanges) → RangesStands (flat_ranges ops) ops
 ranges_stand outside.None = (refl, (refl, refl, (refl, refl, refl)), (refl, refl, (refl, refl, refl)))

@@ -1,15 +1,14 @@
 -- Any bits that a host hands in stand for something, and here for what, number by number: also for the numbers that never go out, and whatever
 -- stands in the fields that a kind does not use.
-use Rattle.std.specs.Prelude.{ℕ, ◌<◌, ◌≡◌, true, false}
+use Rattle.std.specs.Prelude.{ℕ, ◌<◌, ◌≡◌, true, false, Some, None}
 use Rattle.sched.specs.declared.block.Bit.TheVariants.{Zero, One}
 use Rattle.sched.specs.declared.block.BlockType.TheVariants.{Free, Data}
 use Rattle.operations.specs.declared.diff.Diff.TheVariants.{Same, Different}
-use Rattle.operations.specs.declared.list.ScheduledOperations.TheVariants as list
+use Rattle.operations.specs.declared.list.AtMostTwo.TheVariants as list
 use Rattle.operations.specs.declared.operation.OperationType.TheVariants.{Read, Write}
 use Rattle.receiver.specs.declared.call.Phase.TheVariants.{Receive, Send, Shutdown, Finished}
 use Rattle.receiver.specs.declared.receiver.Came.TheVariants as came
 use Rattle.states.specs.declared.state.OperationalState.TheVariants.{Normal, Draining, Terminated}
-use Rattle.states.specs.declared.state.PotentialFailure.TheVariants.{Some, None}
 use Rattle.flat.specs.Block.{block_type_at, bit_at}
 use Rattle.flat.specs.Call.{ending_at, phase_at, call_at}
 use Rattle.flat.specs.Diff.{diff_at}

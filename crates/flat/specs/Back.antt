@@ -1,10 +1,6 @@
 -- What an exported answer tells a host: refusal number 0 and a value, or the paper's number and values and zeros in every other field.
 -- And what a host reads in it. Each answer struct says which of its fields stand for what.
-use Rattle.std.specs.Prelude.{ℕ, ◌<◌, ◌≡◌, Bool, cond, List, [], ◌∷◌, eqb, get_or}
-use Rattle.modular.specs.declared.OptionModulus.{OptionModulus}
-use Rattle.modular.specs.declared.OptionModulus.TheVariants as modulus
-use Rattle.modular.specs.declared.OptionNumber.{OptionNumber}
-use Rattle.modular.specs.declared.OptionNumber.TheVariants as number
+use Rattle.std.specs.Prelude.{ℕ, ◌<◌, ◌≡◌, Bool, cond, List, [], ◌∷◌, eqb, get_or, Option, Some, None, Ok, Err}
 use Rattle.sched.specs.Block.{block_of}
 use Rattle.sched.specs.declared.block.Block as sched_block
 use Rattle.sched.specs.declared.block.Blocks.{Blocks}
@@ -13,17 +9,11 @@ use Rattle.sched.specs.declared.block.BufferFillState.TheVariants.{Empty, Partia
 use Rattle.sched.specs.declared.block.BufferLayout.{BufferLayout}
 use Rattle.sched.specs.declared.block.BufferLayout.TheVariants.{DataFreeData, FreeDataFree}
 use Rattle.operations.specs.declared.list.CumulativeOffset.{CumulativeOffset}
-use Rattle.operations.specs.declared.list.CumulativeOffsets.{CumulativeOffsets}
-use Rattle.operations.specs.declared.list.CumulativeOffsets.TheVariants as starts
+use Rattle.operations.specs.Lists.{CumulativeOffsets, OutsideRanges, ScheduledOperations}
+use Rattle.operations.specs.declared.list.AtMostTwo.TheVariants as starts
 use Rattle.operations.specs.declared.list.OutsideRange.{OutsideRange}
-use Rattle.operations.specs.declared.list.OutsideRanges.{OutsideRanges}
-use Rattle.operations.specs.declared.list.OutsideRanges.TheVariants as ranges
-use Rattle.operations.specs.declared.list.ScheduledOperations.{ScheduledOperations}
-use Rattle.operations.specs.declared.list.ScheduledOperations.TheVariants as list
 use Rattle.operations.specs.declared.portion.Portion.{Portion}
 use Rattle.sched.specs.declared.schedule.Next.{Next}
-use Rattle.sched.specs.declared.schedule.NextOperation.{NextOperation}
-use Rattle.sched.specs.declared.schedule.NextOperation.TheVariants as next
 use Rattle.sched.specs.declared.schedule.Scheduled.{Scheduled}
 use Rattle.sched.specs.declared.scheduler.RingBufferScheduler.{RingBufferScheduler}
 use Rattle.ends.specs.declared.reading_end.ReadCounter as ends_read
@@ -35,8 +25,6 @@ use Rattle.receiver.specs.declared.receiver.Outcome as receiver_outcome
 use Rattle.receiver.specs.declared.receiver.ReceiverState.{ReceiverState}
 use Rattle.states.specs.declared.state.Failure as receiver_failure
 use Rattle.states.specs.declared.state.OperationalState.{OperationalState}
-use Rattle.states.specs.declared.state.PotentialFailure.{PotentialFailure}
-use Rattle.states.specs.declared.state.PotentialFailure.TheVariants as potential
 use Rattle.planner.specs.declared.strips.Strips.{Strips}
 use Rattle.flat.specs.Block.{block_type_at, bit_at}
 use Rattle.flat.specs.Call.{call_at}
@@ -46,7 +34,7 @@ use Rattle.flat.specs.Operation.{operation_at}
 use Rattle.flat.specs.Outcome.{outcome_at}
 use Rattle.flat.specs.ReadingEnd.{read_counter_at, reading_end_at}
 use Rattle.flat.specs.Receiver.{yes_at, receiver_at}
-use Rattle.flat.specs.Results.{Result, value, refused}
+use Rattle.flat.specs.Results.{Told}
 use Rattle.flat.specs.Scheduler.{scheduler_at}
 use Rattle.flat.specs.Stands.{BoolStands, LayoutStands, FillStands, SchedulerStands, OperationStands, BlockStands, NoOperation, NoScheduler, NoBlock, NoFailure, NoOutcome, NoReceiver, NoCall, OperationsStands, RangesStands, WritingEndStands, ReadingEndStands, WrittenCounterStands, ReadCounterStands, FailureStands, StateStands, ReceiverStands, OutcomeStands, CallStands}
 use Rattle.flat.specs.State.{state_at}
@@ -81,6 +69,8 @@ use Rattle.flat.specs.declared.structs.Range.{Range}
 use Rattle.flat.specs.declared.structs.Ranges.{Ranges}
 use Rattle.flat.specs.declared.structs.Refusal.{Refusal}
 use Rattle.flat.specs.declared.modulus.OptionU64.{OptionU64}
+use Rattle.modular.specs.declared.Modulus.{Modulus}
+use Rattle.operations.specs.declared.operation.ScheduledOperation.{ScheduledOperation}
 
 -- ---- every answer
 -- the number, then the values in the paper's order; those that are lacking are 0, and none has more than three
@@ -92,18 +82,18 @@ RefusalStands r n (x ∷ y ∷ z ∷ []) = (r.number ≡ n) × (r.a ≡ x) × (r
 RefusalStands r n (x ∷ y ∷ z ∷ more ∷ vs) = ⊥
 
 -- `Stands` and `read` are of the fields beside the refusal: what they stand for, and what a host reads in them
-abbrev pub Sent : {A : Type 0} → Refusal → (A → Type 0) → Type 0 → A → Result A → Type 0
-Sent r Stands zeros read (value x) = RefusalStands r 0 [] × Stands x × (read ≡ x)
-Sent r Stands zeros read (refused n vs) = (0 < n) × RefusalStands r n vs × zeros
+abbrev pub Sent : {A : Type 0} → Refusal → (A → Type 0) → Type 0 → A → Told A → Type 0
+Sent r Stands zeros read (Ok x) = RefusalStands r 0 [] × Stands x × (read ≡ x)
+Sent r Stands zeros read (Err e) = (0 < e.0) × RefusalStands r e.0 e.1 × zeros
 
 -- what a host reads: the value where the number is 0, and else the number and its three values
-unfoldable pub result_at : {A : Type 0} → Refusal → A → Result A
-result_at r x = cond (eqb r.number 0) (value x) (refused r.number (r.a ∷ r.b ∷ r.c ∷ []))
+unfoldable pub result_at : {A : Type 0} → Refusal → A → Told A
+result_at r x = cond (eqb r.number 0) (Ok x) (Err (r.number, r.a ∷ r.b ∷ r.c ∷ []))
 
 -- a result with its values made three
-abbrev pub in_full : {A : Type 0} → Result A → Result A
-in_full (value x) = value x
-in_full (refused n vs) = refused n (get_or vs 0 0 ∷ get_or vs 1 0 ∷ get_or vs 2 0 ∷ [])
+abbrev pub in_full : {A : Type 0} → Told A → Told A
+in_full (Ok x) = Ok x
+in_full (Err e) = Err (e.0, get_or e.1 0 0 ∷ get_or e.1 1 0 ∷ get_or e.1 2 0 ∷ [])
 
 -- ---- the readers of what only goes out
 unfoldable pub layout_at : ℕ → BufferLayout
@@ -115,14 +105,14 @@ fill_at n = cond (eqb n 0) Empty (cond (eqb n 1) Partial Full)
 abbrev pub block_at : Block → sched_block.Block
 block_at f = block_of (block_type_at f.typ) (bit_at f.no) (record { 0 = f.off }) f.len
 
-unfoldable pub next_at : NextAnswer → NextOperation
-next_at z = cond (eqb z.some 0) next.None (next.Some (operation_at z.operation))
+unfoldable pub next_at : NextAnswer → Option ScheduledOperation
+next_at z = cond (eqb z.some 0) None (Some (operation_at z.operation))
 
 abbrev pub range_at : Range → OutsideRange
 range_at f = record { start = f.start; end = f.end; op = operation_at f.op }
 
 unfoldable pub ranges_at : Ranges → OutsideRanges
-ranges_at f = cond (eqb f.count 0) ranges.None (cond (eqb f.count 1) (ranges.One (range_at f.first)) (ranges.Two (range_at f.first) (range_at f.second)))
+ranges_at f = cond (eqb f.count 0) starts.None (cond (eqb f.count 1) (starts.One (range_at f.first)) (starts.Two (range_at f.first) (range_at f.second)))
 
 abbrev pub start_at : ℕ → Operation → CumulativeOffset
 start_at n o = record { start = n; op = operation_at o }
@@ -133,62 +123,62 @@ starts_at z =
     (cond (eqb z.count 1) (starts.One (start_at z.first_start z.first))
     (starts.Two (start_at z.first_start z.first) (start_at z.second_start z.second)))
 
-unfoldable pub modulus_back : OptionU64 → OptionModulus
-modulus_back f = cond (eqb f.some 0) modulus.None (modulus.Some (record { 0 = f.value }))
+unfoldable pub modulus_back : OptionU64 → Option Modulus
+modulus_back f = cond (eqb f.some 0) None (Some (record { 0 = f.value }))
 
-unfoldable pub number_back : OptionU64 → OptionNumber
-number_back f = cond (eqb f.some 0) number.None (number.Some f.value)
+unfoldable pub number_back : OptionU64 → Option ℕ
+number_back f = cond (eqb f.some 0) None (Some f.value)
 
 -- ---- one number
-abbrev pub NumberSent : U64Answer → Result ℕ → Type 0
+abbrev pub NumberSent : U64Answer → Told ℕ → Type 0
 NumberSent z = Sent z.refusal (λ n. z.value ≡ n) (z.value ≡ 0) z.value
 
-abbrev pub BoolSent : U64Answer → Result Bool → Type 0
+abbrev pub BoolSent : U64Answer → Told Bool → Type 0
 BoolSent z = Sent z.refusal (BoolStands z.value) (z.value ≡ 0) (yes_at z.value)
 
-abbrev pub LayoutSent : U64Answer → Result BufferLayout → Type 0
+abbrev pub LayoutSent : U64Answer → Told BufferLayout → Type 0
 LayoutSent z = Sent z.refusal (LayoutStands z.value) (z.value ≡ 0) (layout_at z.value)
 
-abbrev pub FillSent : U64Answer → Result BufferFillState → Type 0
+abbrev pub FillSent : U64Answer → Told BufferFillState → Type 0
 FillSent z = Sent z.refusal (FillStands z.value) (z.value ≡ 0) (fill_at z.value)
 
 -- ---- the scheduler's
-abbrev pub SchedulerSent : SchedulerAnswer → Result RingBufferScheduler → Type 0
+abbrev pub SchedulerSent : SchedulerAnswer → Told RingBufferScheduler → Type 0
 SchedulerSent z = Sent z.refusal (SchedulerStands z.scheduler) (NoScheduler z.scheduler) (scheduler_at z.scheduler)
 
-abbrev pub BlockSent : BlockAnswer → Result sched_block.Block → Type 0
+abbrev pub BlockSent : BlockAnswer → Told sched_block.Block → Type 0
 BlockSent z = Sent z.refusal (BlockStands z.block) (NoBlock z.block) (block_at z.block)
 
-abbrev pub BlocksSent : BlocksAnswer → Result Blocks → Type 0
+abbrev pub BlocksSent : BlocksAnswer → Told Blocks → Type 0
 BlocksSent z =
     Sent z.refusal
     (λ x. BlockStands z.block_0 x.0 × BlockStands z.block_1 x.1 × BlockStands z.block_2 x.2)
     (NoBlock z.block_0 × NoBlock z.block_1 × NoBlock z.block_2)
     (record { 0 = block_at z.block_0; 1 = block_at z.block_1; 2 = block_at z.block_2 })
 
-abbrev pub NextStands : NextAnswer → NextOperation → Type 0
-NextStands z next.None = (z.some ≡ 0) × NoOperation z.operation
-NextStands z (next.Some o) = (z.some ≡ 1) × OperationStands z.operation o
+abbrev pub NextStands : NextAnswer → Option ScheduledOperation → Type 0
+NextStands z None = (z.some ≡ 0) × NoOperation z.operation
+NextStands z (Some o) = (z.some ≡ 1) × OperationStands z.operation o
 
-abbrev pub NextSent : NextAnswer → Result Next → Type 0
+abbrev pub NextSent : NextAnswer → Told Next → Type 0
 NextSent z =
     Sent z.refusal
     (λ x. NextStands z x.operation × (z.remainder ≡ x.remainder))
-    (NextStands z next.None × (z.remainder ≡ 0))
+    (NextStands z None × (z.remainder ≡ 0))
     (record { operation = next_at z; remainder = z.remainder })
 
-abbrev pub OperationsSent : OperationsAnswer → Result ScheduledOperations → Type 0
-OperationsSent z = Sent z.refusal (OperationsStands z.operations) (OperationsStands z.operations list.None) (operations_at z.operations)
+abbrev pub OperationsSent : OperationsAnswer → Told ScheduledOperations → Type 0
+OperationsSent z = Sent z.refusal (OperationsStands z.operations) (OperationsStands z.operations starts.None) (operations_at z.operations)
 
-abbrev pub ScheduleSent : ScheduleAnswer → Result Scheduled → Type 0
+abbrev pub ScheduleSent : ScheduleAnswer → Told Scheduled → Type 0
 ScheduleSent z =
     Sent z.refusal
     (λ x. OperationsStands z.operations x.operations × (z.remainder ≡ x.remainder))
-    (OperationsStands z.operations list.None × (z.remainder ≡ 0))
+    (OperationsStands z.operations starts.None × (z.remainder ≡ 0))
     (record { operations = operations_at z.operations; remainder = z.remainder })
 
-abbrev pub RangesSent : RangesAnswer → Result OutsideRanges → Type 0
-RangesSent z = Sent z.refusal (RangesStands z.ranges) (RangesStands z.ranges ranges.None) (ranges_at z.ranges)
+abbrev pub RangesSent : RangesAnswer → Told OutsideRanges → Type 0
+RangesSent z = Sent z.refusal (RangesStands z.ranges) (RangesStands z.ranges starts.None) (ranges_at z.ranges)
 
 -- a start, and the operation that starts there
 abbrev pub StartStands : ℕ → Operation → CumulativeOffset → Type 0
@@ -202,7 +192,7 @@ StartsStand z starts.None = (z.count ≡ 0) × NoStart z.first_start z.first × 
 StartsStand z (starts.One x) = (z.count ≡ 1) × StartStands z.first_start z.first x × NoStart z.second_start z.second
 StartsStand z (starts.Two x y) = (z.count ≡ 2) × StartStands z.first_start z.first x × StartStands z.second_start z.second y
 
-abbrev pub StartsSent : StartsAnswer → Result CumulativeOffsets → Type 0
+abbrev pub StartsSent : StartsAnswer → Told CumulativeOffsets → Type 0
 StartsSent z = Sent z.refusal (StartsStand z) (StartsStand z starts.None) (starts_at z)
 
 -- ---- of the copies and the ends
@@ -215,60 +205,60 @@ PortionStands n k p = (n ≡ p.len) × (k ≡ p.remainder)
 abbrev pub NoPortion : ℕ → ℕ → Type 0
 NoPortion n k = (n ≡ 0) × (k ≡ 0)
 
-abbrev pub CopySent : CopyAnswer → Result (RingBufferScheduler × Portion) → Type 0
+abbrev pub CopySent : CopyAnswer → Told (RingBufferScheduler × Portion) → Type 0
 CopySent z =
     Sent z.refusal
     (λ x. SchedulerStands z.scheduler x.0 × PortionStands z.n z.remainder x.1)
     (NoScheduler z.scheduler × NoPortion z.n z.remainder)
     (scheduler_at z.scheduler, portion_at z.n z.remainder)
 
-abbrev pub WritingEndSent : WritingEndAnswer → Result ends_writing.WritingEnd → Type 0
+abbrev pub WritingEndSent : WritingEndAnswer → Told ends_writing.WritingEnd → Type 0
 WritingEndSent z = Sent z.refusal (WritingEndStands z.end) (NoScheduler z.end.scheduler) (writing_end_at z.end)
 
-abbrev pub ReadingEndSent : ReadingEndAnswer → Result ends_reading.ReadingEnd → Type 0
+abbrev pub ReadingEndSent : ReadingEndAnswer → Told ends_reading.ReadingEnd → Type 0
 ReadingEndSent z = Sent z.refusal (ReadingEndStands z.end) (NoScheduler z.end.scheduler) (reading_end_at z.end)
 
-abbrev pub WroteSent : WroteAnswer → Result (ends_writing.WritingEnd × Portion) → Type 0
+abbrev pub WroteSent : WroteAnswer → Told (ends_writing.WritingEnd × Portion) → Type 0
 WroteSent z =
     Sent z.refusal
     (λ x. WritingEndStands z.end x.0 × PortionStands z.n z.remainder x.1)
     (NoScheduler z.end.scheduler × NoPortion z.n z.remainder)
     (writing_end_at z.end, portion_at z.n z.remainder)
 
-abbrev pub GotSent : GotAnswer → Result (ends_reading.ReadingEnd × Portion) → Type 0
+abbrev pub GotSent : GotAnswer → Told (ends_reading.ReadingEnd × Portion) → Type 0
 GotSent z =
     Sent z.refusal
     (λ x. ReadingEndStands z.end x.0 × PortionStands z.n z.remainder x.1)
     (NoScheduler z.end.scheduler × NoPortion z.n z.remainder)
     (reading_end_at z.end, portion_at z.n z.remainder)
 
-abbrev pub WrittenSent : WrittenCounterAnswer → Result ends_written.WrittenCounter → Type 0
+abbrev pub WrittenSent : WrittenCounterAnswer → Told ends_written.WrittenCounter → Type 0
 WrittenSent z = Sent z.refusal (WrittenCounterStands z.counter) (z.counter.counter ≡ 0) (written_counter_at z.counter)
 
-abbrev pub ReadSent : ReadCounterAnswer → Result ends_read.ReadCounter → Type 0
+abbrev pub ReadSent : ReadCounterAnswer → Told ends_read.ReadCounter → Type 0
 ReadSent z = Sent z.refusal (ReadCounterStands z.counter) (z.counter.counter ≡ 0) (read_counter_at z.counter)
 
 -- ---- the receiver's
-abbrev pub FailureSent : FailureAnswer → Result receiver_failure.Failure → Type 0
+abbrev pub FailureSent : FailureAnswer → Told receiver_failure.Failure → Type 0
 FailureSent z = Sent z.refusal (FailureStands z.failure) (NoFailure z.failure) (failure_at z.failure)
 
-abbrev pub PotentialStands : PotentialFailureAnswer → PotentialFailure → Type 0
-PotentialStands z potential.None = (z.some ≡ 0) × NoFailure z.failure
-PotentialStands z (potential.Some f) = (z.some ≡ 1) × FailureStands z.failure f
+abbrev pub PotentialStands : PotentialFailureAnswer → Option receiver_failure.Failure → Type 0
+PotentialStands z None = (z.some ≡ 0) × NoFailure z.failure
+PotentialStands z (Some f) = (z.some ≡ 1) × FailureStands z.failure f
 
-abbrev pub PotentialSent : PotentialFailureAnswer → Result PotentialFailure → Type 0
-PotentialSent z = Sent z.refusal (PotentialStands z) (PotentialStands z potential.None) (potential_failure_at z.some z.failure)
+abbrev pub PotentialSent : PotentialFailureAnswer → Told (Option receiver_failure.Failure) → Type 0
+PotentialSent z = Sent z.refusal (PotentialStands z) (PotentialStands z None) (potential_failure_at z.some z.failure)
 
-abbrev pub StateSent : StateAnswer → Result OperationalState → Type 0
+abbrev pub StateSent : StateAnswer → Told OperationalState → Type 0
 StateSent z = Sent z.refusal (StateStands z.state) ((z.state.kind ≡ 0) × NoFailure z.state.failure) (state_at z.state)
 
-abbrev pub ReceiverSent : ReceiverAnswer → Result ReceiverState → Type 0
+abbrev pub ReceiverSent : ReceiverAnswer → Told ReceiverState → Type 0
 ReceiverSent z = Sent z.refusal (ReceiverStands z.receiver) (NoReceiver z.receiver) (receiver_at z.receiver)
 
-abbrev pub StepSent : StepAnswer → Result receiver_call.Call → Type 0
+abbrev pub StepSent : StepAnswer → Told receiver_call.Call → Type 0
 StepSent z = Sent z.refusal (CallStands z.call) (NoCall z.call) (call_at z.call)
 
-abbrev pub EndedSent : EndedAnswer → Result (ReceiverState × receiver_outcome.Outcome × ℕ) → Type 0
+abbrev pub EndedSent : EndedAnswer → Told (ReceiverState × receiver_outcome.Outcome × ℕ) → Type 0
 EndedSent z =
     Sent z.refusal
     (λ x. ReceiverStands z.receiver x.0 × OutcomeStands z.outcome x.1 × (z.used ≡ x.2))
@@ -276,15 +266,15 @@ EndedSent z =
     (receiver_at z.receiver, outcome_at z.outcome, z.used)
 
 -- ---- the planner's
-abbrev pub StripsSent : StripsAnswer → Result Strips → Type 0
+abbrev pub StripsSent : StripsAnswer → Told Strips → Type 0
 StripsSent z =
     Sent z.refusal
     (λ x. (z.count ≡ x.count) × (z.height ≡ x.height) × (z.last ≡ x.last))
     ((z.count ≡ 0) × (z.height ≡ 0) × (z.last ≡ 0))
     (record { count = z.count; height = z.height; last = z.last })
 
-abbrev pub RunsSent : ProposeAnswer → Result ℕ → Type 0
+abbrev pub RunsSent : ProposeAnswer → Told ℕ → Type 0
 RunsSent z = Sent z.refusal (λ n. z.count ≡ n) (z.count ≡ 0) z.count
 
-abbrev pub VerdictSent : Refusal → Result (Unit {0}) → Type 0
+abbrev pub VerdictSent : Refusal → Told (Unit {0}) → Type 0
 VerdictSent z = Sent z (λ x. Unit {0}) (Unit {0}) tt

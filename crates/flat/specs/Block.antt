@@ -1,28 +1,22 @@
 -- What a host's block stands for, and the flat forms of blocks, layouts and fill states.
-use Rattle.std.specs.Prelude.{ℕ, cond, eqb}
+use Rattle.std.specs.Prelude.{ℕ, cond, eqb, Result, Ok, Err}
 use Rattle.sched.specs.declared.block.Bit.{Bit}
 use Rattle.sched.specs.declared.block.Bit.TheVariants.{Zero, One}
 use Rattle.sched.specs.declared.block.Block as sched
-use Rattle.sched.specs.declared.block.BlockAnswer as sched_block
-use Rattle.sched.specs.declared.block.BlockAnswer.TheVariants as block
 use Rattle.sched.specs.declared.block.BlockType.{BlockType}
 use Rattle.sched.specs.declared.block.BlockType.TheVariants.{Free, Data}
-use Rattle.sched.specs.declared.block.BlocksAnswer as sched_blocks
-use Rattle.sched.specs.declared.block.BlocksAnswer.TheVariants as blocks
 use Rattle.sched.specs.declared.block.BufferFillState.{BufferFillState}
 use Rattle.sched.specs.declared.block.BufferFillState.TheVariants.{Empty, Partial, Full}
 use Rattle.sched.specs.declared.block.BufferLayout.{BufferLayout}
 use Rattle.sched.specs.declared.block.BufferLayout.TheVariants.{DataFreeData, FreeDataFree}
-use Rattle.sched.specs.declared.block.FillStateAnswer.{FillStateAnswer}
-use Rattle.sched.specs.declared.block.FillStateAnswer.TheVariants as fill
-use Rattle.sched.specs.declared.block.LayoutAnswer.{LayoutAnswer}
-use Rattle.sched.specs.declared.block.LayoutAnswer.TheVariants as layout
 use Rattle.flat.specs.declared.structs.Block.{Block}
 use Rattle.flat.specs.declared.structs.BlockAnswer.{BlockAnswer}
 use Rattle.flat.specs.declared.structs.BlocksAnswer.{BlocksAnswer}
 use Rattle.flat.specs.declared.structs.U64Answer.{U64Answer}
 use Rattle.flat.specs.Counter.{u64_of, u64_refused}
 use Rattle.flat.specs.Flat.{no_refusal, flat_refusal}
+use Rattle.sched.specs.declared.block.Blocks.{Blocks}
+use Rattle.operations.specs.declared.refusal.Refusal.{Refusal}
 
 abbrev pub block_type_number : BlockType → ℕ
 block_type_number Free = 0
@@ -45,29 +39,29 @@ no_block = record { typ = 0; no = 0; off = 0; len = 0 }
 abbrev pub flat_block : sched.Block → Block
 flat_block b = record { typ = block_type_number b.typ; no = bit_number b.no; off = b.off.0; len = b.len }
 
-abbrev pub flat_block_answer : sched_block.BlockAnswer → BlockAnswer
-flat_block_answer (block.Of b) = record { refusal = no_refusal; block = flat_block b }
-flat_block_answer (block.Refused e) = record { refusal = flat_refusal e; block = no_block }
+abbrev pub flat_block_answer : Result sched.Block Refusal → BlockAnswer
+flat_block_answer (Ok b) = record { refusal = no_refusal; block = flat_block b }
+flat_block_answer (Err e) = record { refusal = flat_refusal e; block = no_block }
 
-abbrev pub flat_blocks : sched_blocks.BlocksAnswer → BlocksAnswer
-flat_blocks (blocks.Of b) =
+abbrev pub flat_blocks : Result Blocks Refusal → BlocksAnswer
+flat_blocks (Ok b) =
     record { refusal = no_refusal; block_0 = flat_block b.0; block_1 = flat_block b.1; block_2 = flat_block b.2 }
-flat_blocks (blocks.Refused e) =
+flat_blocks (Err e) =
     record { refusal = flat_refusal e; block_0 = no_block; block_1 = no_block; block_2 = no_block }
 
 abbrev pub layout_number : BufferLayout → ℕ
 layout_number DataFreeData = 0
 layout_number FreeDataFree = 1
 
-abbrev pub flat_layout : LayoutAnswer → U64Answer
-flat_layout (layout.Of l) = u64_of (layout_number l)
-flat_layout (layout.Refused e) = u64_refused e
+abbrev pub flat_layout : Result BufferLayout Refusal → U64Answer
+flat_layout (Ok l) = u64_of (layout_number l)
+flat_layout (Err e) = u64_refused e
 
 abbrev pub fill_state_number : BufferFillState → ℕ
 fill_state_number Empty = 0
 fill_state_number Partial = 1
 fill_state_number Full = 2
 
-abbrev pub flat_fill_state : FillStateAnswer → U64Answer
-flat_fill_state (fill.Of f) = u64_of (fill_state_number f)
-flat_fill_state (fill.Refused e) = u64_refused e
+abbrev pub flat_fill_state : Result BufferFillState Refusal → U64Answer
+flat_fill_state (Ok f) = u64_of (fill_state_number f)
+flat_fill_state (Err e) = u64_refused e

@@ -1,12 +1,10 @@
 -- What a host's call stands for, and the flat form of one. What a kind of phase does not use is 0.
-use Rattle.std.specs.Prelude.{ℕ, cond, eqb}
+use Rattle.std.specs.Prelude.{ℕ, cond, eqb, Result, Ok, Err}
 use Rattle.receiver.specs.Call as of_receiver_lem
 use Rattle.receiver.specs.declared.call.Call as receiver_call
 use Rattle.receiver.specs.declared.call.Ending as receiver_ending
 use Rattle.receiver.specs.declared.call.Phase as receiver_phase
 use Rattle.receiver.specs.declared.call.Phase.TheVariants.{Receive, Send, Shutdown, Finished}
-use Rattle.receiver.specs.declared.call.Step.{Step}
-use Rattle.receiver.specs.declared.call.Step.TheVariants as step
 use Rattle.receiver.specs.declared.call.Wanted.{Wanted}
 use Rattle.flat.specs.declared.structs.Call.{Call}
 use Rattle.flat.specs.declared.structs.Ending.{Ending}
@@ -18,6 +16,7 @@ use Rattle.flat.specs.Flat.{no_refusal, flat_receiver_refusal}
 use Rattle.flat.specs.Outcome.{outcome_at, no_outcome, flat_outcome}
 use Rattle.flat.specs.Receiver.{yes_at, receiver_at, no_receiver, flat_receiver}
 use Rattle.flat.specs.Scheduler.{scheduler_at, no_scheduler, flat_scheduler}
+use Rattle.states.specs.declared.refusal.Refusal.{Refusal}
 
 -- where `told` is 0 a failure is dropped
 abbrev pub ending_at : Ending → receiver_ending.Ending
@@ -62,6 +61,6 @@ abbrev pub no_call : Call
 no_call = record { receiver = no_receiver; source = no_scheduler; phase = no_phase }
 
 -- where it is refused every field but the refusal is 0
-abbrev pub flat_step : Step → StepAnswer
-flat_step (step.Of c) = record { refusal = no_refusal; call = flat_call c }
-flat_step (step.Refused r) = record { refusal = flat_receiver_refusal r; call = no_call }
+abbrev pub flat_step : Result receiver_call.Call Refusal → StepAnswer
+flat_step (Ok c) = record { refusal = no_refusal; call = flat_call c }
+flat_step (Err r) = record { refusal = flat_receiver_refusal r; call = no_call }

@@ -1,10 +1,6 @@
 -- The flat forms of `modular`'s values.
-use Rattle.std.specs.Prelude.{ℕ}
+use Rattle.std.specs.Prelude.{ℕ, Option, Some, None}
 use Rattle.modular.specs.declared.Modulus.{Modulus}
-use Rattle.modular.specs.declared.OptionModulus.{OptionModulus}
-use Rattle.modular.specs.declared.OptionModulus.TheVariants as modulus
-use Rattle.modular.specs.declared.OptionNumber.{OptionNumber}
-use Rattle.modular.specs.declared.OptionNumber.TheVariants as number
 use Rattle.flat.specs.declared.modulus.OptionU64.{OptionU64}
 
 abbrev pub modulus_at : ℕ → Modulus
@@ -16,10 +12,10 @@ some n = record { some = 1; value = n }
 abbrev pub none : OptionU64
 none = record { some = 0; value = 0 }
 
-abbrev pub flat_modulus : OptionModulus → OptionU64
-flat_modulus (modulus.Some m) = some m.0
-flat_modulus modulus.None = none
+abbrev pub flat_modulus : Option Modulus → OptionU64
+flat_modulus (Some m) = some m.0
+flat_modulus None = none
 
-abbrev pub flat_number : OptionNumber → OptionU64
-flat_number (number.Some n) = some n
-flat_number number.None = none
+abbrev pub flat_number : Option ℕ → OptionU64
+flat_number (Some n) = some n
+flat_number None = none

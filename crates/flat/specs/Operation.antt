@@ -1,9 +1,5 @@
 -- What a host's operation stands for, and the flat form of one.
-use Rattle.std.specs.Prelude.{ℕ, cond, eqb}
-use Rattle.sched.specs.declared.schedule.NextOperation.{NextOperation}
-use Rattle.sched.specs.declared.schedule.NextOperation.TheVariants as next
-use Rattle.sched.specs.declared.schedule.NextOperationAnswer.{NextOperationAnswer}
-use Rattle.sched.specs.declared.schedule.NextOperationAnswer.TheVariants as nexts
+use Rattle.std.specs.Prelude.{ℕ, cond, eqb, Result, Ok, Err, Option, Some, None}
 use Rattle.operations.specs.declared.operation.OperationType.{OperationType}
 use Rattle.operations.specs.declared.operation.OperationType.TheVariants.{Read, Write}
 use Rattle.operations.specs.declared.operation.ScheduledOperation.{ScheduledOperation}
@@ -12,6 +8,8 @@ use Rattle.operations.specs.Refusal.{type_number}
 use Rattle.flat.specs.declared.structs.NextAnswer.{NextAnswer}
 use Rattle.flat.specs.declared.structs.Operation.{Operation}
 use Rattle.flat.specs.Flat.{no_refusal, flat_refusal}
+use Rattle.sched.specs.declared.schedule.Next.{Next}
+use Rattle.operations.specs.declared.refusal.Refusal.{Refusal}
 
 -- 0 is a read, any other number a write
 unfoldable pub type_at : ℕ → OperationType
@@ -27,14 +25,14 @@ abbrev pub flat_operation : ScheduledOperation → Operation
 flat_operation o = record { typ = type_number o.typ; off = o.off.0; len = o.len }
 
 -- whether there is one, and it
-abbrev pub some_in : NextOperation → ℕ
-some_in (next.Some o) = 1
-some_in next.None = 0
+abbrev pub some_in : Option ScheduledOperation → ℕ
+some_in (Some o) = 1
+some_in None = 0
 
-abbrev pub operation_in : NextOperation → Operation
-operation_in (next.Some o) = flat_operation o
-operation_in next.None = no_operation
+abbrev pub operation_in : Option ScheduledOperation → Operation
+operation_in (Some o) = flat_operation o
+operation_in None = no_operation
 
-abbrev pub flat_next : NextOperationAnswer → NextAnswer
-flat_next (nexts.Of n) = record { refusal = no_refusal; some = some_in n.operation; operation = operation_in n.operation; remainder = n.remainder }
-flat_next (nexts.Refused e) = record { refusal = flat_refusal e; some = 0; operation = no_operation; remainder = 0 }
+abbrev pub flat_next : Result Next Refusal → NextAnswer
+flat_next (Ok n) = record { refusal = no_refusal; some = some_in n.operation; operation = operation_in n.operation; remainder = n.remainder }
+flat_next (Err e) = record { refusal = flat_refusal e; some = 0; operation = no_operation; remainder = 0 }

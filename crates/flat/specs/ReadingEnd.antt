@@ -1,14 +1,8 @@
 -- What a host's reading end and counter stand for, and the flat forms of the answers that are one. Of a copy, what it leaves in
 -- the lent memory with it.
-use Rattle.std.specs.Prelude.{ℕ, List}
+use Rattle.std.specs.Prelude.{ℕ, List, Result, Ok, Err}
 use Rattle.ends.specs.declared.reading_end.ReadCounter as ends_counter
-use Rattle.ends.specs.declared.reading_end.ReadCounterAnswer as ends_counter_answer
-use Rattle.ends.specs.declared.reading_end.ReadCounterAnswer.TheVariants as counter
 use Rattle.ends.specs.declared.reading_end.ReadingEnd as ends_end
-use Rattle.ends.specs.declared.reading_end.ReadingEndAnswer as ends_end_answer
-use Rattle.ends.specs.declared.reading_end.ReadingEndAnswer.TheVariants as end
-use Rattle.ends.specs.declared.reading_end.Got.{Got}
-use Rattle.ends.specs.declared.reading_end.Got.TheVariants as got
 use Rattle.ends.specs.Ends.{reading_end, GotLeft}
 use Rattle.flat.specs.declared.structs.GotAnswer.{GotAnswer}
 use Rattle.flat.specs.declared.structs.ReadCounter.{ReadCounter}
@@ -17,6 +11,8 @@ use Rattle.flat.specs.declared.structs.ReadingEnd.{ReadingEnd}
 use Rattle.flat.specs.declared.structs.ReadingEndAnswer.{ReadingEndAnswer}
 use Rattle.flat.specs.Flat.{no_refusal, flat_end_refusal}
 use Rattle.flat.specs.Scheduler.{scheduler_at, no_scheduler, flat_scheduler}
+use Rattle.ends.specs.declared.reading_end.Got.{Got}
+use Rattle.ends.specs.declared.refusal.Refusal.{Refusal}
 
 abbrev pub read_counter_at : ReadCounter → ends_counter.ReadCounter
 read_counter_at c = record { 0 = record { 0 = c.counter } }
@@ -30,17 +26,17 @@ no_reading_end = record { scheduler = no_scheduler }
 abbrev pub flat_reading_end : ends_end.ReadingEnd → ReadingEnd
 flat_reading_end e = record { scheduler = flat_scheduler e.scheduler }
 
-abbrev pub flat_reading_end_answer : ends_end_answer.ReadingEndAnswer → ReadingEndAnswer
-flat_reading_end_answer (end.Of e) = record { refusal = no_refusal; end = flat_reading_end e }
-flat_reading_end_answer (end.Refused r) = record { refusal = flat_end_refusal r; end = no_reading_end }
+abbrev pub flat_reading_end_answer : Result ends_end.ReadingEnd Refusal → ReadingEndAnswer
+flat_reading_end_answer (Ok e) = record { refusal = no_refusal; end = flat_reading_end e }
+flat_reading_end_answer (Err r) = record { refusal = flat_end_refusal r; end = no_reading_end }
 
-abbrev pub flat_read_counter : ends_counter_answer.ReadCounterAnswer → ReadCounterAnswer
-flat_read_counter (counter.Of c) = record { refusal = no_refusal; counter = record { counter = c.0.0 } }
-flat_read_counter (counter.Refused r) = record { refusal = flat_end_refusal r; counter = record { counter = 0 } }
+abbrev pub flat_read_counter : Result ends_counter.ReadCounter Refusal → ReadCounterAnswer
+flat_read_counter (Ok c) = record { refusal = no_refusal; counter = record { counter = c.0.0 } }
+flat_read_counter (Err r) = record { refusal = flat_end_refusal r; counter = record { counter = 0 } }
 
-abbrev pub flat_got : Got → GotAnswer
-flat_got (got.Moved e p) = record { refusal = no_refusal; end = flat_reading_end e; n = p.len; remainder = p.remainder }
-flat_got (got.Refused r) = record { refusal = flat_end_refusal r; end = no_reading_end; n = 0; remainder = 0 }
+abbrev pub flat_got : Result Got Refusal → GotAnswer
+flat_got (Ok m) = record { refusal = no_refusal; end = flat_reading_end m.end; n = m.portion.len; remainder = m.portion.remainder }
+flat_got (Err r) = record { refusal = flat_end_refusal r; end = no_reading_end; n = 0; remainder = 0 }
 
 pub record GotAnswerLeft : Type 0 where
   pub answer : GotAnswer

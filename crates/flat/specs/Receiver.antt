@@ -1,10 +1,6 @@
 -- What a host's receiver stands for, and the flat forms of the answers that hold one.
-use Rattle.std.specs.Prelude.{ℕ, Bool, not, eqb}
+use Rattle.std.specs.Prelude.{ℕ, Bool, not, eqb, Result, Ok, Err}
 use Rattle.receiver.specs.Receiver.{receiver}
-use Rattle.receiver.specs.declared.receiver.Ended.{Ended}
-use Rattle.receiver.specs.declared.receiver.Ended.TheVariants as ended
-use Rattle.receiver.specs.declared.receiver.ReceiverAnswer as receiver_answer
-use Rattle.receiver.specs.declared.receiver.ReceiverAnswer.TheVariants as answer
 use Rattle.receiver.specs.declared.receiver.ReceiverState.{ReceiverState}
 use Rattle.flat.specs.declared.structs.EndedAnswer.{EndedAnswer}
 use Rattle.flat.specs.declared.structs.Receiver.{Receiver}
@@ -14,6 +10,8 @@ use Rattle.flat.specs.Flat.{no_refusal, flat_receiver_refusal}
 use Rattle.flat.specs.Outcome.{no_outcome, flat_outcome}
 use Rattle.flat.specs.Scheduler.{scheduler_at, no_scheduler, flat_scheduler}
 use Rattle.flat.specs.State.{state_at, no_state, flat_state}
+use Rattle.receiver.specs.declared.receiver.Ended.{Ended}
+use Rattle.states.specs.declared.refusal.Refusal.{Refusal}
 
 -- any number but 0 is yes
 abbrev pub yes_at : ℕ → Bool
@@ -35,11 +33,11 @@ flat_receiver q =
       notification_socket_shutdown_issued = bool_number q.notification_socket_shutdown_issued;
     }
 
-abbrev pub flat_receiver_answer : receiver_answer.ReceiverAnswer → ReceiverAnswer
-flat_receiver_answer (answer.Of q) = record { refusal = no_refusal; receiver = flat_receiver q }
-flat_receiver_answer (answer.Refused e) = record { refusal = flat_receiver_refusal e; receiver = no_receiver }
+abbrev pub flat_receiver_answer : Result ReceiverState Refusal → ReceiverAnswer
+flat_receiver_answer (Ok q) = record { refusal = no_refusal; receiver = flat_receiver q }
+flat_receiver_answer (Err e) = record { refusal = flat_receiver_refusal e; receiver = no_receiver }
 
 -- where it is refused every field but the refusal is 0
-abbrev pub flat_ended : Ended → EndedAnswer
-flat_ended (ended.Accepted q o m) = record { refusal = no_refusal; receiver = flat_receiver q; outcome = flat_outcome o; used = m }
-flat_ended (ended.Refused e) = record { refusal = flat_receiver_refusal e; receiver = no_receiver; outcome = no_outcome; used = 0 }
+abbrev pub flat_ended : Result Ended Refusal → EndedAnswer
+flat_ended (Ok m) = record { refusal = no_refusal; receiver = flat_receiver m.receiver; outcome = flat_outcome m.outcome; used = m.used }
+flat_ended (Err e) = record { refusal = flat_receiver_refusal e; receiver = no_receiver; outcome = no_outcome; used = 0 }

@@ -1,11 +1,7 @@
 -- Which flat struct stands for which value of the libraries: field by field, by the fields' own names, with the header's numbers. What
 -- goes out must stand for what was flattened. So two fields that are exchanged both ways, where reading back still undoes
 -- flattening, are refused all the same.
-use Rattle.std.specs.Prelude.{ℕ, ◌≡◌, Bool, true, false, ◌≢◌}
-use Rattle.modular.specs.declared.OptionModulus.{OptionModulus}
-use Rattle.modular.specs.declared.OptionModulus.TheVariants as modulus
-use Rattle.modular.specs.declared.OptionNumber.{OptionNumber}
-use Rattle.modular.specs.declared.OptionNumber.TheVariants as number
+use Rattle.std.specs.Prelude.{ℕ, ◌≡◌, Bool, true, false, ◌≢◌, Option, Some, None}
 use Rattle.sched.specs.declared.block.Bit.{Bit}
 use Rattle.sched.specs.declared.block.Bit.TheVariants.{Zero, One}
 use Rattle.sched.specs.declared.block.Block as sched_block
@@ -18,10 +14,8 @@ use Rattle.sched.specs.declared.block.BufferLayout.TheVariants.{DataFreeData, Fr
 use Rattle.operations.specs.declared.diff.Diff as sched_diff
 use Rattle.operations.specs.declared.diff.Diff.TheVariants.{Same, Different}
 use Rattle.operations.specs.declared.list.OutsideRange.{OutsideRange}
-use Rattle.operations.specs.declared.list.OutsideRanges.{OutsideRanges}
-use Rattle.operations.specs.declared.list.OutsideRanges.TheVariants as outside
-use Rattle.operations.specs.declared.list.ScheduledOperations.{ScheduledOperations}
-use Rattle.operations.specs.declared.list.ScheduledOperations.TheVariants as list
+use Rattle.operations.specs.Lists.{OutsideRanges, ScheduledOperations}
+use Rattle.operations.specs.declared.list.AtMostTwo.TheVariants as outside
 use Rattle.operations.specs.declared.operation.OperationType.{OperationType}
 use Rattle.operations.specs.declared.operation.OperationType.TheVariants.{Read, Write}
 use Rattle.operations.specs.declared.operation.ScheduledOperation.{ScheduledOperation}
@@ -63,6 +57,7 @@ use Rattle.flat.specs.declared.structs.State.{State}
 use Rattle.flat.specs.declared.structs.WritingEnd.{WritingEnd}
 use Rattle.flat.specs.declared.structs.WrittenCounter.{WrittenCounter}
 use Rattle.flat.specs.declared.modulus.OptionU64.{OptionU64}
+use Rattle.modular.specs.declared.Modulus.{Modulus}
 
 -- ---- the header's numbers
 abbrev pub BoolStands : ℕ → Bool → Type 0
@@ -91,13 +86,13 @@ FillStands n Partial = n ≡ 1
 FillStands n Full = n ≡ 2
 
 -- ---- moduli and differences
-abbrev pub ModulusStands : OptionU64 → OptionModulus → Type 0
-ModulusStands f (modulus.Some m) = (f.some ≡ 1) × (f.value ≡ m.0)
-ModulusStands f modulus.None = (f.some ≡ 0) × (f.value ≡ 0)
+abbrev pub ModulusStands : OptionU64 → Option Modulus → Type 0
+ModulusStands f (Some m) = (f.some ≡ 1) × (f.value ≡ m.0)
+ModulusStands f None = (f.some ≡ 0) × (f.value ≡ 0)
 
-abbrev pub NumberStands : OptionU64 → OptionNumber → Type 0
-NumberStands f (number.Some n) = (f.some ≡ 1) × (f.value ≡ n)
-NumberStands f number.None = (f.some ≡ 0) × (f.value ≡ 0)
+abbrev pub NumberStands : OptionU64 → Option ℕ → Type 0
+NumberStands f (Some n) = (f.some ≡ 1) × (f.value ≡ n)
+NumberStands f None = (f.some ≡ 0) × (f.value ≡ 0)
 
 abbrev pub DiffStands : Diff → sched_diff.Diff → Type 0
 DiffStands f (Same v) = (f.different ≡ 0) × (f.old ≡ v) × (f.new ≡ v)
@@ -150,9 +145,9 @@ NoCall f =
 
 -- ---- lists: the first `count` of the two places
 abbrev pub OperationsStands : Operations → ScheduledOperations → Type 0
-OperationsStands f list.None = (f.count ≡ 0) × NoOperation f.first × NoOperation f.second
-OperationsStands f (list.One x) = (f.count ≡ 1) × OperationStands f.first x × NoOperation f.second
-OperationsStands f (list.Two x y) = (f.count ≡ 2) × OperationStands f.first x × OperationStands f.second y
+OperationsStands f outside.None = (f.count ≡ 0) × NoOperation f.first × NoOperation f.second
+OperationsStands f (outside.One x) = (f.count ≡ 1) × OperationStands f.first x × NoOperation f.second
+OperationsStands f (outside.Two x y) = (f.count ≡ 2) × OperationStands f.first x × OperationStands f.second y
 
 abbrev pub RangesStands : Ranges → OutsideRanges → Type 0
 RangesStands f outside.None = (f.count ≡ 0) × NoRange f.first × NoRange f.second

@@ -4,13 +4,15 @@ ghost use Rattle.flat.specs.Diff.{diff_at, flat_diff};
 
 use crate::structs::Diff;
 
+// A flag beside two values: the C interface.
+#[tactic(auto, unfolding(crate::specs::Diff::diff_at))]
 pub fn diff(d: Diff) -> sched::Diff
     ensures { result ≡ diff_at d }
 {
-    if d.different == 0 {
-        return sched::Diff::Same(d.old);
+    match d.different {
+        0 => sched::Diff::Same(d.old),
+        _ => sched::Diff::Different(d.old, d.new),
     }
-    sched::Diff::Different(d.old, d.new)
 }
 
 pub fn flat_diff(d: sched::Diff) -> Diff

@@ -1,37 +1,35 @@
 // A failure as numbers, and back: an errno, or a violation by its number and, of an overflow, the bytes needed and the room.
+// An answer is a struct of C with fields of its own (the C interface): a `match` for each.
 ghost use Rattle.std.specs.Prelude.{◌≡◌};
-ghost use Rattle.flat.specs.Failure.{failure_at, potential_failure_at, an_errno, a_violation, no_failure, flat_failure, flat_failure_answer, flat_potential_failure};
+ghost use Rattle.flat.specs.Failure.{failure_at, potential_failure_at, an_errno, a_violation, flat_failure, flat_failure_answer, flat_potential_failure};
 
-use crate::refusal::{flat_receiver_refusal, no_refusal};
+use crate::refusal::flat_receiver_refusal;
 use crate::structs::{Failure, FailureAnswer, PotentialFailureAnswer};
-use states::{Overflow, PotentialFailure, Violation};
+use states::{Overflow, Violation};
 
+// A number for a kind: the C interface.
+#[tactic(auto, unfolding(crate::specs::Failure::failure_at))]
 pub fn failure(f: Failure) -> states::Failure
     ensures { result ≡ failure_at f }
 {
-    if f.kind == 0 {
-        return states::Failure::Io(f.value);
+    match f.kind {
+        0 => states::Failure::Io(f.value),
+        _ => states::Failure::Protocol(Violation::of_number(
+            f.value,
+            Overflow {
+                needed: f.needed,
+                room: f.room,
+            },
+        )),
     }
-    let o = Overflow {
-        needed: f.needed,
-        room: f.room,
-    };
-    states::Failure::Protocol(Violation::of_number(f.value, o))
 }
 
-pub fn potential_failure(some: u64, f: Failure) -> PotentialFailure
+// `some` beside a failure: the C interface.
+#[tactic(auto, unfolding(crate::specs::Failure::potential_failure_at))]
+pub fn potential_failure(some: u64, f: Failure) -> Option<states::Failure>
     ensures { result ≡ potential_failure_at some f }
 {
-    if some == 0 {
-        return PotentialFailure::None;
-    }
-    PotentialFailure::Some(failure(f))
-}
-
-pub(crate) fn no_failure() -> Failure
-    ensures { result ≡ no_failure }
-{
-    an_errno(0)
+    (some != 0).then(|| failure(f))
 }
 
 fn an_errno(value: u64) -> Failure
@@ -40,8 +38,7 @@ fn an_errno(value: u64) -> Failure
     Failure {
         kind: 0,
         value,
-        needed: 0,
-        room: 0,
+        ..Default::default()
     }
 }
 
@@ -65,41 +62,36 @@ pub(crate) fn flat_failure(f: states::Failure) -> Failure
     }
 }
 
-pub fn flat_failure_answer(a: states::FailureAnswer) -> FailureAnswer
+pub fn flat_failure_answer(a: Result<states::Failure, states::Refusal>) -> FailureAnswer
     ensures { result ≡ flat_failure_answer a }
 {
     match a {
-        states::FailureAnswer::Of(f) => FailureAnswer {
-            refusal: no_refusal(),
+        Ok(f) => FailureAnswer {
             failure: flat_failure(f),
+            ..Default::default()
         },
-        states::FailureAnswer::Refused(e) => FailureAnswer {
+        Err(e) => FailureAnswer {
             refusal: flat_receiver_refusal(e),
-            failure: no_failure(),
+            ..Default::default()
         },
     }
 }
 
-pub fn flat_potential_failure(a: states::PotentialFailureAnswer) -> PotentialFailureAnswer
+pub fn flat_potential_failure(
+    a: Result<Option<states::Failure>, states::Refusal>,
+) -> PotentialFailureAnswer
     ensures { result ≡ flat_potential_failure a }
 {
     match a {
-        states::PotentialFailureAnswer::Of(p) => match p {
-            PotentialFailure::Some(f) => PotentialFailureAnswer {
-                refusal: no_refusal(),
-                some: 1,
-                failure: flat_failure(f),
-            },
-            PotentialFailure::None => PotentialFailureAnswer {
-                refusal: no_refusal(),
-                some: 0,
-                failure: no_failure(),
-            },
+        Ok(Some(f)) => PotentialFailureAnswer {
+            some: 1,
+            failure: flat_failure(f),
+            ..Default::default()
         },
-        states::PotentialFailureAnswer::Refused(e) => PotentialFailureAnswer {
+        Ok(None) => PotentialFailureAnswer::default(),
+        Err(e) => PotentialFailureAnswer {
             refusal: flat_receiver_refusal(e),
-            some: 0,
-            failure: no_failure(),
+            ..Default::default()
         },
     }
 }

@@ -1,5 +1,6 @@
 // The flat form of every value that a host hands in or is answered: numbers, and structs of them. A function that is named after a value reads a
 // host's numbers, any bits; one that begins `flat_` writes them.
+// Functions and no `From`: each has the name of the definition in specs/ that its clause and the theorems cite.
 #![tactic(auto)]
 
 pub mod block;

@@ -2,33 +2,26 @@
 ghost use Rattle.std.specs.Prelude.{◌≡◌};
 ghost use Rattle.flat.specs.Modulus.{flat_modulus, flat_number};
 
-use modular::{OptionModulus, OptionNumber};
-
 // A number where `some` is 1; none where it is 0, and then `value` is 0.
+// The C interface: a flag beside a value.
 #[repr(C)]
-#[derive(Clone, Copy)]
+#[derive(Clone, Copy, Default)]
 pub struct OptionU64 {
     pub some: u64,
     pub value: u64,
 }
 
-pub fn flat_modulus(m: OptionModulus) -> OptionU64
+pub fn flat_modulus(m: Option<modular::Modulus>) -> OptionU64
     ensures { result ≡ flat_modulus m }
 {
-    match m {
-        OptionModulus::Some(m) => OptionU64 {
-            some: 1,
-            value: m.0,
-        },
-        OptionModulus::None => OptionU64 { some: 0, value: 0 },
-    }
+    flat_number(m.map(|m| m.0))
 }
 
-pub fn flat_number(n: OptionNumber) -> OptionU64
+pub fn flat_number(n: Option<u64>) -> OptionU64
     ensures { result ≡ flat_number n }
 {
     match n {
-        OptionNumber::Some(value) => OptionU64 { some: 1, value },
-        OptionNumber::None => OptionU64 { some: 0, value: 0 },
+        Some(value) => OptionU64 { some: 1, value },
+        None => OptionU64::default(),
     }
 }

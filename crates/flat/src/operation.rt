@@ -1,18 +1,21 @@
 // An operation as three numbers, and back, and the next one, where there may be none.
+// An answer is a struct of C with fields of its own (the C interface): a `match` for each.
 ghost use Rattle.std.specs.Prelude.{◌≡◌};
-ghost use Rattle.flat.specs.Operation.{type_at, operation_at, no_operation, flat_operation, flat_next};
+ghost use Rattle.flat.specs.Operation.{type_at, operation_at, flat_operation, flat_next};
 
-use crate::refusal::{flat_refusal, no_refusal};
+use crate::refusal::flat_refusal;
 use crate::structs::{NextAnswer, Operation};
-use sched::{NextOperation, NextOperationAnswer, Offset, OperationType, ScheduledOperation};
+use sched::{Next, Offset, OperationType, ScheduledOperation};
 
+// A number for a kind: the C interface.
+#[tactic(auto, unfolding(crate::specs::Operation::type_at))]
 pub fn operation_type(op: u64) -> OperationType
     ensures { result ≡ type_at op }
 {
-    if op == 0 {
-        return OperationType::Read;
+    match op {
+        0 => OperationType::Read,
+        _ => OperationType::Write,
     }
-    OperationType::Write
 }
 
 pub fn operation(o: Operation) -> ScheduledOperation
@@ -21,53 +24,43 @@ pub fn operation(o: Operation) -> ScheduledOperation
     ScheduledOperation::new(operation_type(o.typ), Offset(o.off), o.len)
 }
 
-pub(crate) fn no_operation() -> Operation
-    ensures { result ≡ no_operation }
-{
-    Operation {
-        typ: 0,
-        off: 0,
-        len: 0,
-    }
-}
-
 pub fn flat_operation(o: ScheduledOperation) -> Operation
     ensures { result ≡ flat_operation o }
 {
-    let typ = o.typ;
     Operation {
-        typ: typ.number(),
+        typ: o.typ.number(),
         off: o.off.0,
         len: o.len,
     }
 }
 
-pub fn flat_next(a: NextOperationAnswer) -> NextAnswer
+pub fn flat_next(a: Result<Next, sched::Refusal>) -> NextAnswer
     ensures { result ≡ flat_next a }
 {
     match a {
-        NextOperationAnswer::Of(next) => {
-            let operation = next.operation;
-            match operation {
-                NextOperation::Some(o) => NextAnswer {
-                    refusal: no_refusal(),
-                    some: 1,
-                    operation: flat_operation(o),
-                    remainder: next.remainder,
-                },
-                NextOperation::None => NextAnswer {
-                    refusal: no_refusal(),
-                    some: 0,
-                    operation: no_operation(),
-                    remainder: next.remainder,
-                },
-            }
-        }
-        NextOperationAnswer::Refused(e) => NextAnswer {
+        Ok(
+            Next {
+                operation: Some(o),
+                remainder,
+            },
+        ) => NextAnswer {
+            some: 1,
+            operation: flat_operation(o),
+            remainder,
+            ..Default::default()
+        },
+        Ok(
+            Next {
+                operation: None,
+                remainder,
+            },
+        ) => NextAnswer {
+            remainder,
+            ..Default::default()
+        },
+        Err(e) => NextAnswer {
             refusal: flat_refusal(e),
-            some: 0,
-            operation: no_operation(),
-            remainder: 0,
+            ..Default::default()
         },
     }
 }

@@ -1,21 +1,20 @@
 // What an accepted call of the receiver comes to, as numbers, and back.
 ghost use Rattle.std.specs.Prelude.{◌≡◌};
-ghost use Rattle.flat.specs.Outcome.{came_at, beside_at, outcome_at, no_outcome, flat_came, flat_outcome};
+ghost use Rattle.flat.specs.Outcome.{came_at, beside_at, outcome_at, flat_came, flat_outcome};
 
-use crate::failure::{failure, flat_failure, no_failure};
+use crate::failure::{failure, flat_failure};
 use crate::structs::Outcome;
 
+// A number for a kind: the C interface.
+#[tactic(auto, unfolding(crate::specs::Outcome::came_at))]
 fn came(o: Outcome) -> receiver::Came
     ensures { result ≡ came_at o }
 {
-    let f = o.failure;
-    if o.kind == 0 {
-        return receiver::Came::Read(o.n);
+    match o.kind {
+        0 => receiver::Came::Read(o.n),
+        1 => receiver::Came::Done,
+        _ => receiver::Came::Failed(failure(o.failure)),
     }
-    if o.kind == 1 {
-        return receiver::Came::Done;
-    }
-    receiver::Came::Failed(failure(f))
 }
 
 fn beside(o: Outcome) -> receiver::Beside
@@ -33,38 +32,27 @@ pub(crate) fn outcome(o: Outcome) -> receiver::Outcome
     }
 }
 
-pub(crate) fn no_outcome() -> Outcome
-    ensures { result ≡ no_outcome }
-{
-    Outcome {
-        kind: 0,
-        n: 0,
-        fds: 0,
-        failure: no_failure(),
-    }
-}
-
 fn flat_came(came: receiver::Came, beside: receiver::Beside) -> Outcome
     ensures { result ≡ flat_came came beside }
 {
+    let fds = beside.fds;
     match came {
         receiver::Came::Read(n) => Outcome {
             kind: 0,
             n,
-            fds: beside.fds,
-            failure: no_failure(),
+            fds,
+            ..Default::default()
         },
         receiver::Came::Done => Outcome {
             kind: 1,
-            n: 0,
-            fds: beside.fds,
-            failure: no_failure(),
+            fds,
+            ..Default::default()
         },
         receiver::Came::Failed(f) => Outcome {
             kind: 2,
-            n: 0,
-            fds: beside.fds,
+            fds,
             failure: flat_failure(f),
+            ..Default::default()
         },
     }
 }
@@ -72,7 +60,5 @@ fn flat_came(came: receiver::Came, beside: receiver::Beside) -> Outcome
 pub(crate) fn flat_outcome(o: receiver::Outcome) -> Outcome
     ensures { result ≡ flat_outcome o }
 {
-    let came = o.came;
-    let beside = o.beside;
-    flat_came(came, beside)
+    flat_came(o.came, o.beside)
 }

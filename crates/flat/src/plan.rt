@@ -1,50 +1,48 @@
 // What the planner answers: a plan in three numbers, how many runs were proposed, whether a plan from anywhere is one.
+// An answer is a struct of C with fields of its own (the C interface): a `match` for each.
 ghost use Rattle.std.specs.Prelude.{◌≡◌};
 ghost use Rattle.flat.specs.Planner.{flat_outlined, flat_proposed, flat_verdict};
 
 use crate::refusal::{flat_planner_refusal, no_refusal};
 use crate::structs::{ProposeAnswer, Refusal, StripsAnswer};
-use planner::{Outlined, Proposed, Verdict};
 
-pub fn flat_outlined(a: Outlined) -> StripsAnswer
+pub fn flat_outlined(a: Result<planner::Strips, planner::Refusal>) -> StripsAnswer
     ensures { result ≡ flat_outlined a }
 {
     match a {
-        Outlined::Of(o) => StripsAnswer {
-            refusal: no_refusal(),
+        Ok(o) => StripsAnswer {
             count: o.count,
             height: o.height,
             last: o.last,
+            ..Default::default()
         },
-        Outlined::Refused(e) => StripsAnswer {
+        Err(e) => StripsAnswer {
             refusal: flat_planner_refusal(e),
-            count: 0,
-            height: 0,
-            last: 0,
+            ..Default::default()
         },
     }
 }
 
-pub fn flat_proposed(a: Proposed) -> ProposeAnswer
+pub fn flat_proposed(a: Result<u64, planner::Refusal>) -> ProposeAnswer
     ensures { result ≡ flat_proposed a }
 {
     match a {
-        Proposed::Runs(count) => ProposeAnswer {
-            refusal: no_refusal(),
+        Ok(count) => ProposeAnswer {
             count,
+            ..Default::default()
         },
-        Proposed::Refused(e) => ProposeAnswer {
+        Err(e) => ProposeAnswer {
             refusal: flat_planner_refusal(e),
-            count: 0,
+            ..Default::default()
         },
     }
 }
 
-pub fn flat_verdict(a: Verdict) -> Refusal
+pub fn flat_verdict(a: Result<(), planner::Refusal>) -> Refusal
     ensures { result ≡ flat_verdict a }
 {
     match a {
-        Verdict::Accepted => no_refusal(),
-        Verdict::Refused(e) => flat_planner_refusal(e),
+        Ok(()) => no_refusal(),
+        Err(e) => flat_planner_refusal(e),
     }
 }

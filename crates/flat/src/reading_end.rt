@@ -1,9 +1,10 @@
 // A reading end and the counter that it sends, as numbers, and back, and what its calls answer.
+// An answer is a struct of C with fields of its own (the C interface): a `match` for each.
 ghost use Rattle.std.specs.Prelude.{◌≡◌};
-ghost use Rattle.flat.specs.ReadingEnd.{read_counter_at, reading_end_at, no_reading_end, flat_reading_end, flat_reading_end_answer, flat_got, flat_read_counter};
+ghost use Rattle.flat.specs.ReadingEnd.{read_counter_at, reading_end_at, flat_reading_end, flat_reading_end_answer, flat_got, flat_read_counter};
 
-use crate::refusal::{flat_end_refusal, no_refusal};
-use crate::scheduler::{flat_scheduler, no_scheduler, scheduler};
+use crate::refusal::flat_end_refusal;
+use crate::scheduler::{flat_scheduler, scheduler};
 use crate::structs::{GotAnswer, ReadCounter, ReadCounterAnswer, ReadingEnd, ReadingEndAnswer};
 use ends::Got;
 use sched::Counter;
@@ -17,74 +18,62 @@ pub fn read_counter(c: ReadCounter) -> ends::ReadCounter
 pub fn reading_end(e: ReadingEnd) -> ends::ReadingEnd
     ensures { result ≡ reading_end_at e }
 {
-    let s = e.scheduler;
     ends::ReadingEnd {
-        scheduler: scheduler(s),
-    }
-}
-
-fn no_reading_end() -> ReadingEnd
-    ensures { result ≡ no_reading_end }
-{
-    ReadingEnd {
-        scheduler: no_scheduler(),
+        scheduler: scheduler(e.scheduler),
     }
 }
 
 pub fn flat_reading_end(e: ends::ReadingEnd) -> ReadingEnd
     ensures { result ≡ flat_reading_end e }
 {
-    let s = e.scheduler;
     ReadingEnd {
-        scheduler: flat_scheduler(s),
+        scheduler: flat_scheduler(e.scheduler),
     }
 }
 
-pub fn flat_reading_end_answer(a: ends::ReadingEndAnswer) -> ReadingEndAnswer
+pub fn flat_reading_end_answer(a: Result<ends::ReadingEnd, ends::Refusal>) -> ReadingEndAnswer
     ensures { result ≡ flat_reading_end_answer a }
 {
     match a {
-        ends::ReadingEndAnswer::Of(e) => ReadingEndAnswer {
-            refusal: no_refusal(),
+        Ok(e) => ReadingEndAnswer {
             end: flat_reading_end(e),
+            ..Default::default()
         },
-        ends::ReadingEndAnswer::Refused(e) => ReadingEndAnswer {
+        Err(e) => ReadingEndAnswer {
             refusal: flat_end_refusal(e),
-            end: no_reading_end(),
+            ..Default::default()
         },
     }
 }
 
-pub fn flat_got(a: Got) -> GotAnswer
+pub fn flat_got(a: Result<Got, ends::Refusal>) -> GotAnswer
     ensures { result ≡ flat_got a }
 {
     match a {
-        Got::Moved { end, portion } => GotAnswer {
-            refusal: no_refusal(),
+        Ok(Got { end, portion }) => GotAnswer {
             end: flat_reading_end(end),
             n: portion.len,
             remainder: portion.remainder,
+            ..Default::default()
         },
-        Got::Refused(e) => GotAnswer {
+        Err(e) => GotAnswer {
             refusal: flat_end_refusal(e),
-            end: no_reading_end(),
-            n: 0,
-            remainder: 0,
+            ..Default::default()
         },
     }
 }
 
-pub fn flat_read_counter(a: ends::ReadCounterAnswer) -> ReadCounterAnswer
+pub fn flat_read_counter(a: Result<ends::ReadCounter, ends::Refusal>) -> ReadCounterAnswer
     ensures { result ≡ flat_read_counter a }
 {
     match a {
-        ends::ReadCounterAnswer::Of(c) => ReadCounterAnswer {
-            refusal: no_refusal(),
+        Ok(c) => ReadCounterAnswer {
             counter: ReadCounter { counter: c.0.0 },
+            ..Default::default()
         },
-        ends::ReadCounterAnswer::Refused(e) => ReadCounterAnswer {
+        Err(e) => ReadCounterAnswer {
             refusal: flat_end_refusal(e),
-            counter: ReadCounter { counter: 0 },
+            ..Default::default()
         },
     }
 }

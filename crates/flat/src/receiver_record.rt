@@ -1,12 +1,13 @@
 // The receiver's record as numbers, and back, and what its calls over a run answer.
+// An answer is a struct of C with fields of its own (the C interface): a `match` for each.
 ghost use Rattle.std.specs.Prelude.{◌≡◌};
-ghost use Rattle.flat.specs.Receiver.{yes_at, receiver_at, no_receiver, flat_receiver, flat_receiver_answer, flat_ended};
+ghost use Rattle.flat.specs.Receiver.{yes_at, receiver_at, flat_receiver, flat_receiver_answer, flat_ended};
 
 use crate::counter::bool_number;
-use crate::outcome::{flat_outcome, no_outcome};
-use crate::refusal::{flat_receiver_refusal, no_refusal};
-use crate::scheduler::{flat_scheduler, no_scheduler, scheduler};
-use crate::state::{flat_state, no_state, state};
+use crate::outcome::flat_outcome;
+use crate::refusal::flat_receiver_refusal;
+use crate::scheduler::{flat_scheduler, scheduler};
+use crate::state::{flat_state, state};
 use crate::structs::{EndedAnswer, Receiver, ReceiverAnswer};
 use receiver::{Ended, ReceiverState};
 
@@ -19,74 +20,59 @@ pub(crate) fn yes(number: u64) -> bool
 pub fn receiver_state(q: Receiver) -> ReceiverState
     ensures { result ≡ receiver_at q }
 {
-    let s = q.scheduler;
-    let operational = q.state;
     ReceiverState {
-        scheduler: scheduler(s),
-        state: state(operational),
+        scheduler: scheduler(q.scheduler),
+        state: state(q.state),
         pending_ack_count: q.pending_ack_count,
         notification_socket_shutdown_issued: yes(q.notification_socket_shutdown_issued),
-    }
-}
-
-pub(crate) fn no_receiver() -> Receiver
-    ensures { result ≡ no_receiver }
-{
-    Receiver {
-        scheduler: no_scheduler(),
-        state: no_state(),
-        pending_ack_count: 0,
-        notification_socket_shutdown_issued: 0,
     }
 }
 
 pub(crate) fn flat_receiver(q: ReceiverState) -> Receiver
     ensures { result ≡ flat_receiver q }
 {
-    let s = q.scheduler;
-    let operational = q.state;
     Receiver {
-        scheduler: flat_scheduler(s),
-        state: flat_state(operational),
+        scheduler: flat_scheduler(q.scheduler),
+        state: flat_state(q.state),
         pending_ack_count: q.pending_ack_count,
         notification_socket_shutdown_issued: bool_number(q.notification_socket_shutdown_issued),
     }
 }
 
-pub fn flat_receiver_answer(a: receiver::ReceiverAnswer) -> ReceiverAnswer
+pub fn flat_receiver_answer(a: Result<ReceiverState, states::Refusal>) -> ReceiverAnswer
     ensures { result ≡ flat_receiver_answer a }
 {
     match a {
-        receiver::ReceiverAnswer::Of(q) => ReceiverAnswer {
-            refusal: no_refusal(),
+        Ok(q) => ReceiverAnswer {
             receiver: flat_receiver(q),
+            ..Default::default()
         },
-        receiver::ReceiverAnswer::Refused(e) => ReceiverAnswer {
+        Err(e) => ReceiverAnswer {
             refusal: flat_receiver_refusal(e),
-            receiver: no_receiver(),
+            ..Default::default()
         },
     }
 }
 
-pub fn flat_ended(a: Ended) -> EndedAnswer
+pub fn flat_ended(a: Result<Ended, states::Refusal>) -> EndedAnswer
     ensures { result ≡ flat_ended a }
 {
     match a {
-        Ended::Accepted {
-            receiver,
-            outcome,
-            used,
-        } => EndedAnswer {
-            refusal: no_refusal(),
+        Ok(
+            Ended {
+                receiver,
+                outcome,
+                used,
+            },
+        ) => EndedAnswer {
             receiver: flat_receiver(receiver),
             outcome: flat_outcome(outcome),
             used,
+            ..Default::default()
         },
-        Ended::Refused(e) => EndedAnswer {
+        Err(e) => EndedAnswer {
             refusal: flat_receiver_refusal(e),
-            receiver: no_receiver(),
-            outcome: no_outcome(),
-            used: 0,
+            ..Default::default()
         },
     }
 }

@@ -20,14 +20,10 @@ fn refusal_with(number: u64, values: Values) -> Refusal
 pub fn no_refusal() -> Refusal
     ensures { result ≡ no_refusal }
 {
-    Refusal {
-        number: 0,
-        a: 0,
-        b: 0,
-        c: 0,
-    }
+    Refusal::default()
 }
 
+// Five enums: `number` and `values` are public methods of each, and a trait over them would stand beside these, not in their place.
 pub(crate) fn flat_refusal(e: sched::Refusal) -> Refusal
     ensures { result ≡ flat_refusal e }
 {

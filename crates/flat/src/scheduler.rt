@@ -1,10 +1,11 @@
 // A scheduler as four numbers, and back, and what a test and a registering answer.
+// An answer is a struct of C with fields of its own (the C interface): a `match` for each.
 ghost use Rattle.std.specs.Prelude.{◌≡◌};
-ghost use Rattle.flat.specs.Scheduler.{scheduler_at, no_scheduler, flat_scheduler, flat_checked, flat_registered};
+ghost use Rattle.flat.specs.Scheduler.{scheduler_at, flat_scheduler, flat_checked};
 
-use crate::refusal::{flat_refusal, no_refusal};
+use crate::refusal::flat_refusal;
 use crate::structs::{Scheduler, SchedulerAnswer};
-use sched::{Checked, Counter, Registered, RingBufferScheduler};
+use sched::{Counter, RingBufferScheduler};
 
 pub fn scheduler(s: Scheduler) -> RingBufferScheduler
     ensures { result ≡ scheduler_at s }
@@ -15,17 +16,6 @@ pub fn scheduler(s: Scheduler) -> RingBufferScheduler
         Counter(s.items_read),
         s.fill,
     )
-}
-
-pub(crate) fn no_scheduler() -> Scheduler
-    ensures { result ≡ no_scheduler }
-{
-    Scheduler {
-        buf_len: 0,
-        items_written: 0,
-        items_read: 0,
-        fill: 0,
-    }
 }
 
 pub(crate) fn flat_scheduler(s: RingBufferScheduler) -> Scheduler
@@ -39,32 +29,18 @@ pub(crate) fn flat_scheduler(s: RingBufferScheduler) -> Scheduler
     }
 }
 
-pub fn flat_checked(a: Checked) -> SchedulerAnswer
+// What a test and a registering answer.
+pub fn flat_checked(a: Result<RingBufferScheduler, sched::Refusal>) -> SchedulerAnswer
     ensures { result ≡ flat_checked a }
 {
     match a {
-        Checked::Sound(s) => SchedulerAnswer {
-            refusal: no_refusal(),
+        Ok(s) => SchedulerAnswer {
             scheduler: flat_scheduler(s),
+            ..Default::default()
         },
-        Checked::Refused(e) => SchedulerAnswer {
+        Err(e) => SchedulerAnswer {
             refusal: flat_refusal(e),
-            scheduler: no_scheduler(),
-        },
-    }
-}
-
-pub fn flat_registered(a: Registered) -> SchedulerAnswer
-    ensures { result ≡ flat_registered a }
-{
-    match a {
-        Registered::Advanced(s) => SchedulerAnswer {
-            refusal: no_refusal(),
-            scheduler: flat_scheduler(s),
-        },
-        Registered::Refused(e) => SchedulerAnswer {
-            refusal: flat_refusal(e),
-            scheduler: no_scheduler(),
+            ..Default::default()
         },
     }
 }

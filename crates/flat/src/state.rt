@@ -1,32 +1,22 @@
 // A state of the receiver as numbers, and back.
+// An answer is a struct of C with fields of its own (the C interface): a `match` for each.
 ghost use Rattle.std.specs.Prelude.{◌≡◌};
-ghost use Rattle.flat.specs.State.{state_at, no_state, flat_state, flat_state_answer};
+ghost use Rattle.flat.specs.State.{state_at, flat_state, flat_state_answer};
 
-use crate::failure::{failure, flat_failure, no_failure};
-use crate::refusal::{flat_receiver_refusal, no_refusal};
+use crate::failure::{failure, flat_failure};
+use crate::refusal::flat_receiver_refusal;
 use crate::structs::{State, StateAnswer};
 use states::OperationalState;
 
+// A number for a kind: the C interface.
+#[tactic(auto, unfolding(crate::specs::State::state_at))]
 pub fn state(s: State) -> OperationalState
     ensures { result ≡ state_at s }
 {
-    let f = s.failure;
-    if s.kind == 0 {
-        return OperationalState::Normal;
-    }
-    if s.kind == 1 {
-        return OperationalState::Draining(failure(f));
-    }
-    OperationalState::Terminated(failure(f))
-}
-
-// All zeros, which is also the flat form of `Normal`.
-pub(crate) fn no_state() -> State
-    ensures { result ≡ no_state }
-{
-    State {
-        kind: 0,
-        failure: no_failure(),
+    match s.kind {
+        0 => OperationalState::Normal,
+        1 => OperationalState::Draining(failure(s.failure)),
+        _ => OperationalState::Terminated(failure(s.failure)),
     }
 }
 
@@ -34,7 +24,7 @@ pub(crate) fn flat_state(s: OperationalState) -> State
     ensures { result ≡ flat_state s }
 {
     match s {
-        OperationalState::Normal => no_state(),
+        OperationalState::Normal => State::default(),
         OperationalState::Draining(f) => State {
             kind: 1,
             failure: flat_failure(f),
@@ -46,17 +36,17 @@ pub(crate) fn flat_state(s: OperationalState) -> State
     }
 }
 
-pub fn flat_state_answer(a: states::StateAnswer) -> StateAnswer
+pub fn flat_state_answer(a: Result<OperationalState, states::Refusal>) -> StateAnswer
     ensures { result ≡ flat_state_answer a }
 {
     match a {
-        states::StateAnswer::Of(s) => StateAnswer {
-            refusal: no_refusal(),
+        Ok(s) => StateAnswer {
             state: flat_state(s),
+            ..Default::default()
         },
-        states::StateAnswer::Refused(e) => StateAnswer {
+        Err(e) => StateAnswer {
             refusal: flat_receiver_refusal(e),
-            state: no_state(),
+            ..Default::default()
         },
     }
 }

@@ -1,9 +1,10 @@
 // A writing end and the counter that it sends, as numbers, and back, and what its calls answer.
+// An answer is a struct of C with fields of its own (the C interface): a `match` for each.
 ghost use Rattle.std.specs.Prelude.{◌≡◌};
-ghost use Rattle.flat.specs.WritingEnd.{written_counter_at, writing_end_at, no_writing_end, flat_writing_end, flat_writing_end_answer, flat_wrote, flat_written_counter};
+ghost use Rattle.flat.specs.WritingEnd.{written_counter_at, writing_end_at, flat_writing_end, flat_writing_end_answer, flat_wrote, flat_written_counter};
 
-use crate::refusal::{flat_end_refusal, no_refusal};
-use crate::scheduler::{flat_scheduler, no_scheduler, scheduler};
+use crate::refusal::flat_end_refusal;
+use crate::scheduler::{flat_scheduler, scheduler};
 use crate::structs::{
     WritingEnd, WritingEndAnswer, WrittenCounter, WrittenCounterAnswer, WroteAnswer,
 };
@@ -19,74 +20,62 @@ pub fn written_counter(c: WrittenCounter) -> ends::WrittenCounter
 pub fn writing_end(e: WritingEnd) -> ends::WritingEnd
     ensures { result ≡ writing_end_at e }
 {
-    let s = e.scheduler;
     ends::WritingEnd {
-        scheduler: scheduler(s),
-    }
-}
-
-fn no_writing_end() -> WritingEnd
-    ensures { result ≡ no_writing_end }
-{
-    WritingEnd {
-        scheduler: no_scheduler(),
+        scheduler: scheduler(e.scheduler),
     }
 }
 
 pub fn flat_writing_end(e: ends::WritingEnd) -> WritingEnd
     ensures { result ≡ flat_writing_end e }
 {
-    let s = e.scheduler;
     WritingEnd {
-        scheduler: flat_scheduler(s),
+        scheduler: flat_scheduler(e.scheduler),
     }
 }
 
-pub fn flat_writing_end_answer(a: ends::WritingEndAnswer) -> WritingEndAnswer
+pub fn flat_writing_end_answer(a: Result<ends::WritingEnd, ends::Refusal>) -> WritingEndAnswer
     ensures { result ≡ flat_writing_end_answer a }
 {
     match a {
-        ends::WritingEndAnswer::Of(e) => WritingEndAnswer {
-            refusal: no_refusal(),
+        Ok(e) => WritingEndAnswer {
             end: flat_writing_end(e),
+            ..Default::default()
         },
-        ends::WritingEndAnswer::Refused(e) => WritingEndAnswer {
+        Err(e) => WritingEndAnswer {
             refusal: flat_end_refusal(e),
-            end: no_writing_end(),
+            ..Default::default()
         },
     }
 }
 
-pub fn flat_wrote(a: Wrote) -> WroteAnswer
+pub fn flat_wrote(a: Result<Wrote, ends::Refusal>) -> WroteAnswer
     ensures { result ≡ flat_wrote a }
 {
     match a {
-        Wrote::Moved { end, portion } => WroteAnswer {
-            refusal: no_refusal(),
+        Ok(Wrote { end, portion }) => WroteAnswer {
             end: flat_writing_end(end),
             n: portion.len,
             remainder: portion.remainder,
+            ..Default::default()
         },
-        Wrote::Refused(e) => WroteAnswer {
+        Err(e) => WroteAnswer {
             refusal: flat_end_refusal(e),
-            end: no_writing_end(),
-            n: 0,
-            remainder: 0,
+            ..Default::default()
         },
     }
 }
 
-pub fn flat_written_counter(a: ends::WrittenCounterAnswer) -> WrittenCounterAnswer
+pub fn flat_written_counter(a: Result<ends::WrittenCounter, ends::Refusal>) -> WrittenCounterAnswer
     ensures { result ≡ flat_written_counter a }
 {
     match a {
-        ends::WrittenCounterAnswer::Of(c) => WrittenCounterAnswer {
-            refusal: no_refusal(),
+        Ok(c) => WrittenCounterAnswer {
             counter: WrittenCounter { counter: c.0.0 },
+            ..Default::default()
         },
-        ends::WrittenCounterAnswer::Refused(e) => WrittenCounterAnswer {
+        Err(e) => WrittenCounterAnswer {
             refusal: flat_end_refusal(e),
-            counter: WrittenCounter { counter: 0 },
+            ..Default::default()
         },
     }
 }

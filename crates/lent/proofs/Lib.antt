@@ -1,3 +1,2 @@
-mod LentLaws
 pub mod Says
 pub mod PromisedLent

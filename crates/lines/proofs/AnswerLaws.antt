@@ -28,7 +28,7 @@ module _ (most longest : ℕ) (line : List ℕ) (o : Filled) where
   pub ready_room : is_ready most longest line o ≡ true → most ≤ length line
   ready_room p =
       ⊎_elim
-      (λ short. absurd (let z : false ≡ true = ready_short short ∙ p in let y : ◌≡◌ {A = ℕ} 0 1 = cc in omega arith))
+      (λ short. absurd (let z : false ≡ true = ready_short short ∙ p in cc))
       (λ long. long)
       (lt_or_le (length line) most)
 

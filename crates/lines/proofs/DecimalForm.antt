@@ -3,15 +3,14 @@ use Prim.Native.Nat.{ℕ, zero, suc, ◌+◌, ◌-◌, ◌*◌, ◌/◌, ◌%◌
 use mathlib.Core.Path.{◌≡◌, refl, sym, ap, ◌∙◌}
 use mathlib.Core.Bool.{Bool, true, false, cond}
 use mathlib.Core.List.{List, [], ◌∷◌, ◌++◌, append_assoc}
-use mathlib.Core.Logic.{⊎_elim}
 use lib.Dec.{ltb, eqb}
-use native.Mathlib.Nat.{div-add-mod', mod-lt, pow-suc}
+use native.Mathlib.Nat.{div-add-mod', mod-lt}
 use native.Mathlib.Omega.{arith}
 use borrow.Author.Tests.{ltb-true, lt-ltb, eqb-true, ne_eqb, eqb-false}
-use Rattle.modular.proofs.Laws.{lt_or_le}
+use Rattle.std.proofs.lemmas.Fmt.{decimal_by_steps}
 use Rattle.lines.specs.Decimal.{decimal, some, none, is_digit, digits_on, number_front}
 use Rattle.lines.specs.Promise.{Stops}
-use Rattle.lines.proofs.DecimalLaws.{is_digit_lem, digit_bounds, no_digit, digit_none, tenth, decimal_one, decimal_more}
+use Rattle.lines.proofs.DecimalLaws.{is_digit_lem, digit_bounds, no_digit, digit_none, printed_decimal, decimal_one, decimal_more}
 
 -- ---- reading on, byte by byte
 pub on_digit : (v x : ℕ) (xs : List ℕ) → 48 ≤ x → x ≤ 57 → v * 10 + (x - 48) < 2 ^ 64 → digits_on v (x ∷ xs) ≡ digits_on (v * 10 + (x - 48)) xs
@@ -24,19 +23,22 @@ front_first x xs p q = rw (ne_eqb x 48 (λ z. omega arith), is_digit_lem x (omeg
 
 -- ---- from the decimal form
 -- the digits of a number that is not 0, and whatever stands behind them
-front_positive : (k n : ℕ) (xs : List ℕ) → n < 10 ^ k → 0 < n → n < 2 ^ 64 → number_front (decimal n ++ xs) ≡ digits_on n xs
-front_positive zero n xs h p f = absurd (omega arith)
-front_positive (suc k) n xs h p f =
-    ⊎_elim
-    (λ small. rw (decimal_one n small) (front_first (48 + n) xs (omega arith) (omega arith) ∙ ap (λ (v : ℕ). digits_on v xs) (omega arith)))
-    (λ large.
+abbrev Front_is : ℕ → List ℕ → Type 0
+Front_is n digits = 0 < n → n < 2 ^ 64 → (xs : List ℕ) → number_front (digits ++ xs) ≡ digits_on n xs
+
+front_one : (n : ℕ) → n < 10 → Front_is n ((48 + n) ∷ [])
+front_one n small p f xs = front_first (48 + n) xs (omega arith) (omega arith) ∙ ap (λ (v : ℕ). digits_on v xs) (omega arith)
+
+front_more : (n : ℕ) (digits : List ℕ) → 10 ≤ n → Front_is (n / 10) digits → Front_is n (digits ++ ((48 + n % 10) ∷ []))
+front_more n digits large r p f xs =
     let m : n % 10 < 10 = mod-lt n (omega arith) in
-    ap (λ (ys : List ℕ). number_front (ys ++ xs)) (decimal_more n large (omega arith))
-    ∙ ap number_front (append_assoc (decimal (n / 10)) ((48 + n % 10) ∷ []) xs)
-    ∙ front_positive k (n / 10) ((48 + n % 10) ∷ xs) (tenth n (10 ^ k) (rw (pow-suc 10 k) at h)) (omega (arith, div-add-mod' n 10)) (omega (arith, div-add-mod' n 10))
+    ap number_front (append_assoc digits ((48 + n % 10) ∷ []) xs)
+    ∙ r (omega (arith, div-add-mod' n 10)) (omega (arith, div-add-mod' n 10)) ((48 + n % 10) ∷ xs)
     ∙ on_digit (n / 10) (48 + n % 10) xs (omega arith) (omega arith) (omega (arith, div-add-mod' n 10))
-    ∙ ap (λ (v : ℕ). digits_on v xs) (omega (arith, div-add-mod' n 10)))
-    (lt_or_le n 10)
+    ∙ ap (λ (v : ℕ). digits_on v xs) (omega (arith, div-add-mod' n 10))
+
+front_positive : (n : ℕ) → n < 2 ^ 64 → Front_is n (decimal n)
+front_positive n f = rw (← printed_decimal n (omega arith)) (decimal_by_steps Front_is front_one front_more n f)
 
 front_nothing : (xs : List ℕ) → number_front (decimal 0 ++ xs) ≡ some 0 xs
 unfolding number_front
@@ -50,7 +52,7 @@ stops_here (x ∷ xs) v s = rw (no_digit x s)
 -- a number's decimal form is read as the number, where no digit stands behind it; `0` also where one does
 pub front_decimal : (n : ℕ) (xs : List ℕ) → n < 2 ^ 64 → (0 < n → Stops xs) → number_front (decimal n ++ xs) ≡ some n xs
 front_decimal zero xs f stop = front_nothing xs
-front_decimal (suc n) xs f stop = front_positive 20 (suc n) xs (omega arith) (omega arith) f ∙ stops_here xs (suc n) (stop (omega arith))
+front_decimal (suc n) xs f stop = front_positive (suc n) f (omega arith) f xs ∙ stops_here xs (suc n) (stop (omega arith))
 
 -- ---- from nothing else
 snoc_decimal : (v x : ℕ) → 0 < v → is_digit x ≡ true → v * 10 + (x - 48) < 2 ^ 64 → decimal (v * 10 + (x - 48)) ≡ decimal v ++ (x ∷ [])
@@ -75,7 +77,7 @@ same v n ys rest p f s q =
     rw (← e, ← g) (record { is = q; fits = f; stops = s })
 
 pub never : {A : Type 0} (n : ℕ) (rest : List ℕ) → none ≡ some n rest → A
-never n rest p = absurd (let z : ◌≡◌ {A = ℕ} 0 1 = cc in omega arith)
+never n rest p = cc
 
 on_decimal : (v : ℕ) (xs : List ℕ) (n : ℕ) (rest : List ℕ) → 0 < v → v < 2 ^ 64 → digits_on v xs ≡ some n rest → Reads (decimal v ++ xs) n rest
 unfolding digits_on

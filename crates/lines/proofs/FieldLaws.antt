@@ -1,5 +1,6 @@
 -- Laws of a number with a space behind it, and of a line's last number: at an index, from its decimal form, and from nothing else.
 use Prim.Native.Nat.{ℕ, ◌+◌, ◌-◌, ◌^◌, ◌<◌, ◌≤◌}
+use Rattle.std.specs.Prelude.{Option, Some, None}
 use mathlib.Core.Path.{◌≡◌, refl, sym, ap, ◌∙◌}
 use mathlib.Core.Bool.{Bool, true, false, cond}
 use mathlib.Core.List.{List, [], ◌∷◌, ◌++◌, append_assoc, append-nil}
@@ -8,61 +9,52 @@ use lib.ListN.{length, drop, get_or, length-append, length-drop, drop_of_length-
 use native.Mathlib.Omega.{arith}
 use borrow.Author.Tests.{eqb-true, eq-eqb, ne_eqb}
 use Rattle.lines.specs.declared.decimal.Number.{Number}
-use Rattle.lines.specs.declared.decimal.Number.TheVariants as number
-use Rattle.lines.specs.Decimal.{decimal, Front, some, none, number_front, front_in, number_in, number_at}
+use Rattle.lines.specs.Decimal.{decimal, Front, some, none, number_front, front_in, number, number_in, number_at}
 use Rattle.lines.specs.Field.{space_then, after_space, spaced_front, end_then, at_end, last_front, spaced_at, last_at}
 use Rattle.lines.specs.Promise.{Spaced, Last}
 use Rattle.lines.proofs.DecimalForm.{Reads, front_decimal, never, front_reads}
 use Rattle.lines.proofs.DecimalLaws.{at_cons, number_there}
-use Rattle.lines.proofs.NumberLaws.{rest_is, front_at}
+use Rattle.lines.proofs.NumberLaws.{rest_is, front_at, same_number}
 use Rattle.lines.proofs.NumeralLaws.{decimal_numeral, numeral_is}
 
 -- ---- what a reader answered, as the bytes from its index on
-pub front_is : (line : List ℕ) {r s : Number} {f : Front} → r ≡ s → front_in r line ≡ f → front_in s line ≡ f
-front_is line p q = ap (λ (x : Number). front_in x line) (sym p) ∙ q
+pub front_is : (line : List ℕ) {r s : Option Number} {f : Front} → r ≡ s → front_in r line ≡ f → front_in s line ≡ f
+front_is line p q = ap (λ (x : Option Number). front_in x line) (sym p) ∙ q
 
 -- ---- the byte behind a number that stands at an index
-module _ (line : List ℕ) (at n next : ℕ) {r : Number} (p : r ≡ number.Of n next) (q : r ≡ number_at line at) where
+module _ (line : List ℕ) (at n next : ℕ) {r : Option Number} (p : r ≡ Some (number n next)) (q : r ≡ number_at line at) where
   front : some n (drop next line) ≡ number_front (drop at line)
   front = front_is line p (front_at line at q)
 
-  pub space_there : next < length line → get_or line next 0 ≡ 32 → number.Of n (next + 1) ≡ spaced_at line at
+  pub space_there : next < length line → get_or line next 0 ≡ 32 → Some (number n (next + 1)) ≡ spaced_at line at
   unfolding space_then
   space_there h e =
       let taken : space_then n (drop next line) ≡ some n (drop (next + 1) line) = rw (at_cons line next h, eq-eqb _ _ e) in
       number_there line n (next + 1) (omega arith) ∙ ap (number_in line) (sym taken ∙ ap after_space front)
 
-  pub space_other : next < length line → (get_or line next 0 ≡ 32 → ⊥) → number.Bad ≡ spaced_at line at
+  pub space_other : next < length line → (get_or line next 0 ≡ 32 → ⊥) → None ≡ spaced_at line at
   unfolding space_then
   space_other h e =
       let left : space_then n (drop next line) ≡ none = rw (at_cons line next h, ne_eqb _ _ e) in
       ap (number_in line) (sym left ∙ ap after_space front)
 
-  pub space_end : length line ≤ next → number.Bad ≡ spaced_at line at
+  pub space_end : length line ≤ next → None ≡ spaced_at line at
   unfolding space_then
   space_end h =
       let left : space_then n (drop next line) ≡ none = rw (drop_of_length-le line h) in
       ap (number_in line) (sym left ∙ ap after_space front)
 
-  pub end_there : length line ≤ next → number.Of n next ≡ last_at line at
+  pub end_there : length line ≤ next → Some (number n next) ≡ last_at line at
   unfolding end_then
   end_there h =
       let taken : end_then n (drop next line) ≡ some n (drop next line) = rw (drop_of_length-le line h) in
       sym p ∙ q ∙ ap (number_in line) (sym front ∙ sym taken ∙ ap at_end front)
 
-  pub end_other : next < length line → number.Bad ≡ last_at line at
+  pub end_other : next < length line → None ≡ last_at line at
   unfolding end_then
   end_other h =
       let left : end_then n (drop next line) ≡ none = rw (at_cons line next h) in
       ap (number_in line) (sym left ∙ ap at_end front)
-
--- no number, and so no field
-module _ (line : List ℕ) (at : ℕ) {r : Number} (p : r ≡ number.Bad) (q : r ≡ number_at line at) where
-  pub space_none : number.Bad ≡ spaced_at line at
-  space_none = ap (λ (f : Front). number_in line (after_space f)) (front_is line p (front_at line at q))
-
-  pub end_none : number.Bad ≡ last_at line at
-  end_none = ap (λ (f : Front). number_in line (at_end f)) (front_is line p (front_at line at q))
 
 -- ---- a number's decimal form is read
 pub spaced_decimal : (n : ℕ) (xs : List ℕ) → n < 2 ^ 64 → spaced_front (decimal n ++ (32 ∷ xs)) ≡ some n xs
@@ -119,15 +111,15 @@ last_reads xs n ys p = go (number_front xs) refl p
 behind_space : (line rest : List ℕ) (at n : ℕ) → drop at line ≡ decimal n ++ (32 ∷ rest) → drop (length line - length rest) line ≡ rest
 behind_space line rest at n e = rest_is line (decimal n ++ (32 ∷ [])) rest at (e ∙ sym (append_assoc (decimal n) (32 ∷ []) rest))
 
-pub spaced_front_lem : (line : List ℕ) (at : ℕ) {r : Number} → r ≡ spaced_at line at → front_in r line ≡ spaced_front (drop at line)
-spaced_front_lem line at e = ap (λ (x : Number). front_in x line) e ∙ go (spaced_front (drop at line)) refl
+pub spaced_front_lem : (line : List ℕ) (at : ℕ) {r : Option Number} → r ≡ spaced_at line at → front_in r line ≡ spaced_front (drop at line)
+spaced_front_lem line at e = ap (λ (x : Option Number). front_in x line) e ∙ go (spaced_front (drop at line)) refl
   where
     go : (f : Front) → spaced_front (drop at line) ≡ f → front_in (number_in line f) line ≡ f
     go (some n rest) q = ap (some n) (behind_space line rest at n (spaced_reads (drop at line) n rest q).0)
     go none q = refl
 
-pub last_front_lem : (line : List ℕ) (at : ℕ) {r : Number} → r ≡ last_at line at → front_in r line ≡ last_front (drop at line)
-last_front_lem line at e = ap (λ (x : Number). front_in x line) e ∙ go (last_front (drop at line)) refl
+pub last_front_lem : (line : List ℕ) (at : ℕ) {r : Option Number} → r ≡ last_at line at → front_in r line ≡ last_front (drop at line)
+last_front_lem line at e = ap (λ (x : Option Number). front_in x line) e ∙ go (last_front (drop at line)) refl
   where
     go : (f : Front) → last_front (drop at line) ≡ f → front_in (number_in line f) line ≡ f
     go (some n rest) q =
@@ -140,51 +132,49 @@ last_front_lem line at e = ap (λ (x : Number). front_in x line) e ∙ go (last_
 index_behind : (line text rest : List ℕ) (at : ℕ) → drop at line ≡ text ++ (32 ∷ rest) → length line - length rest ≡ at + length text + 1
 index_behind line text rest at e = omega (arith, ap length e, length-append text (32 ∷ rest), length-drop at line)
 
-pub spaced_stands : (line : List ℕ) (at n next : ℕ) → Spaced line at n next → spaced_at line at ≡ number.Of n next
+pub spaced_stands : (line : List ℕ) (at n next : ℕ) → Spaced line at n next → spaced_at line at ≡ Some (number n next)
 spaced_stands line at n next s =
     let form : s.text ≡ decimal n = numeral_is s.text n s.fits s.numeral in
     ap (number_in line) (ap spaced_front (s.is ∙ ap (λ (x : List ℕ). x ++ (32 ∷ s.rest)) form) ∙ spaced_decimal n s.rest s.fits)
-    ∙ ap (number.Of n) (index_behind line s.text s.rest at s.is ∙ sym s.end)
+    ∙ ap (λ (k : ℕ). Some (number n k)) (index_behind line s.text s.rest at s.is ∙ sym s.end)
 
-pub stands_spaced : (line : List ℕ) (at n next : ℕ) → spaced_at line at ≡ number.Of n next → Spaced line at n next
+pub stands_spaced : (line : List ℕ) (at n next : ℕ) → spaced_at line at ≡ Some (number n next) → Spaced line at n next
 stands_spaced line at n next = go (spaced_front (drop at line)) refl
   where
-    go : (f : Front) → spaced_front (drop at line) ≡ f → number_in line f ≡ number.Of n next → Spaced line at n next
-    go none q e = absurd (let z : ◌≡◌ {A = ℕ} 0 1 = cc in omega arith)
+    go : (f : Front) → spaced_front (drop at line) ≡ f → number_in line f ≡ Some (number n next) → Spaced line at n next
+    go none q e = cc
     go (some m rest) q e =
-        let same : m ≡ n = cc in
-        let end : length line - length rest ≡ next = cc in
+        let same : (m ≡ n) × (length line - length rest ≡ next) = same_number e in
         let r : (drop at line ≡ decimal m ++ (32 ∷ rest)) × (m < 2 ^ 64) = spaced_reads (drop at line) m rest q in
-        rw (← same)
+        rw (← same.0)
         (record {
           text = decimal m;
           rest = rest;
           is = r.0;
           numeral = decimal_numeral m r.1;
           fits = r.1;
-          end = sym end ∙ index_behind line (decimal m) rest at r.0;
+          end = sym same.1 ∙ index_behind line (decimal m) rest at r.0;
         })
 
 none_behind : (line : List ℕ) → length line - 0 ≡ length line
 none_behind line = omega arith
 
-pub last_stands : (line : List ℕ) (at n next : ℕ) → Last line at n next → last_at line at ≡ number.Of n next
+pub last_stands : (line : List ℕ) (at n next : ℕ) → Last line at n next → last_at line at ≡ Some (number n next)
 last_stands line at n next s =
     ap (number_in line) (ap last_front (numeral_is (drop at line) n s.fits s.numeral) ∙ last_decimal n s.fits)
-    ∙ ap (number.Of n) (none_behind line ∙ sym s.end)
+    ∙ ap (λ (k : ℕ). Some (number n k)) (none_behind line ∙ sym s.end)
 
-pub stands_last : (line : List ℕ) (at n next : ℕ) → last_at line at ≡ number.Of n next → Last line at n next
+pub stands_last : (line : List ℕ) (at n next : ℕ) → last_at line at ≡ Some (number n next) → Last line at n next
 stands_last line at n next = go (last_front (drop at line)) refl
   where
-    go : (f : Front) → last_front (drop at line) ≡ f → number_in line f ≡ number.Of n next → Last line at n next
-    go none q e = absurd (let z : ◌≡◌ {A = ℕ} 0 1 = cc in omega arith)
+    go : (f : Front) → last_front (drop at line) ≡ f → number_in line f ≡ Some (number n next) → Last line at n next
+    go none q e = cc
     go (some m rest) q e =
-        let same : m ≡ n = cc in
-        let end : length line - length rest ≡ next = cc in
+        let same : (m ≡ n) × (length line - length rest ≡ next) = same_number e in
         let r : (drop at line ≡ decimal m) × (m < 2 ^ 64) × (rest ≡ []) = last_reads (drop at line) m rest q in
-        rw (← same)
+        rw (← same.0)
         (record {
           numeral = rw r.0 (decimal_numeral m r.1);
           fits = r.1;
-          end = sym end ∙ ap (λ (x : List ℕ). length line - length x) r.2 ∙ none_behind line;
+          end = sym same.1 ∙ ap (λ (x : List ℕ). length line - length x) r.2 ∙ none_behind line;
         })

@@ -3,13 +3,14 @@ use Prim.Native.Nat.{ℕ, zero, suc, ◌+◌, ◌-◌, ◌*◌, ◌/◌, ◌%◌
 use mathlib.Core.Path.{◌≡◌, refl, sym, ap, ◌∙◌}
 use mathlib.Core.List.{List, [], ◌∷◌, ◌++◌, append-nil}
 use mathlib.Core.Logic.{⊎_elim}
-use native.Mathlib.Nat.{div-add-mod', mod-lt, pow-suc}
+use native.Mathlib.Nat.{div-add-mod', mod-lt}
 use native.Mathlib.Omega.{arith}
+use Rattle.std.proofs.lemmas.Fmt.{decimal_by_steps}
 use Rattle.modular.proofs.Laws.{lt_or_le}
 use Rattle.lines.specs.Decimal.{decimal, some, digits_on, number_front}
 use Rattle.lines.specs.Numeral.{worth, Digits, Plain, Numeral}
 use Rattle.lines.proofs.DecimalForm.{on_digit, front_first, front_reads}
-use Rattle.lines.proofs.DecimalLaws.{tenth, decimal_one, decimal_more}
+use Rattle.lines.proofs.DecimalLaws.{printed_decimal, decimal_one}
 
 -- ---- one digit more
 worth_last : (xs : List ℕ) (v x : ℕ) → worth v (xs ++ (x ∷ [])) ≡ worth v xs * 10 + (x - 48)
@@ -54,20 +55,15 @@ more_form n xs h f =
       is = worth_last xs 0 (48 + n % 10) ∙ omega (arith, f.is, div-add-mod' n 10);
     }
 
-form : (k n : ℕ) → n < 10 ^ k → n < 10 ^ 20 → Form n (decimal n)
-form zero n h l = let small : n < 10 = omega arith in rw (decimal_one n small) (one_form n small)
-form (suc k) n h l =
-    ⊎_elim
-    (λ small. rw (decimal_one n small) (one_form n small))
-    (λ large. rw (decimal_more n large l) (more_form n (decimal (n / 10)) large (form k (n / 10) (tenth n (10 ^ k) (rw (pow-suc 10 k) at h)) (omega (arith, div-add-mod' n 10)))))
-    (lt_or_le n 10)
+form : (n : ℕ) → n < 2 ^ 64 → Form n (decimal n)
+form n l = rw (← printed_decimal n (omega arith)) (decimal_by_steps Form one_form more_form n l)
 
 zero_plain : Plain (decimal 0)
 zero_plain = rw (decimal_one 0 (omega arith)) tt
 
 pub decimal_numeral : (n : ℕ) → n < 2 ^ 64 → Numeral (decimal n) n
-decimal_numeral zero l = let f : Form zero (decimal zero) = form 20 zero (omega arith) (omega arith) in record { digits = f.digits; plain = zero_plain; is = f.is }
-decimal_numeral (suc n) l = let f : Form (suc n) (decimal (suc n)) = form 20 (suc n) (omega arith) (omega arith) in record { digits = f.digits; plain = first_plain (decimal (suc n)) (f.first (omega arith)); is = f.is }
+decimal_numeral zero l = let f : Form zero (decimal zero) = form zero l in record { digits = f.digits; plain = zero_plain; is = f.is }
+decimal_numeral (suc n) l = let f : Form (suc n) (decimal (suc n)) = form (suc n) l in record { digits = f.digits; plain = first_plain (decimal (suc n)) (f.first (omega arith)); is = f.is }
 
 -- ---- and no other
 worth_most : (xs : List ℕ) (v : ℕ) → v ≤ worth v xs

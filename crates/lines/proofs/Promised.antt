@@ -1,5 +1,6 @@
 -- What is promised of the calls, in the words of `specs/Promise.antt`: every outcome that an attached contract allows keeps it.
 use Prim.Native.Nat.{ℕ, ◌+◌, ◌^◌, ◌<◌, ◌≤◌}
+use Rattle.std.specs.Prelude.{Option, Some}
 use mathlib.Core.Path.{◌≡◌, sym, ◌∙◌}
 use mathlib.Core.Bool.{true}
 use mathlib.Core.List.{List}
@@ -12,8 +13,7 @@ use borrow.Fn.Kinds.{Dens, ended_of}
 use Rattle.modular.proofs.Saying.{Allows, Keeps}
 use Rattle.lines.specs.declared.cut.Took.{Took}
 use Rattle.lines.specs.declared.decimal.Number.{Number}
-use Rattle.lines.specs.declared.decimal.Number.TheVariants as number
-use Rattle.lines.specs.Decimal.{decimal, number_at}
+use Rattle.lines.specs.Decimal.{decimal, number, number_at}
 use Rattle.lines.specs.Field.{spaced_at, last_at}
 use Rattle.lines.specs.Numeral.{Numeral}
 use Rattle.lines.specs.Promise.{Stops, Stands, Spaced, Last, Behind, Part, Held}
@@ -43,7 +43,7 @@ use Rattle.lines.proofs.cut.take_line.Reads as take_line
 -- a number is read exactly where its numeral stands
 pub number_at_promised :
     Keeps 1 number_at_kinds.ps number_at_kinds.r number_at_lem.Learnt
-    (λ κs a z. (n next : ℕ) → (Stands a.0.now a.1.0 n next → z ≡ number.Of n next) × (z ≡ number.Of n next → Stands a.0.now a.1.0 n next))
+    (λ κs a z. (n next : ℕ) → (Stands a.0.now a.1.0 n next → z ≡ Some (number n next)) × (z ≡ Some (number n next) → Stands a.0.now a.1.0 n next))
 number_at_promised κs a z q n next =
     let said : z ≡ number_at a.0.now a.1.0 = number_at_says κs a z q.0 q.1 in
     (λ s. said ∙ stands_number a.0.now a.1.0 n next s, λ e. number_stands a.0.now a.1.0 n next (sym said ∙ e))
@@ -51,7 +51,7 @@ number_at_promised κs a z q n next =
 -- with a space behind it
 pub spaced_promised :
     Keeps 1 spaced_kinds.ps spaced_kinds.r spaced.Learnt
-    (λ κs a z. (n next : ℕ) → (Spaced a.0.now a.1.0 n next → z ≡ number.Of n next) × (z ≡ number.Of n next → Spaced a.0.now a.1.0 n next))
+    (λ κs a z. (n next : ℕ) → (Spaced a.0.now a.1.0 n next → z ≡ Some (number n next)) × (z ≡ Some (number n next) → Spaced a.0.now a.1.0 n next))
 spaced_promised κs a z q n next =
     let said : z ≡ spaced_at a.0.now a.1.0 = spaced_says κs a z q.0 q.1 in
     (λ s. said ∙ spaced_stands a.0.now a.1.0 n next s, λ e. stands_spaced a.0.now a.1.0 n next (sym said ∙ e))
@@ -59,7 +59,7 @@ spaced_promised κs a z q n next =
 -- and as all that is left of the line
 pub last_promised :
     Keeps 1 last_kinds.ps last_kinds.r last.Learnt
-    (λ κs a z. (n next : ℕ) → (Last a.0.now a.1.0 n next → z ≡ number.Of n next) × (z ≡ number.Of n next → Last a.0.now a.1.0 n next))
+    (λ κs a z. (n next : ℕ) → (Last a.0.now a.1.0 n next → z ≡ Some (number n next)) × (z ≡ Some (number n next) → Last a.0.now a.1.0 n next))
 last_promised κs a z q n next =
     let said : z ≡ last_at a.0.now a.1.0 = last_says κs a z q.0 q.1 in
     (λ s. said ∙ last_stands a.0.now a.1.0 n next s, λ e. stands_last a.0.now a.1.0 n next (sym said ∙ e))
@@ -80,7 +80,7 @@ pub printed_reads_back :
     put_decimal.Learnt κs a z (at_exit (ended_of 1 put_decimal_kinds.ps put_decimal_kinds.r) κs a ws) →
     a.1.1.0 < 2 ^ 64 → a.1.0 < z → Stops (drop z ws.0) →
     (ηs : Lfts 1) (b : Dens ηs number_at_kinds.ps) → (b.0.now ≡ ws.0) × (b.1.0 ≡ a.1.0) →
-    (y : Number) → Allows 1 number_at_kinds.ps number_at_kinds.r number_at_lem.Learnt ηs b y → y ≡ number.Of a.1.1.0 z
+    (y : Option Number) → Allows 1 number_at_kinds.ps number_at_kinds.r number_at_lem.Learnt ηs b y → y ≡ Some (number a.1.1.0 z)
 printed_reads_back κs a z ws q f l s ηs b e y r =
     let p = put_decimal_promised κs a z ws q f in
     (number_at_promised ηs b y r a.1.1.0 z).0 (rw (e.0, e.1) (printed_stands a.1.1.0 p.2 l p.1 f s))

@@ -37,7 +37,7 @@ part_lines (b ∷ part) line xs c =
 
 module _ (text : List ℕ → List ℕ) (most longest : ℕ) (some-held : 0 < most) (kept : (line : List ℕ) → text (take most line) ≡ text line) (short : (line : List ℕ) → length (text line) ≤ longest) where
   -- the text that is due where a line is held and bytes are still to come
-  abbrev due : List ℕ → List ℕ → List ℕ
+  abbrev pub due : List ℕ → List ℕ → List ℕ
   due line xs = texts_of text (lines_from line xs)
 
   due_end : (line : List ℕ) → 0 < length line → due line [] ≡ text line
@@ -79,12 +79,12 @@ module _ (text : List ℕ → List ℕ) (most longest : ℕ) (some-held : 0 < mo
 
   -- ---- a step
   -- the text so far, and what is due
-  abbrev whole : Filled → Filled → List ℕ → List ℕ → List ℕ
+  abbrev pub whole : Filled → Filled → List ℕ → List ℕ → List ℕ
   whole h o written xs = (written ++ text_in o) ++ due (text_in h) xs
 
-  record Stepped (h : Filled) (i : ℕ) (piece : List ℕ) (o : Filled) (s : Step) : Type 0 where
-    same : (written later : List ℕ) → whole h o written (drop i piece ++ later) ≡ whole s.held s.out written (drop s.next piece ++ later)
-    place : InPlace most s.held
+  pub record Stepped (h : Filled) (i : ℕ) (piece : List ℕ) (o : Filled) (s : Step) : Type 0 where
+    pub same : (written later : List ℕ) → whole h o written (drop i piece ++ later) ≡ whole s.held s.out written (drop s.next piece ++ later)
+    pub place : InPlace most s.held
 
   rest_at : (piece part rest : List ℕ) (i n : ℕ) → drop i piece ≡ part ++ rest → n ≡ i + length part → drop n piece ≡ rest
   rest_at piece part rest i n e p =
@@ -128,13 +128,13 @@ module _ (text : List ℕ → List ℕ) (most longest : ℕ) (some-held : 0 < mo
           place = holds_place most k g;
         })
 
-    stepped : Stepped h i piece o (step_of text most longest h i piece o)
+    pub stepped : Stepped h i piece o (step_of text most longest h i piece o)
     stepped =
         let c : Cut most h i (drop i piece) t = rw (take_in_place most h i piece k) (cut most (drop i piece) h i k) in
         stepped_by_lem c.part c.is c.clean c.holds
 
     -- ---- the input's end
-    finished : (written : List ℕ) → whole h o written [] ≡ written ++ text_in (last_of text most longest h o)
+    pub finished : (written : List ℕ) → whole h o written [] ≡ written ++ text_in (last_of text most longest h o)
     finished written = go (eqb h.at 0) refl
       where
         go : (b : Bool) → eqb h.at 0 ≡ b → whole h o written [] ≡ written ++ text_in (last_of text most longest h o)

@@ -1,13 +1,13 @@
 -- Laws of a text that is stored in a buffer.
-use Prim.Native.Nat.{ℕ, suc, ◌+◌, ◌<◌, ◌≤◌}
+use Prim.Native.Nat.{ℕ, suc, ◌+◌, ◌-◌, ◌<◌, ◌≤◌}
 use mathlib.Core.Path.{◌≡◌, refl, sym, ap, ◌∙◌}
 use mathlib.Core.Bool.{Bool, true, false, cond}
-use mathlib.Core.List.{List, [], ◌∷◌, ◌++◌}
+use mathlib.Core.List.{List, [], ◌∷◌, ◌++◌, append_assoc}
 use mathlib.Core.Logic.{⊎_elim}
 use lib.Dec.{leb}
 use lib.ListN.{length, take, drop, get_or, set, length-append}
-use lib.Seq.{sets, sets-eq, length-sets, take-suc, take_at, length-take-le, get_or-set_other}
-use native.Mathlib.Numerals.{add-one}
+use lib.Seq.{sets, sets-eq, length-sets, take_at, length-take-le, drop-drop, get_or-set_other}
+use borrow.Rule.Slice.PartMut.{put_mid}
 use native.Mathlib.Omega.{arith}
 use borrow.Author.Tests.{leb-true, leb-false, le-leb, lt-leb}
 use Rattle.modular.proofs.Laws.{lt_or_le}
@@ -28,16 +28,11 @@ sets_append : (a b l : List ℕ) (i : ℕ) → sets l i (a ++ b) ≡ sets (sets 
 sets_append [] b l i = ap (λ (k : ℕ). sets l k b) (omega arith)
 sets_append (x ∷ a) b l i = sets_append a b (set l i x) (suc i) ∙ ap (λ (k : ℕ). sets (sets (set l i x) (suc i) a) k b) (omega arith)
 
--- a byte behind the run
-pub sets_last : (ds l l' : List ℕ) (i r x y : ℕ) → l' ≡ sets l i ds → r ≡ i + length ds → x ≡ y → set l' r x ≡ sets l i (ds ++ (y ∷ []))
-sets_last ds l l' i r x y e f g = rw (e, f, g) (sym (sets_append ds (y ∷ []) l i))
-
--- one byte more of what is stored
-pub put_next : (out₀ out bytes : List ℕ) (at i : ℕ) → out ≡ sets out₀ at (take i bytes) → i < length bytes →
-    set out (at + i) (get_or bytes i 0) ≡ sets out₀ at (take (i + 1) bytes)
-put_next out₀ out bytes at i e h =
-    sets_last (take i bytes) out₀ out at (at + i) (get_or bytes i 0) (get_or bytes i 0) e (omega (arith, length-take-le i bytes (omega arith))) refl
-    ∙ ap (λ (xs : List ℕ). sets out₀ at xs) (sym (ap (λ (k : ℕ). take k bytes) (add-one i) ∙ take-suc bytes i 0 h))
+-- a text that was copied into its place
+pub sets_copied : (text out last : List ℕ) (at : ℕ) → at + length text ≤ length out → last ≡ text → put_mid at (at + length text - at) out last ≡ sets out at text
+sets_copied text out last at h e =
+    let n : at + length text - at ≡ length text = omega arith in
+    rw (e, n, drop-drop, sets-eq text out at h, append_assoc) refl
 
 -- what stands before the end of a text
 sets_taken : (text l : List ℕ) (i : ℕ) → i + length text ≤ length l → take (i + length text) (sets l i text) ≡ take i l ++ text

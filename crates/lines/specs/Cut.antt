@@ -6,6 +6,10 @@ use Rattle.lines.specs.Text.{Filled, filled}
 unfoldable pub hold_of : ℕ → Filled → ℕ → Filled
 hold_of most h b = cond (ltb h.at most) (filled (h.at + 1) (set h.bytes h.at b)) h
 
+unfoldable pub hold_all : ℕ → Filled → List ℕ → Filled
+hold_all most h [] = h
+hold_all most h (b ∷ bs) = hold_all most (hold_of most h b) bs
+
 -- the held bytes, the index in the piece, and whether the held bytes are a whole line
 pub record Taken : Type 0 where
   pub held : Filled

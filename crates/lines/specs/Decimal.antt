@@ -1,7 +1,6 @@
 -- A number's decimal form, as bytes: the fewest digits, so `0` alone begins with 0. And the number that bytes begin with.
-use Rattle.std.specs.Prelude.{ℕ, zero, suc, ◌+◌, ◌-◌, ◌*◌, ◌/◌, ◌%◌, ◌^◌, Bool, false, cond, List, [], ◌∷◌, ◌++◌, ltb, leb, eqb, length, drop}
+use Rattle.std.specs.Prelude.{ℕ, zero, suc, ◌+◌, ◌-◌, ◌*◌, ◌/◌, ◌%◌, ◌^◌, Bool, false, cond, Option, Some, None, List, [], ◌∷◌, ◌++◌, ltb, leb, eqb, length, drop}
 use Rattle.lines.specs.declared.decimal.Number.{Number}
-use Rattle.lines.specs.declared.decimal.Number.TheVariants as number
 
 -- of a number below 10^k
 unfoldable pub digits_by : ℕ → ℕ → List ℕ
@@ -32,14 +31,17 @@ number_front [] = none
 number_front (x ∷ xs) = cond (eqb x 48) (some 0 xs) (cond (is_digit x) (digits_on (x - 48) xs) none)
 
 -- ---- at an index of a line
+abbrev pub number : ℕ → ℕ → Number
+number n next = record { n = n; next = next }
+
 -- a number and the index behind it, as the bytes from there on; and back
-abbrev pub front_in : Number → List ℕ → Front
-front_in (number.Of n next) line = some n (drop next line)
-front_in number.Bad line = none
+abbrev pub front_in : Option Number → List ℕ → Front
+front_in (Some r) line = some r.n (drop r.next line)
+front_in None line = none
 
-abbrev pub number_in : List ℕ → Front → Number
-number_in line (some n rest) = number.Of n (length line - length rest)
-number_in line none = number.Bad
+abbrev pub number_in : List ℕ → Front → Option Number
+number_in line (some n rest) = Some (number n (length line - length rest))
+number_in line none = None
 
-abbrev pub number_at : List ℕ → ℕ → Number
+abbrev pub number_at : List ℕ → ℕ → Option Number
 number_at line at = number_in line (number_front (drop at line))

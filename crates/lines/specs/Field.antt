@@ -1,5 +1,5 @@
 -- A number as a field of a line: with a space behind it, or as the last one.
-use Rattle.std.specs.Prelude.{ℕ, cond, List, [], ◌∷◌, eqb, drop}
+use Rattle.std.specs.Prelude.{ℕ, cond, Option, List, [], ◌∷◌, eqb, drop}
 use Rattle.lines.specs.declared.decimal.Number.{Number}
 use Rattle.lines.specs.Decimal.{Front, some, none, number_front, number_in}
 
@@ -28,8 +28,8 @@ abbrev pub last_front : List ℕ → Front
 last_front xs = at_end (number_front xs)
 
 -- ---- at an index of a line
-abbrev pub spaced_at : List ℕ → ℕ → Number
+abbrev pub spaced_at : List ℕ → ℕ → Option Number
 spaced_at line at = number_in line (spaced_front (drop at line))
 
-abbrev pub last_at : List ℕ → ℕ → Number
+abbrev pub last_at : List ℕ → ℕ → Option Number
 last_at line at = number_in line (last_front (drop at line))

@@ -1,12 +1,10 @@
 -- Laws of the definitions of `specs/Modulus.antt`, over any modulus and any width: what callers and the functions' own
 -- proofs cite instead of the definitions' text.
-use Rattle.std.proofs.Common.{◌≡◌, ℕ, ◌+◌, ◌-◌, ◌*◌, ◌%◌, ◌^◌, ◌<◌, ◌≤◌, Bool, true, false, eqb, ltb, leb, ◌⊎◌, sym, refl, ◌∙◌, inl, inr, ⊎_elim, add-zero, add_assoc, mod-lt, mod-eq_of_lt, eq-or-lt_of_le, zero-add, arith, pow_pos, ltb-false, ltb-true, lt-ltb, eq-eqb, ne_eqb, eqb-true, le-leb, leb-false, leb-true}
+use Rattle.std.proofs.Common.{◌≡◌, ℕ, ◌+◌, ◌-◌, ◌*◌, ◌%◌, ◌^◌, ◌<◌, ◌≤◌, Bool, true, false, eqb, ltb, leb, ◌⊎◌, sym, refl, ◌∙◌, inl, inr, ⊎_elim, add-zero, add_assoc, mod-lt, mod-eq_of_lt, eq-or-lt_of_le, zero-add, arith, pow_pos, ltb-false, ltb-true, lt-ltb, eq-eqb, ne_eqb, eqb-true, le-leb, leb-false, leb-true, Some, None}
 use borrow.Author.Tests.{eqb-false, lt-leb}
-use native.Mathlib.Nat.{mod-eq-sub-mod, mod-add-mod, add-mod-mod, add-mod_right, add-mod, mod_self, mod-mod, mod-mod_of_dvd, dvd-mul_left, zero-mod}
+use native.Mathlib.Nat.{mod-eq-sub-mod, mod-add-mod, add-mod-mod, add-mod_right, add-mod, mod_self, mod-mod, mod-mod_of_dvd, dvd-mul_left}
 use Rattle.modular.specs.declared.Modulus.{Modulus}
-use Rattle.modular.specs.declared.OptionModulus.TheVariants as modulus
-use Rattle.modular.specs.declared.OptionNumber.TheVariants as number
-use Rattle.modular.specs.Modulus.{whole_at, raw_at, try_new_of, modulus_of, double_at, try_new_number_of, neg_mod, sub_mod, add_mod}
+use Rattle.modular.specs.Modulus.{whole_at, raw_at, try_new_of, modulus_of, double_at, neg_mod, sub_mod, add_mod}
 
 -- ---- the whole number that a raw number stands for
 module _ (k raw : ℕ) where
@@ -103,19 +101,17 @@ module _ (m a b x y : ℕ) (p : 0 < m) (hx : x ≡ a % m) (hy : y ≡ b % m) whe
       sym (once m (a % m + b % m) (x - (n - y)) (omega (arith, mod-lt a p, mod-lt b p)) (omega (arith, mod-lt a p, mod-lt b p)))
 
 -- ---- at the full range, what the wrapping calls of std answer
-pub wrapped_sub : (m a b r : ℕ) → a < m → b < m → r < m → (r + b) % m ≡ a → r ≡ sub_mod m a b
+pub wrapped_sub : (m a b : ℕ) → a < m → b < m → (a + (m - b)) % m ≡ sub_mod m a b
 unfolding sub_mod
-wrapped_sub m a b r ha hb hr h =
-    let e : r + b + (m - b) ≡ r + m = omega arith in
-    rw (mod-eq_of_lt ha, mod-eq_of_lt hb, ← h, mod-add-mod, e, add-mod_right, mod-eq_of_lt hr)
+wrapped_sub m a b ha hb = rw (mod-eq_of_lt ha, mod-eq_of_lt hb)
 
-pub wrapped_neg : (m a r : ℕ) → 0 < m → a < m → r < m → (r + a) % m ≡ 0 → r ≡ neg_mod m a
-unfolding neg_mod sub_mod
-wrapped_neg m a r p ha hr h = wrapped_sub m 0 a r p ha hr h ∙ rw (zero-mod, zero-add)
+pub wrapped_neg : (m a : ℕ) → a < m → (0 + (m - a)) % m ≡ neg_mod m a
+unfolding neg_mod
+wrapped_neg m a ha = rw (mod-eq_of_lt ha, zero-add)
 
-pub wrapped_add : (m a b r : ℕ) → r ≡ (a + b) % m → r ≡ add_mod m a b
+pub wrapped_add : (m a b : ℕ) → (a + b) % m ≡ add_mod m a b
 unfolding add_mod
-wrapped_add m a b r h = h ∙ add-mod a b m
+wrapped_add m a b = add-mod a b m
 
 -- ---- what the definitions mean: each answer is below the modulus, and the difference is the number that added back gives
 -- what was there
@@ -187,44 +183,35 @@ add_halved l a b = rw (add_is, mod-mod_of_dvd l (a + b) (dvd-mul_left l 2), mod-
 
 -- ---- making and doubling a modulus
 module _ (n : ℕ) where
-  pub try_none : n ≡ 0 → modulus.None ≡ try_new_of n
+  pub try_none : n ≡ 0 → None ≡ try_new_of n
   unfolding try_new_of
   try_none h = rw (eq-eqb n 0 h)
 
-  pub try_some : (n ≡ 0 → ⊥) → modulus.Some (record { 0 = n }) ≡ try_new_of n
+  pub try_some : (n ≡ 0 → ⊥) → Some (record { 0 = n }) ≡ try_new_of n
   unfolding try_new_of
   try_some h = rw (ne_eqb n 0 h)
 
 module _ (m : Modulus) where
-  pub modulus_none : m.0 ≡ 0 → number.None ≡ modulus_of m
+  pub modulus_none : m.0 ≡ 0 → None ≡ modulus_of m
   unfolding modulus_of
   modulus_none h = rw (whole_zero 64 m.0 h)
 
-  pub modulus_some : m.0 < 2 ^ 64 → (m.0 ≡ 0 → ⊥) → number.Some m.0 ≡ modulus_of m
+  pub modulus_some : m.0 < 2 ^ 64 → (m.0 ≡ 0 → ⊥) → Some m.0 ≡ modulus_of m
   unfolding modulus_of
   modulus_some f h = rw (whole_pos 64 m.0 h, lt-ltb _ _ f)
-
-module _ (m : Modulus) (v : ℕ) where
-  pub number_some : ltb v (whole_at 64 m.0) ≡ true → number.Some v ≡ try_new_number_of m v
-  unfolding try_new_number_of
-  number_some h = rw h
-
-  pub number_none : ltb v (whole_at 64 m.0) ≡ false → number.None ≡ try_new_number_of m v
-  unfolding try_new_number_of
-  number_none h = rw h
 
 -- The fact behind the 8-bit row, over the width k and the whole modulus n: the double stands for 2n where that is at most
 -- 2^k, and is none above. So 2^k itself is reached, as the full range, and the full range has no double.
 module _ (k : ℕ) (m : Modulus) where
-  pub double_none : 2 ^ k < 2 * whole_at k m.0 → modulus.None ≡ double_at k m
+  pub double_none : 2 ^ k < 2 * whole_at k m.0 → None ≡ double_at k m
   unfolding double_at
   double_none l = rw (lt-leb _ _ l)
 
-  pub double_some : 2 * whole_at k m.0 ≤ 2 ^ k → modulus.Some (record { 0 = raw_at k (2 * whole_at k m.0) }) ≡ double_at k m
+  pub double_some : 2 * whole_at k m.0 ≤ 2 ^ k → Some (record { 0 = raw_at k (2 * whole_at k m.0) }) ≡ double_at k m
   unfolding double_at
   double_some l = rw (le-leb _ _ l)
 
-  pub double_whole : (d : Modulus) → modulus.Some d ≡ double_at k m → whole_at k d.0 ≡ 2 * whole_at k m.0
+  pub double_whole : (d : Modulus) → Some d ≡ double_at k m → whole_at k d.0 ≡ 2 * whole_at k m.0
   double_whole d e = go (leb (2 * whole_at k m.0) (2 ^ k)) refl
     where
       go : (b : Bool) → leb (2 * whole_at k m.0) (2 ^ k) ≡ b → whole_at k d.0 ≡ 2 * whole_at k m.0
@@ -237,9 +224,9 @@ module _ (k : ℕ) (m : Modulus) where
           absurd (omega arith)
 
   -- the sum of a number with itself, wrapped at k bits, is the raw number of its double
-  pub double_sum : (r : ℕ) → whole_at k m.0 ≡ m.0 → 2 * m.0 ≤ 2 ^ k → r ≡ (m.0 + m.0) % 2 ^ k → modulus.Some (record { 0 = r }) ≡ double_at k m
+  pub double_sum : (r : ℕ) → whole_at k m.0 ≡ m.0 → 2 * m.0 ≤ 2 ^ k → r ≡ (m.0 + m.0) % 2 ^ k → Some (record { 0 = r }) ≡ double_at k m
   unfolding raw_at
   double_sum r w l e =
       let d : m.0 + m.0 ≡ 2 * whole_at k m.0 = omega arith in
-      let s : modulus.Some (record { 0 = (2 * whole_at k m.0) % 2 ^ k }) ≡ double_at k m = double_some (omega arith) in
+      let s : Some (record { 0 = (2 * whole_at k m.0) % 2 ^ k }) ≡ double_at k m = double_some (omega arith) in
       rw (e, d) s

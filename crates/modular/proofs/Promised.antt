@@ -1,11 +1,8 @@
 -- What is promised of the calls, in other words than the definitions: every outcome that an attached contract allows keeps it.
-use Rattle.std.proofs.Common.{◌≡◌, ℕ, ◌+◌, ◌*◌, ◌/◌, ◌%◌, ◌^◌, ◌<◌, Bool, true, false, cond, eqb, ltb, sym, refl, ap, ◌∙◌, ⊎_elim, mod-lt, add_comm, div-add-mod', arith, ltb-false, ltb-true, eqb-true}
+use Rattle.std.proofs.Common.{◌≡◌, ℕ, ◌+◌, ◌*◌, ◌/◌, ◌%◌, ◌^◌, ◌<◌, Bool, true, false, cond, eqb, ltb, sym, refl, ap, ◌∙◌, ⊎_elim, mod-lt, add_comm, div-add-mod', arith, ltb-false, ltb-true, eqb-true, Option, Some, None}
 use borrow.Author.Tests.{eqb-false}
 use native.Mathlib.Nat.{mod-mod, zero-mod}
 use Rattle.modular.specs.declared.Modulus.{Modulus}
-use Rattle.modular.specs.declared.OptionModulus.{OptionModulus}
-use Rattle.modular.specs.declared.OptionModulus.TheVariants as option
-use Rattle.modular.specs.declared.OptionNumber.TheVariants as number
 use Rattle.modular.specs.Modulus.{whole_at, whole_of, try_new_of, modulus_of, double_at, try_new_number_of, neg_mod, sub_mod, add_mod}
 use Rattle.modular.specs.Promise.{Stands, full, itself, Congruent, Below, Within, Doubled, Made, Told}
 use Rattle.modular.proofs.Laws.{whole_zero, whole_pos, whole_some, sub_lt, add_lt, neg_lt, sub_back, neg_back, add_is, double_whole, double_some, lt_or_le}
@@ -60,11 +57,11 @@ below v m = go (ltb v m) refl
     go true e = ltb-true v m e
     go false e = ltb-false v m e
 
-made : (n : ℕ) (z : OptionModulus) → z ≡ try_new_of n → Made z n
+made : (n : ℕ) (z : Option Modulus) → z ≡ try_new_of n → Made z n
 unfolding try_new_of
 made n z p = rw p (go (eqb n 0) refl)
   where
-    go : (b : Bool) → eqb n 0 ≡ b → Made (cond b option.None (option.Some (record { 0 = n }))) n
+    go : (b : Bool) → eqb n 0 ≡ b → Made (cond b None (Some (record { 0 = n }))) n
     go true e = eqb-true n 0 e
     go false e = let k : n ≡ 0 → ⊥ = eqb-false n 0 e in (refl, omega (arith, k))
 
@@ -73,7 +70,7 @@ module _ (m : Modulus) where
   unfolding modulus_of
   told = go (ltb (whole_of m) (2 ^ 64)) refl
     where
-      go : (b : Bool) → ltb (whole_of m) (2 ^ 64) ≡ b → Told (cond b (number.Some (whole_of m)) number.None) (whole_of m)
+      go : (b : Bool) → ltb (whole_of m) (2 ^ 64) ≡ b → Told (cond b (Some (whole_of m)) None) (whole_of m)
       go true e = (refl, ltb-true _ _ e)
       go false e = ltb-false _ _ e
 
@@ -81,13 +78,13 @@ module _ (m : Modulus) where
   unfolding try_new_number_of
   within v = go (ltb v (whole_of m)) refl
     where
-      go : (b : Bool) → ltb v (whole_of m) ≡ b → Within (cond b (number.Some v) number.None) v (whole_of m)
+      go : (b : Bool) → ltb v (whole_of m) ≡ b → Within (cond b (Some v) None) v (whole_of m)
       go true e = (refl, ltb-true _ _ e)
       go false e = ltb-false _ _ e
 
-  doubled : (z : OptionModulus) → z ≡ double_at 64 m → Doubled z (whole_of m)
-  doubled (option.Some d) e = rw (double_whole 64 m d e) at (stands d.0)
-  doubled option.None e = ⊎_elim (λ l. l) (λ l. absurd (let z : ◌≡◌ {A = ℕ} 0 1 = cc (double_some 64 m l) in omega arith)) (lt_or_le (2 ^ 64) (2 * whole_of m))
+  doubled : (z : Option Modulus) → z ≡ double_at 64 m → Doubled z (whole_of m)
+  doubled (Some d) e = rw (double_whole 64 m d e) at (stands d.0)
+  doubled None e = ⊎_elim (λ l. l) (λ l. absurd (let z : ◌≡◌ {A = ℕ} 0 1 = cc (double_some 64 m l) in omega arith)) (lt_or_le (2 ^ 64) (2 * whole_of m))
 
   some : 0 < whole_of m
   some = whole_some 64 m.0

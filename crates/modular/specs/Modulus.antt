@@ -1,11 +1,7 @@
 -- Arithmetic modulo m over whole numbers, and what the calls of `Modulus` answer. A modulus of k bits is a whole number
 -- from 1 to 2^k; 2^k, the full range, is stored as 0.
-use Rattle.std.specs.Prelude.{ℕ, ◌+◌, ◌-◌, ◌*◌, ◌%◌, ◌^◌, Bool, cond, ◌==◌, nat_le, nat_lt}
+use Rattle.std.specs.Prelude.{ℕ, ◌+◌, ◌-◌, ◌*◌, ◌%◌, ◌^◌, Bool, cond, ◌==◌, nat_le, nat_lt, Option, Some, None}
 use Rattle.modular.specs.declared.Modulus.{Modulus}
-use Rattle.modular.specs.declared.OptionModulus.{OptionModulus}
-use Rattle.modular.specs.declared.OptionModulus.TheVariants as modulus
-use Rattle.modular.specs.declared.OptionNumber.{OptionNumber}
-use Rattle.modular.specs.declared.OptionNumber.TheVariants as number
 
 -- the whole number that a raw number of k bits stands for
 unfoldable pub whole_at : ℕ → ℕ → ℕ
@@ -22,27 +18,27 @@ abbrev pub full_range : Modulus
 full_range = record { 0 = 0 }
 
 -- a zero modulus is none
-unfoldable pub try_new_of : ℕ → OptionModulus
-try_new_of n = cond (n == 0) modulus.None (modulus.Some (record { 0 = n }))
+unfoldable pub try_new_of : ℕ → Option Modulus
+try_new_of n = cond (n == 0) None (Some (record { 0 = n }))
 
 abbrev pub is_full_range_of : Modulus → Bool
 is_full_range_of m = whole_of m == 2 ^ 64
 
 -- the full range has no number of 64 bits
-unfoldable pub modulus_of : Modulus → OptionNumber
-modulus_of m = cond (nat_lt (whole_of m) (2 ^ 64)) (number.Some (whole_of m)) number.None
+unfoldable pub modulus_of : Modulus → Option ℕ
+modulus_of m = cond (nat_lt (whole_of m) (2 ^ 64)) (Some (whole_of m)) None
 
 -- twice the modulus, where that is at most the full range of k bits
-unfoldable pub double_at : ℕ → Modulus → OptionModulus
+unfoldable pub double_at : ℕ → Modulus → Option Modulus
 double_at k m =
-    cond (nat_le (2 * whole_at k m.0) (2 ^ k)) (modulus.Some (record { 0 = raw_at k (2 * whole_at k m.0) })) modulus.None
+    cond (nat_le (2 * whole_at k m.0) (2 ^ k)) (Some (record { 0 = raw_at k (2 * whole_at k m.0) })) None
 
 -- a number is contained when it is below the modulus
 abbrev pub contains_of : Modulus → ℕ → Bool
 contains_of m v = nat_lt v (whole_of m)
 
-unfoldable pub try_new_number_of : Modulus → ℕ → OptionNumber
-try_new_number_of m v = cond (contains_of m v) (number.Some v) number.None
+unfoldable pub try_new_number_of : Modulus → ℕ → Option ℕ
+try_new_number_of m v = cond (contains_of m v) (Some v) None
 
 -- the negation, the difference and the sum modulo m, of numbers that are reduced first
 unfoldable pub neg_mod : ℕ → ℕ → ℕ

@@ -8,18 +8,6 @@ ghost use Rattle.modular.specs.Modulus.{whole_of, full_range, try_new_of, is_ful
 #[derive(Clone, Copy)]
 pub struct Modulus(pub u64);
 
-#[derive(Clone, Copy)]
-pub enum OptionModulus {
-    Some(Modulus),
-    None,
-}
-
-#[derive(Clone, Copy)]
-pub enum OptionNumber {
-    Some(u64),
-    None,
-}
-
 impl Modulus {
     pub fn new_full_range() -> Modulus
         ensures { result ≡ full_range }
@@ -28,13 +16,13 @@ impl Modulus {
     }
 
     // None of a zero modulus.
-    pub fn try_new(modulus: u64) -> OptionModulus
+    pub fn try_new(modulus: u64) -> Option<Modulus>
         ensures { result ≡ try_new_of modulus }
     {
         if modulus == 0 {
-            return OptionModulus::None;
+            return None;
         }
-        OptionModulus::Some(Modulus(modulus))
+        Some(Modulus(modulus))
     }
 
     pub fn is_full_range(self) -> bool
@@ -44,38 +32,33 @@ impl Modulus {
     }
 
     // The raw modulus; none of the full range.
-    pub fn modulus(self) -> OptionNumber
+    pub fn modulus(self) -> Option<u64>
         ensures { result ≡ modulus_of self }
     {
-        let m = self.0;
-        if m == 0 {
-            return OptionNumber::None;
+        if self.0 == 0 {
+            return None;
         }
-        OptionNumber::Some(m)
+        Some(self.0)
     }
 
     pub fn contains(self, v: u64) -> bool
         ensures { result ≡ contains_of self v }
     {
-        let m = self.0;
-        if m == 0 {
-            return true;
-        }
-        v < m
+        self.0 == 0 || v < self.0
     }
 
     // Twice 2^63 is the full range, stored as 0: the sum wraps there, and only there.
-    pub fn double(self) -> OptionModulus
+    pub fn double(self) -> Option<Modulus>
         ensures { result ≡ double_at 64 self }
     {
         let m = self.0;
         if m == 0 {
-            return OptionModulus::None;
+            return None;
         }
         if m > 9223372036854775808 {
-            return OptionModulus::None;
+            return None;
         }
-        OptionModulus::Some(Modulus(std::num::wrapping_add_u64(m, m)))
+        Some(Modulus(m.wrapping_add(m)))
     }
 
     // A number that is contained already is not divided.
@@ -89,13 +72,10 @@ impl Modulus {
     }
 
     // The number itself; none where it is not contained.
-    pub fn try_new_number(self, v: u64) -> OptionNumber
+    pub fn try_new_number(self, v: u64) -> Option<u64>
         ensures { result ≡ try_new_number_of self v }
     {
-        if self.contains(v) {
-            return OptionNumber::Some(v);
-        }
-        OptionNumber::None
+        self.contains(v).then_some(v)
     }
 
     // -0 is 0, and not the modulus.
@@ -104,7 +84,7 @@ impl Modulus {
     {
         let m = self.0;
         if m == 0 {
-            return std::num::wrapping_sub_u64(0, value);
+            return 0u64.wrapping_sub(value);
         }
         let v = self.new_number(value);
         if v == 0 { 0 } else { m - v }
@@ -115,7 +95,7 @@ impl Modulus {
     {
         let m = self.0;
         if m == 0 {
-            return std::num::wrapping_sub_u64(a, b);
+            return a.wrapping_sub(b);
         }
         let x = self.new_number(a);
         let y = self.new_number(b);
@@ -128,7 +108,7 @@ impl Modulus {
     {
         let m = self.0;
         if m == 0 {
-            return std::num::wrapping_add_u64(a, b);
+            return a.wrapping_add(b);
         }
         let x = self.new_number(a);
         let y = self.new_number(b);

@@ -1,3 +1,4 @@
+pub mod Answered
 pub mod ListLaws
 pub mod PortionLaws
 pub mod Says

@@ -1,5 +1,6 @@
 -- Of the calls on lists, differences and operations: every outcome that an attached contract allows is what `Promise` of specs/ says, in
 -- other words than the definitions.
+use Rattle.std.proofs.Common.{Result, Ok, Err}
 use Prim.Native.Nat.{ℕ, ◌+◌}
 use mathlib.Core.Path.{◌≡◌, refl, sym, ap, ◌∙◌}
 use mathlib.Core.Bool.{Bool, cond, true, false}
@@ -7,17 +8,10 @@ use lib.Dec.{eqb}
 use borrow.Author.Tests.{eqb-true, eqb-false}
 use native.Mathlib.Omega.{arith}
 use Rattle.modular.proofs.Saying.{Allows, Keeps}
-use Rattle.operations.specs.declared.counter.AmountAnswer.TheVariants as amount
 use Rattle.operations.specs.declared.diff.Diff.{Diff}
 use Rattle.operations.specs.declared.diff.Diff.TheVariants.{Same, Different}
-use Rattle.operations.specs.declared.list.CumulativeOffsets.{CumulativeOffsets}
-use Rattle.operations.specs.declared.list.CumulativeOffsetsAnswer.TheVariants as cumulatives
-use Rattle.operations.specs.declared.list.OperationsAnswer.{OperationsAnswer}
-use Rattle.operations.specs.declared.list.OperationsAnswer.TheVariants as operations
-use Rattle.operations.specs.declared.list.OutsideRanges.{OutsideRanges}
-use Rattle.operations.specs.declared.list.OutsideRangesAnswer.TheVariants as outsides
-use Rattle.operations.specs.declared.list.ScheduledOperations.{ScheduledOperations}
-use Rattle.operations.specs.declared.list.ScheduledOperations.TheVariants as list
+use Rattle.operations.specs.Lists.{CumulativeOffsets, OutsideRanges, ScheduledOperations}
+use Rattle.operations.specs.declared.list.AtMostTwo.TheVariants as list
 use Rattle.operations.specs.declared.operation.OperationType.TheVariants.{Read}
 use Rattle.operations.specs.declared.refusal.Refusal.{Refusal}
 use Rattle.operations.specs.Diff.{diff_of, is_same_of, is_different_of, old_value_of, new_value_of}
@@ -28,18 +22,18 @@ use Rattle.operations.proofs.PortionLaws.{left_over}
 use Rattle.operations.proofs.Says.{ScheduledOperations-try-new-says, container_says, into_container_says, cumulative_operation_length_says, with_cumulative_offset_says, with_outside_buffer_range_says, Diff-new-says, is_same_says, is_different_says, old_value_says, new_value_says, ScheduledOperation-new-says, default_says, portion_of_says}
 use Rattle.operations.proofs.portion.portion_of.Kinds as portion_of_kinds
 use Rattle.operations.proofs.portion.portion_of.Reads as portion_of_lem
-use Rattle.operations.proofs.list.ScheduledOperations.try_new.Kinds as list_try_new_kinds
-use Rattle.operations.proofs.list.ScheduledOperations.try_new.Reads as list_try_new
-use Rattle.operations.proofs.list.ScheduledOperations.container.Kinds as container_kinds
-use Rattle.operations.proofs.list.ScheduledOperations.container.Reads as container
-use Rattle.operations.proofs.list.ScheduledOperations.into_container.Kinds as into_container_kinds
-use Rattle.operations.proofs.list.ScheduledOperations.into_container.Reads as into_container
-use Rattle.operations.proofs.list.ScheduledOperations.cumulative_operation_length.Kinds as cumulative_operation_length_kinds
-use Rattle.operations.proofs.list.ScheduledOperations.cumulative_operation_length.Reads as cumulative_operation_length
-use Rattle.operations.proofs.list.ScheduledOperations.with_cumulative_offset.Kinds as with_cumulative_offset_kinds
-use Rattle.operations.proofs.list.ScheduledOperations.with_cumulative_offset.Reads as with_cumulative_offset
-use Rattle.operations.proofs.list.ScheduledOperations.with_outside_buffer_range.Kinds as with_outside_buffer_range_kinds
-use Rattle.operations.proofs.list.ScheduledOperations.with_outside_buffer_range.Reads as with_outside_buffer_range
+use Rattle.operations.proofs.list.AtMostTwo+ScheduledOperation.try_new.Kinds as list_try_new_kinds
+use Rattle.operations.proofs.list.AtMostTwo+ScheduledOperation.try_new.Reads as list_try_new
+use Rattle.operations.proofs.list.AtMostTwo+ScheduledOperation.container.Kinds as container_kinds
+use Rattle.operations.proofs.list.AtMostTwo+ScheduledOperation.container.Reads as container
+use Rattle.operations.proofs.list.AtMostTwo+ScheduledOperation.into_container.Kinds as into_container_kinds
+use Rattle.operations.proofs.list.AtMostTwo+ScheduledOperation.into_container.Reads as into_container
+use Rattle.operations.proofs.list.AtMostTwo+ScheduledOperation.cumulative_operation_length.Kinds as cumulative_operation_length_kinds
+use Rattle.operations.proofs.list.AtMostTwo+ScheduledOperation.cumulative_operation_length.Reads as cumulative_operation_length
+use Rattle.operations.proofs.list.AtMostTwo+ScheduledOperation.with_cumulative_offset.Kinds as with_cumulative_offset_kinds
+use Rattle.operations.proofs.list.AtMostTwo+ScheduledOperation.with_cumulative_offset.Reads as with_cumulative_offset
+use Rattle.operations.proofs.list.AtMostTwo+ScheduledOperation.with_outside_buffer_range.Kinds as with_outside_buffer_range_kinds
+use Rattle.operations.proofs.list.AtMostTwo+ScheduledOperation.with_outside_buffer_range.Reads as with_outside_buffer_range
 use Rattle.operations.proofs.diff.Diff.new.Kinds as Diff-new-kinds
 use Rattle.operations.proofs.diff.Diff.new.Reads as Diff-new
 use Rattle.operations.proofs.diff.Diff.is_same.Kinds as is_same_kinds
@@ -52,12 +46,12 @@ use Rattle.operations.proofs.diff.Diff.new_value.Kinds as new_value_kinds
 use Rattle.operations.proofs.diff.Diff.new_value.Reads as new_value
 use Rattle.operations.proofs.operation.ScheduledOperation.new.Kinds as ScheduledOperation-new-kinds
 use Rattle.operations.proofs.operation.ScheduledOperation.new.Reads as ScheduledOperation-new
-use Rattle.operations.proofs.operation.ScheduledOperation.default.Kinds as default_kinds
-use Rattle.operations.proofs.operation.ScheduledOperation.default.Reads as default
+use Rattle.operations.proofs.operation.ScheduledOperationDefault.default.Kinds as default_kinds
+use Rattle.operations.proofs.operation.ScheduledOperationDefault.default.Reads as default
 
 -- ---- lists
 -- a list that is taken is handed back as it is
-same_list : (ops l : ScheduledOperations) → sound_list_of ops ≡ operations.Of l → l ≡ ops
+same_list : (ops l : ScheduledOperations) → sound_list_of ops ≡ Ok l → l ≡ ops
 same_list list.None l p = cc
 same_list (list.One a) l p = cc
 same_list (list.Two a b) l p = list_kept a b l p
@@ -67,19 +61,19 @@ module _ {A B : Type 0} (Of : B → A) (Refused : Refusal → A) (in_List : Sche
   of_list_lem : (ops : ScheduledOperations) (x : B) → listed (sound_list_of ops) (λ l. Of (in_List l)) Refused ≡ Of x → x ≡ in_List ops
   of_list_lem ops x p = go (sound_list_of ops) refl
     where
-      go : (y : OperationsAnswer) → sound_list_of ops ≡ y → x ≡ in_List ops
-      go (operations.Of l) q =
+      go : (y : Result ScheduledOperations Refusal) → sound_list_of ops ≡ y → x ≡ in_List ops
+      go (Ok l) q =
           let e : Of (in_List l) ≡ Of x = rw q at p in
           inject x (in_List ops) (sym e ∙ ap (λ (k : ScheduledOperations). Of (in_List k)) (same_list ops l q))
-      go (operations.Refused e) q = absurd (refused e x (rw q at p))
+      go (Err e) q = absurd (refused e x (rw q at p))
 
-pub list_try_new_promised : Keeps 0 list_try_new_kinds.ps list_try_new_kinds.r list_try_new.Learnt (λ κs a z. (l : ScheduledOperations) → z ≡ operations.Of l → l ≡ a.0)
+pub list_try_new_promised : Keeps 0 list_try_new_kinds.ps list_try_new_kinds.r list_try_new.Learnt (λ κs a z. (l : ScheduledOperations) → z ≡ Ok l → l ≡ a.0)
 list_try_new_promised κs a z q l e = same_list a.0 l (sym (ScheduledOperations-try-new-says κs a z q.0 q.1) ∙ e)
 
-pub container_promised : Keeps 0 container_kinds.ps container_kinds.r container.Learnt (λ κs a z. (l : ScheduledOperations) → z ≡ operations.Of l → l ≡ a.0)
+pub container_promised : Keeps 0 container_kinds.ps container_kinds.r container.Learnt (λ κs a z. (l : ScheduledOperations) → z ≡ Ok l → l ≡ a.0)
 container_promised κs a z q l e = same_list a.0 l (sym (container_says κs a z q.0 q.1) ∙ e)
 
-pub into_container_promised : Keeps 0 into_container_kinds.ps into_container_kinds.r into_container.Learnt (λ κs a z. (l : ScheduledOperations) → z ≡ operations.Of l → l ≡ a.0)
+pub into_container_promised : Keeps 0 into_container_kinds.ps into_container_kinds.r into_container.Learnt (λ κs a z. (l : ScheduledOperations) → z ≡ Ok l → l ≡ a.0)
 into_container_promised κs a z q l e = same_list a.0 l (sym (into_container_says κs a z q.0 q.1) ∙ e)
 
 starts_are : (ops : ScheduledOperations) → StartsOf ops (cumulative_in ops)
@@ -99,28 +93,28 @@ ends_at list.None = refl
 ends_at (list.One a) = omega arith
 ends_at (list.Two a b) = omega arith
 
-starts_of_lem : (ops : ScheduledOperations) (c : CumulativeOffsets) → cumulative_offsets_of ops ≡ cumulatives.Of c → c ≡ cumulative_in ops
-starts_of_lem = of_list_lem cumulatives.Of cumulatives.Refused cumulative_in (λ x y p. cc) (λ e x p. let z : ◌≡◌ {A = ℕ} 0 1 = cc in omega arith)
+starts_of_lem : (ops : ScheduledOperations) (c : CumulativeOffsets) → cumulative_offsets_of ops ≡ Ok c → c ≡ cumulative_in ops
+starts_of_lem = of_list_lem Ok Err cumulative_in (λ x y p. cc) (λ e x p. cc)
 
-ranges_of_lem : (ops : ScheduledOperations) (c : OutsideRanges) → outside_ranges_of ops ≡ outsides.Of c → c ≡ outside_in ops
-ranges_of_lem = of_list_lem outsides.Of outsides.Refused outside_in (λ x y p. cc) (λ e x p. let z : ◌≡◌ {A = ℕ} 0 1 = cc in omega arith)
+ranges_of_lem : (ops : ScheduledOperations) (c : OutsideRanges) → outside_ranges_of ops ≡ Ok c → c ≡ outside_in ops
+ranges_of_lem = of_list_lem Ok Err outside_in (λ x y p. cc) (λ e x p. cc)
 
-total_of : (ops : ScheduledOperations) (n : ℕ) → cumulative_length_of ops ≡ amount.Of n → n ≡ total_in ops
-total_of = of_list_lem amount.Of amount.Refused total_in (λ x y p. cc) (λ e x p. let z : ◌≡◌ {A = ℕ} 0 1 = cc in omega arith)
+total_of : (ops : ScheduledOperations) (n : ℕ) → cumulative_length_of ops ≡ Ok n → n ≡ total_in ops
+total_of = of_list_lem Ok Err total_in (λ x y p. cc) (λ e x p. cc)
 
-pub starts_promised : Keeps 0 with_cumulative_offset_kinds.ps with_cumulative_offset_kinds.r with_cumulative_offset.Learnt (λ κs a z. (c : CumulativeOffsets) → z ≡ cumulatives.Of c → StartsOf a.0 c)
+pub starts_promised : Keeps 0 with_cumulative_offset_kinds.ps with_cumulative_offset_kinds.r with_cumulative_offset.Learnt (λ κs a z. (c : CumulativeOffsets) → z ≡ Ok c → StartsOf a.0 c)
 starts_promised κs a z q c e = rw (starts_of_lem a.0 c (sym (with_cumulative_offset_says κs a z q.0 q.1) ∙ e)) (starts_are a.0)
 
-pub ranges_promised : Keeps 0 with_outside_buffer_range_kinds.ps with_outside_buffer_range_kinds.r with_outside_buffer_range.Learnt (λ κs a z. (c : OutsideRanges) → z ≡ outsides.Of c → RangesOf a.0 c)
+pub ranges_promised : Keeps 0 with_outside_buffer_range_kinds.ps with_outside_buffer_range_kinds.r with_outside_buffer_range.Learnt (λ κs a z. (c : OutsideRanges) → z ≡ Ok c → RangesOf a.0 c)
 ranges_promised κs a z q c e = rw (ranges_of_lem a.0 c (sym (with_outside_buffer_range_says κs a z q.0 q.1) ∙ e)) (ranges_are a.0)
 
 -- the sum of the lengths is where the last range ends
 pub length_promised :
-    (ops : ScheduledOperations) (n : ℕ) → Allows 0 cumulative_operation_length_kinds.ps cumulative_operation_length_kinds.r cumulative_operation_length.Learnt tt (ops, tt) (amount.Of n) →
-    (c : OutsideRanges) → Allows 0 with_outside_buffer_range_kinds.ps with_outside_buffer_range_kinds.r with_outside_buffer_range.Learnt tt (ops, tt) (outsides.Of c) → n ≡ last_end c
+    (ops : ScheduledOperations) (n : ℕ) → Allows 0 cumulative_operation_length_kinds.ps cumulative_operation_length_kinds.r cumulative_operation_length.Learnt tt (ops, tt) (Ok n) →
+    (c : OutsideRanges) → Allows 0 with_outside_buffer_range_kinds.ps with_outside_buffer_range_kinds.r with_outside_buffer_range.Learnt tt (ops, tt) (Ok c) → n ≡ last_end c
 length_promised ops n p c q =
-    total_of ops n (sym (cumulative_operation_length_says tt (ops, tt) (amount.Of n) p.0 p.1)) ∙ sym (ends_at ops)
-    ∙ ap last_end (sym (ranges_of_lem ops c (sym (with_outside_buffer_range_says tt (ops, tt) (outsides.Of c) q.0 q.1))))
+    total_of ops n (sym (cumulative_operation_length_says tt (ops, tt) (Ok n) p.0 p.1)) ∙ sym (ends_at ops)
+    ∙ ap last_end (sym (ranges_of_lem ops c (sym (with_outside_buffer_range_says tt (ops, tt) (Ok c) q.0 q.1))))
 
 -- ---- `Diff`
 diff_is : (old new : ℕ) → DiffOf old new (diff_of old new)
@@ -157,13 +151,13 @@ module _ (old new : ℕ) (d : Diff) (q : DiffNew old new d) where
     where
       go : (x : Diff) → DiffOf old new x → true ≡ is_same_of x → old ≡ new
       go (Same y) e f = sym e.0 ∙ e.1
-      go (Different y z) e f = absurd (let z : ◌≡◌ {A = ℕ} 0 1 = cc in omega arith)
+      go (Different y z) e f = cc
 
   pub is_different_promised : Allows 0 is_different_kinds.ps is_different_kinds.r is_different.Learnt tt (d, tt) true → old ≡ new → ⊥
   is_different_promised p = go d (diff_promised tt (old, (new, tt)) d q) (is_different_says tt (d, tt) true p.0 p.1)
     where
       go : (x : Diff) → DiffOf old new x → true ≡ is_different_of x → old ≡ new → ⊥
-      go (Same y) e f g = let z : ◌≡◌ {A = ℕ} 0 1 = cc in omega arith
+      go (Same y) e f g = cc
       go (Different y z) e f g = e.2 (e.0 ∙ g ∙ sym e.1)
 
 -- by the case, of any `Diff`

@@ -1,15 +1,7 @@
 -- The paper's table of the numbers that refuse a list, 7 and 8: when each is given, and with which values. docs/PAPER.md, "The numbers".
-use Rattle.std.specs.Prelude.{ℕ, ◌+◌, ◌-◌, ◌^◌, ◌<◌, ◌≤◌, ◌≡◌, List, [], ◌∷◌}
-use Rattle.operations.specs.declared.counter.AmountAnswer.{AmountAnswer}
-use Rattle.operations.specs.declared.counter.AmountAnswer.TheVariants as amount
-use Rattle.operations.specs.declared.list.CumulativeOffsetsAnswer.{CumulativeOffsetsAnswer}
-use Rattle.operations.specs.declared.list.CumulativeOffsetsAnswer.TheVariants as cumulatives
-use Rattle.operations.specs.declared.list.OperationsAnswer.{OperationsAnswer}
-use Rattle.operations.specs.declared.list.OperationsAnswer.TheVariants as operations
-use Rattle.operations.specs.declared.list.OutsideRangesAnswer.{OutsideRangesAnswer}
-use Rattle.operations.specs.declared.list.OutsideRangesAnswer.TheVariants as outsides
-use Rattle.operations.specs.declared.list.ScheduledOperations.{ScheduledOperations}
-use Rattle.operations.specs.declared.list.ScheduledOperations.TheVariants as list
+use Rattle.std.specs.Prelude.{ℕ, ◌+◌, ◌-◌, ◌^◌, ◌<◌, ◌≤◌, ◌≡◌, List, [], ◌∷◌, Result, Ok, Err}
+use Rattle.operations.specs.Lists.{ScheduledOperations}
+use Rattle.operations.specs.declared.list.AtMostTwo.TheVariants as list
 use Rattle.operations.specs.declared.operation.OperationType.{OperationType}
 use Rattle.operations.specs.declared.operation.OperationType.TheVariants.{Read, Write}
 use Rattle.operations.specs.declared.operation.ScheduledOperation.{ScheduledOperation}
@@ -48,19 +40,7 @@ pub data GivenList : ScheduledOperations → ℕ → List ℕ → Type 0 where
   given_7 : {a b : ScheduledOperation} → 2 ^ 64 - 1 < a.len + b.len → GivenList (list.Two a b) 7 ((a.len + b.len - (2 ^ 64 - 1)) ∷ [])
   given_8 : {a b : ScheduledOperation} → a.len + b.len ≤ 2 ^ 64 - 1 → (a.typ ≡ b.typ → ⊥) → GivenList (list.Two a b) 8 []
 
--- ---- the verdict in each kind of answer
-abbrev pub of_amount : AmountAnswer → Verdict
-of_amount (amount.Of n) = accepted
-of_amount (amount.Refused e) = refused e
-
-abbrev pub of_operations : OperationsAnswer → Verdict
-of_operations (operations.Of ops) = accepted
-of_operations (operations.Refused e) = refused e
-
-abbrev pub of_cumulative_offsets : CumulativeOffsetsAnswer → Verdict
-of_cumulative_offsets (cumulatives.Of c) = accepted
-of_cumulative_offsets (cumulatives.Refused e) = refused e
-
-abbrev pub of_outside_ranges : OutsideRangesAnswer → Verdict
-of_outside_ranges (outsides.Of o) = accepted
-of_outside_ranges (outsides.Refused e) = refused e
+-- ---- the verdict in an answer, whatever it is of
+abbrev pub of_result : {A : Type 0} → Result A Refusal → Verdict
+of_result (Ok n) = accepted
+of_result (Err e) = refused e

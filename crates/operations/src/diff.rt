@@ -21,27 +21,20 @@ impl Diff {
     pub fn is_same(self) -> bool
         ensures { result ≡ is_same_of self }
     {
-        match self {
-            Diff::Same(_) => true,
-            Diff::Different(_, _) => false,
-        }
+        matches!(self, Diff::Same(_))
     }
 
     pub fn is_different(self) -> bool
         ensures { result ≡ is_different_of self }
     {
-        match self {
-            Diff::Same(_) => false,
-            Diff::Different(_, _) => true,
-        }
+        matches!(self, Diff::Different(_, _))
     }
 
     pub fn old_value(self) -> u64
         ensures { result ≡ old_value_of self }
     {
         match self {
-            Diff::Same(v) => v,
-            Diff::Different(old, _) => old,
+            Diff::Same(old) | Diff::Different(old, _) => old,
         }
     }
 
@@ -49,8 +42,7 @@ impl Diff {
         ensures { result ≡ new_value_of self }
     {
         match self {
-            Diff::Same(v) => v,
-            Diff::Different(_, new) => new,
+            Diff::Same(new) | Diff::Different(_, new) => new,
         }
     }
 }

@@ -10,11 +10,11 @@ mod portion;
 mod refusal;
 mod values;
 
-pub use counter::{AmountAnswer, BoolAnswer, Counter, CounterAnswer, Offset, OffsetAnswer};
+pub use counter::{Counter, Offset};
 pub use diff::Diff;
 pub use list::{
-    CumulativeOffset, CumulativeOffsets, CumulativeOffsetsAnswer, OperationsAnswer, OutsideRange,
-    OutsideRanges, OutsideRangesAnswer, ScheduledOperations,
+    AtMostTwo, CumulativeOffset, CumulativeOffsets, OutsideRange, OutsideRanges,
+    ScheduledOperations,
 };
 pub use operation::{OperationType, ScheduledOperation};
 pub use portion::{Portion, portion_of};

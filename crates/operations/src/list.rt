@@ -1,42 +1,29 @@
 // The two-place list of operations. Any list can be built by hand, so every call tests it anew: 7, then 8.
 ghost use Rattle.std.specs.Prelude.{◌≡◌};
-ghost use Rattle.operations.specs.List.{same_type_of, sound_two_of, sound_list_of, Summed, total_in, cumulative_length_of, cumulative_in, cumulative_offsets_of, outside_in, outside_ranges_of};
+ghost use Rattle.operations.specs.List.{sound_two_of, sound_list_of, Summed, total_in, cumulative_length_of, cumulative_in, cumulative_offsets_of, outside_in, outside_ranges_of};
 
-use crate::counter::AmountAnswer;
 use crate::operation::{OperationType, ScheduledOperation};
 use crate::refusal::Refusal;
 
+// Cases and no Vec or slice: no heap, and each of the two has its meaning.
 #[derive(Clone, Copy)]
-pub enum ScheduledOperations {
+pub enum AtMostTwo<T> {
     None,
-    One(ScheduledOperation),
-    Two(ScheduledOperation, ScheduledOperation),
+    One(T),
+    Two(T, T),
 }
 
-#[derive(Clone, Copy)]
-pub enum OperationsAnswer {
-    Of(ScheduledOperations),
-    Refused(Refusal),
-}
+pub type ScheduledOperations = AtMostTwo<ScheduledOperation>;
+
+pub type CumulativeOffsets = AtMostTwo<CumulativeOffset>;
+
+pub type OutsideRanges = AtMostTwo<OutsideRange>;
 
 // An operation, and where it starts in the linear buffer outside the ring.
 #[derive(Clone, Copy)]
 pub struct CumulativeOffset {
     pub start: u64,
     pub op: ScheduledOperation,
-}
-
-#[derive(Clone, Copy)]
-pub enum CumulativeOffsets {
-    None,
-    One(CumulativeOffset),
-    Two(CumulativeOffset, CumulativeOffset),
-}
-
-#[derive(Clone, Copy)]
-pub enum CumulativeOffsetsAnswer {
-    Of(CumulativeOffsets),
-    Refused(Refusal),
 }
 
 // An operation, and where it starts and ends in the linear buffer outside the ring.
@@ -47,100 +34,63 @@ pub struct OutsideRange {
     pub op: ScheduledOperation,
 }
 
-#[derive(Clone, Copy)]
-pub enum OutsideRanges {
-    None,
-    One(OutsideRange),
-    Two(OutsideRange, OutsideRange),
-}
-
-#[derive(Clone, Copy)]
-pub enum OutsideRangesAnswer {
-    Of(OutsideRanges),
-    Refused(Refusal),
-}
-
-fn same_type_of(a: OperationType, b: OperationType) -> bool
-    ensures { result ≡ same_type_of a b }
-{
-    match a {
-        OperationType::Read => match b {
-            OperationType::Read => true,
-            OperationType::Write => false,
-        },
-        OperationType::Write => match b {
-            OperationType::Read => false,
-            OperationType::Write => true,
-        },
-    }
-}
-
 // The sum of the lengths is compared with what 64 bits hold before it is made.
-fn sound_two_of(a: ScheduledOperation, b: ScheduledOperation) -> OperationsAnswer
+fn sound_two_of(
+    a: ScheduledOperation,
+    b: ScheduledOperation,
+) -> Result<ScheduledOperations, Refusal>
     ensures { result ≡ sound_two_of a b }
 {
     let room = u64::MAX - b.len;
     if a.len > room {
-        return OperationsAnswer::Refused(Refusal::OperationTooLong {
+        return Err(Refusal::OperationTooLong {
             excess: a.len - room,
         });
     }
-    let typ_a = a.typ;
-    let typ_b = b.typ;
-    if same_type_of(typ_a, typ_b) {
-        return OperationsAnswer::Of(ScheduledOperations::Two(a, b));
+    if a.typ != b.typ {
+        return Err(Refusal::InconsistentOperationType);
     }
-    OperationsAnswer::Refused(Refusal::InconsistentOperationType)
+    Ok(AtMostTwo::Two(a, b))
 }
 
-impl ScheduledOperations {
-    pub fn try_new(list: ScheduledOperations) -> OperationsAnswer
+impl AtMostTwo<ScheduledOperation> {
+    pub fn try_new(list: ScheduledOperations) -> Result<ScheduledOperations, Refusal>
         ensures { result ≡ sound_list_of list }
     {
         match list {
-            ScheduledOperations::None => OperationsAnswer::Of(list),
-            ScheduledOperations::One(_) => OperationsAnswer::Of(list),
-            ScheduledOperations::Two(a, b) => sound_two_of(a, b),
+            AtMostTwo::None | AtMostTwo::One(_) => Ok(list),
+            AtMostTwo::Two(a, b) => sound_two_of(a, b),
         }
     }
 
-    pub fn container(self) -> OperationsAnswer
+    pub fn container(self) -> Result<ScheduledOperations, Refusal>
         ensures { result ≡ sound_list_of self }
     {
         ScheduledOperations::try_new(self)
     }
 
-    pub fn into_container(self) -> OperationsAnswer
+    pub fn into_container(self) -> Result<ScheduledOperations, Refusal>
         ensures { result ≡ sound_list_of self }
     {
         ScheduledOperations::try_new(self)
     }
 
-    pub fn cumulative_operation_length(self) -> AmountAnswer
+    pub fn cumulative_operation_length(self) -> Result<u64, Refusal>
         ensures { result ≡ cumulative_length_of self }
     {
-        match ScheduledOperations::try_new(self) {
-            OperationsAnswer::Of(list) => AmountAnswer::Of(list.total_in()),
-            OperationsAnswer::Refused(e) => AmountAnswer::Refused(e),
-        }
+        Ok(ScheduledOperations::try_new(self)?.total_in())
     }
 
-    pub fn with_cumulative_offset(self) -> CumulativeOffsetsAnswer
+    pub fn with_cumulative_offset(self) -> Result<CumulativeOffsets, Refusal>
         ensures { result ≡ cumulative_offsets_of self }
     {
-        match ScheduledOperations::try_new(self) {
-            OperationsAnswer::Of(list) => CumulativeOffsetsAnswer::Of(list.cumulative_in()),
-            OperationsAnswer::Refused(e) => CumulativeOffsetsAnswer::Refused(e),
-        }
+        Ok(ScheduledOperations::try_new(self)?.cumulative_in())
     }
 
-    pub fn with_outside_buffer_range(self) -> OutsideRangesAnswer
+    pub fn with_outside_buffer_range(self) -> Result<OutsideRanges, Refusal>
         ensures { result ≡ outside_ranges_of self }
     {
-        match ScheduledOperations::try_new(self) {
-            OperationsAnswer::Of(list) => OutsideRangesAnswer::Of(list.outside_in()),
-            OperationsAnswer::Refused(e) => OutsideRangesAnswer::Refused(e),
-        }
+        Ok(ScheduledOperations::try_new(self)?.outside_in())
     }
 
     // ---- of a list whose sum fits
@@ -150,9 +100,9 @@ impl ScheduledOperations {
         ensures { result ≡ total_in self }
     {
         match self {
-            ScheduledOperations::None => 0,
-            ScheduledOperations::One(a) => a.len,
-            ScheduledOperations::Two(a, b) => a.len + b.len,
+            AtMostTwo::None => 0,
+            AtMostTwo::One(a) => a.len,
+            AtMostTwo::Two(a, b) => a.len + b.len,
         }
     }
 
@@ -160,12 +110,9 @@ impl ScheduledOperations {
         ensures { result ≡ cumulative_in self }
     {
         match self {
-            ScheduledOperations::None => CumulativeOffsets::None,
-            ScheduledOperations::One(a) => CumulativeOffsets::One(CumulativeOffset {
-                start: 0,
-                op: a,
-            }),
-            ScheduledOperations::Two(a, b) => CumulativeOffsets::Two(
+            AtMostTwo::None => AtMostTwo::None,
+            AtMostTwo::One(a) => AtMostTwo::One(CumulativeOffset { start: 0, op: a }),
+            AtMostTwo::Two(a, b) => AtMostTwo::Two(
                 CumulativeOffset { start: 0, op: a },
                 CumulativeOffset {
                     start: a.len,
@@ -180,13 +127,13 @@ impl ScheduledOperations {
         ensures { result ≡ outside_in self }
     {
         match self {
-            ScheduledOperations::None => OutsideRanges::None,
-            ScheduledOperations::One(a) => OutsideRanges::One(OutsideRange {
+            AtMostTwo::None => AtMostTwo::None,
+            AtMostTwo::One(a) => AtMostTwo::One(OutsideRange {
                 start: 0,
                 end: a.len,
                 op: a,
             }),
-            ScheduledOperations::Two(a, b) => OutsideRanges::Two(
+            AtMostTwo::Two(a, b) => AtMostTwo::Two(
                 OutsideRange {
                     start: 0,
                     end: a.len,

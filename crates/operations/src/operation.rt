@@ -5,14 +5,14 @@ ghost use Rattle.operations.specs.Refusal.{type_number};
 
 use crate::counter::Offset;
 
-#[derive(Clone, Copy)]
+#[derive(Clone, Copy, PartialEq, Eq)]
 pub enum OperationType {
     Read,
     Write,
 }
 
 impl OperationType {
-    // Its number among a refusal's values.
+    // Its number among a refusal's values. A call by this name, and no `From`: the theorem `type_number_promised` speaks of it.
     pub fn number(self) -> u64
         ensures { result ≡ type_number self }
     {
@@ -37,10 +37,13 @@ impl ScheduledOperation {
     {
         ScheduledOperation { typ, off, len }
     }
+}
 
-    pub fn default() -> ScheduledOperation
-        ensures { result ≡ default_operation }
-    {
+// By hand: a derive would ask a Default of types and offsets, which the Rust has not.
+impl Default for ScheduledOperation {
+    ghost is_default = { λ o. o ≡ default_operation };
+
+    fn default() -> ScheduledOperation {
         ScheduledOperation::new(OperationType::Read, Offset(0), 0)
     }
 }

@@ -1,5 +1,5 @@
 // Of what is asked, how much is taken and how much is left over.
-ghost use Rattle.std.specs.Prelude.{◌≡◌, min};
+ghost use Rattle.std.specs.Prelude.{◌≡◌};
 ghost use Rattle.operations.specs.Portion.{portion_of};
 
 #[derive(Clone, Copy)]
@@ -12,15 +12,9 @@ pub struct Portion {
 pub fn portion_of(asked: u64, room: u64) -> Portion
     ensures { result ≡ portion_of asked room }
 {
-    let len = least(asked, room);
+    let len = asked.min(room);
     Portion {
         len,
         remainder: asked - len,
     }
-}
-
-fn least(a: u64, b: u64) -> u64
-    ensures { result ≡ min a b }
-{
-    if a <= b { a } else { b }
 }

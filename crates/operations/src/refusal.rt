@@ -47,6 +47,7 @@ pub enum Refusal {
 }
 
 impl Refusal {
+    // Methods by these names, and no `From`: flat calls them, and the theorem `number_promised` speaks of them.
     pub fn number(self) -> u64
         ensures { result ≡ number_of self }
     {

@@ -2,7 +2,7 @@
 ghost use Rattle.std.specs.Prelude.{◌≡◌, [], ◌∷◌};
 ghost use Rattle.operations.specs.Refusal.{packed};
 
-// The first `len` of a, b and c; the others are 0.
+// The first `len` of a, b and c; the others are 0. No slice or Vec: a refusal is a value of fixed size, and C has these four numbers.
 #[derive(Clone, Copy)]
 pub struct Values {
     pub len: u64,
@@ -12,6 +12,7 @@ pub struct Values {
 }
 
 impl Values {
+    // Beside `one`, `two` and `three`, and no Default: by how many there are.
     pub fn none() -> Values
         ensures { result ≡ packed [] }
     {

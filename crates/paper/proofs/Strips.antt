@@ -1,30 +1,31 @@
 -- The planner's rows: what a contract allows is its definition, and every row computes.
+use Rattle.std.specs.Bool.{⊤}
+use Rattle.std.proofs.Common.{Result, ℕ}
 use Prim.Native.Nat.{ℕ, ◌+◌, ◌^◌}
 use mathlib.Core.Path.{◌≡◌, refl, ap, ◌∙◌}
 use mathlib.Core.List.{List}
 use Rattle.modular.specs.Modulus.{sub_mod}
 use Rattle.sched.specs.Chunk.{body_fits}
 use Rattle.sched.specs.Scheduler.{counted_of, sound_of}
-use Rattle.planner.specs.declared.plan.Proposed.{Proposed}
-use Rattle.planner.specs.declared.strips.Outlined.{Outlined}
-use Rattle.planner.specs.declared.verdict.Verdict.{Verdict}
 use Rattle.planner.specs.Check.{past_end, run_of, check_from, check_of}
 use Rattle.planner.specs.Plan.{Proposal, proposal, runs_from, propose_in, propose_of}
 use Rattle.planner.specs.Sizes.{in_bounds, sizes_in}
 use Rattle.planner.specs.Strips.{outline_of}
 use Rattle.planner.proofs.Says.{outline_says, propose_says, check_says}
+use Rattle.planner.specs.declared.strips.Strips as planner
 use Rattle.paper.specs.Strips.{Outlines, Proposes, Checks, Strips}
+use Rattle.planner.specs.declared.refusal.Refusal.{Refusal}
 
-outlines : (rows bytes L : ℕ) (z : Outlined) → outline_of rows bytes L ≡ z → Outlines rows bytes L z
+outlines : (rows bytes L : ℕ) (z : Result planner.Strips Refusal) → outline_of rows bytes L ≡ z → Outlines rows bytes L z
 outlines rows bytes L z e y (ws, p) = outline_says tt (rows, (bytes, (L, tt))) y ws p ∙ e
 
-proposes : (rows bytes L : ℕ) (plan : List ℕ) (z : Proposed) (after : List ℕ) → propose_of rows bytes L plan ≡ proposal z after → Proposes rows bytes L plan z after
+proposes : (rows bytes L : ℕ) (plan : List ℕ) (z : Result ℕ Refusal) (after : List ℕ) → propose_of rows bytes L plan ≡ proposal z after → Proposes rows bytes L plan z after
 proposes rows bytes L plan z after e κs a same y ws p =
     let left = propose_says κs a y ws p in
     let is : propose_of a.0 a.1.0 a.1.1.0 a.1.1.1.0.now ≡ proposal z after = rw (same.0, same.1, same.2, same.3) e in
     (left.0 ∙ ap (λ (x : Proposal). x.answer) is, ap (λ (x : _). x.1.1.1.0) left.1 ∙ ap (λ (x : Proposal). x.plan) is)
 
-checks : (rows bytes L : ℕ) (plan : List ℕ) (z : Verdict) → check_of rows bytes L plan ≡ z → Checks rows bytes L plan z
+checks : (rows bytes L : ℕ) (plan : List ℕ) (z : Result ⊤ Refusal) → check_of rows bytes L plan ≡ z → Checks rows bytes L plan z
 checks rows bytes L plan z e κs a same y (ws, p) = check_says κs a y ws p ∙ rw (same.0, same.1, same.2, same.3) e
 
 pub strips : Strips

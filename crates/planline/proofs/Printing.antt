@@ -10,14 +10,14 @@ use Rattle.modular.proofs.Laws.{lt_or_le}
 use Rattle.lines.specs.Answer.{texts_of}
 use Rattle.lines.specs.Decimal.{decimal}
 use Rattle.lines.proofs.NumeralLaws.{decimal_numeral, numeral_is}
-use Rattle.operations.specs.declared.list.ScheduledOperations.{ScheduledOperations}
-use Rattle.operations.specs.declared.list.ScheduledOperations.TheVariants as list
+use Rattle.operations.specs.Lists.{ScheduledOperations}
+use Rattle.operations.specs.declared.list.AtMostTwo.TheVariants as list
 use Rattle.operations.specs.declared.operation.OperationType.{OperationType}
 use Rattle.operations.specs.declared.operation.ScheduledOperation.{ScheduledOperation}
 use Rattle.operations.specs.declared.refusal.Refusal.{Refusal}
 use Rattle.operations.specs.declared.refusal.Refusal.TheVariants.{ZeroBufferLength, BufferTooLarge, ItemsWrittenOutOfBounds, ItemsReadOutofBounds, DataAvailOutOfBounds, OperationTooLarge, OperationTooLong, InconsistentOperationType, HeldFillWrong}
-use Rattle.sched.specs.declared.scheduler.Checked.{Checked}
-use Rattle.sched.specs.declared.scheduler.Checked.TheVariants as checked
+use Rattle.std.specs.Prelude.{Option, Some, None}
+use Rattle.std.proofs.Common.{Result, Ok, Err}
 use Rattle.sched.specs.declared.scheduler.RingBufferScheduler.{RingBufferScheduler}
 use Rattle.sched.specs.Promise.{Each}
 use Rattle.operations.specs.Refusal.{number_of}
@@ -26,21 +26,18 @@ use Rattle.sched.proofs.Laws.{sound_both}
 use Rattle.sched.proofs.Promises.{scheduling}
 use Rattle.planner.specs.declared.refusal.Refusal as planner
 use Rattle.planner.specs.declared.refusal.Refusal.TheVariants as refused_by_lem
-use Rattle.planner.specs.declared.strips.Outlined.{Outlined}
-use Rattle.planner.specs.declared.strips.Outlined.TheVariants as outlined
 use Rattle.planner.specs.declared.strips.Strips.{Strips}
 use Rattle.planner.specs.Refusal as planner_number
 use Rattle.planner.specs.Strips.{outline_of, AreStrips}
 use Rattle.planner.proofs.StripLaws.{outline_strips}
 use Rattle.planline.specs.declared.ring.Asked.{Asked}
-use Rattle.planline.specs.declared.ring.Parsed.{Parsed}
-use Rattle.planline.specs.declared.ring.Parsed.TheVariants as parsed
 use Rattle.planline.specs.declared.plan.Plan.{Plan}
 use Rattle.planline.specs.declared.plan.Plan.TheVariants as plan
+use Rattle.planline.specs.declared.plan.PlanError.{PlanError}
+use Rattle.planline.specs.declared.plan.PlanError.TheVariants.{Bad, Refused}
 use Rattle.planline.specs.declared.plan.Question.{Question}
 use Rattle.planline.specs.declared.plan.Question.TheVariants as question
-use Rattle.planline.specs.declared.strips.ParsedStrips.{ParsedStrips}
-use Rattle.planline.specs.declared.strips.ParsedStrips.TheVariants as parsed_strips
+use Rattle.planline.specs.declared.strips.AskedStrips.{AskedStrips}
 use Rattle.planline.specs.Cut.{line_text}
 use Rattle.planline.specs.Grammar.{WellFormed}
 use Rattle.planline.specs.Plan.{answer_to, plan_of}
@@ -79,37 +76,37 @@ formed_line xs a h =
       is = h.is;
     }
 
-pub line_parsed : (xs : List ℕ) (a : Asked) → RingLine xs a → parse_of xs ≡ parsed.Of a
+pub line_parsed : (xs : List ℕ) (a : Asked) → RingLine xs a → parse_of xs ≡ Some a
 line_parsed xs a h = ap parse_of (line_formed xs a h) ∙ accepts a h.fits
 
-pub parsed_line : (xs : List ℕ) (a : Asked) → parse_of xs ≡ parsed.Of a → RingLine xs a
+pub parsed_line : (xs : List ℕ) (a : Asked) → parse_of xs ≡ Some a → RingLine xs a
 parsed_line xs a e = formed_line xs a (accepted xs a e)
 
 pub line_planned : (xs : List ℕ) (a : Asked) → RingLine xs a → plan_of question.Ring xs ≡ plan_for a
 line_planned xs a h = ap (plan_of question.Ring) (line_formed xs a h) ∙ planned a h.fits
 
-pub else_bad : (xs : List ℕ) → ((a : Asked) → RingLine xs a → ⊥) → plan_of question.Ring xs ≡ plan.Bad
+pub else_bad : (xs : List ℕ) → ((a : Asked) → RingLine xs a → ⊥) → plan_of question.Ring xs ≡ Err Bad
 else_bad xs f = bad_else xs (λ a h. f a (formed_line xs a h))
 
 -- ---- answers: a plan's numbers are below 2^64
-abbrev Small : Plan → Type 0
-Small plan.Bad = Unit {0}
-Small (plan.Refused n) = n < 2 ^ 64
-Small (plan.Operations ops) = Each (λ a. (a.off.0 < 2 ^ 64) × (a.len < 2 ^ 64)) ops
-Small (plan.Strips o) = (o.count < 2 ^ 64) × (o.height < 2 ^ 64) × (o.last < 2 ^ 64)
+abbrev Small : Result Plan PlanError → Type 0
+Small (Err Bad) = Unit {0}
+Small (Err (Refused e)) = planner_number.number_of e < 2 ^ 64
+Small (Ok (plan.Operations ops)) = Each (λ a. (a.off.0 < 2 ^ 64) × (a.len < 2 ^ 64)) ops
+Small (Ok (plan.Strips o)) = (o.count < 2 ^ 64) × (o.height < 2 ^ 64) × (o.last < 2 ^ 64)
 
 pair_printed : (a : ScheduledOperation) → (a.off.0 < 2 ^ 64) × (a.len < 2 ^ 64) → Pair (operation_text a) a
 unfolding operation_text
 pair_printed a h = pair (decimal_numeral a.off.0 h.0) (decimal_numeral a.len h.1)
 
-printed : (p : Plan) → Small p → Printed (plan_text p) p
+printed : (p : Result Plan PlanError) → Small p → Printed (plan_text p) p
 unfolding plan_text list_text strips_text
-printed plan.Bad h = bad
-printed (plan.Refused n) h = refused (decimal_numeral n h)
-printed (plan.Operations list.None) h = ok_none
-printed (plan.Operations (list.One a)) h = ok_one (pair_printed a h)
-printed (plan.Operations (list.Two a b)) h = ok_two (pair_printed a h.0) (pair_printed b h.1)
-printed (plan.Strips o) h = ok_strips (decimal_numeral o.count h.0) (decimal_numeral o.height h.1) (decimal_numeral o.last h.2)
+printed (Err Bad) h = bad
+printed (Err (Refused e)) h = refused (decimal_numeral (planner_number.number_of e) h)
+printed (Ok (plan.Operations list.None)) h = ok_none
+printed (Ok (plan.Operations (list.One a))) h = ok_one (pair_printed a h)
+printed (Ok (plan.Operations (list.Two a b))) h = ok_two (pair_printed a h.0) (pair_printed b h.1)
+printed (Ok (plan.Strips o)) h = ok_strips (decimal_numeral o.count h.0) (decimal_numeral o.height h.1) (decimal_numeral o.last h.2)
 
 number_small : (e : Refusal) → number_of e < 2 ^ 64
 number_small ZeroBufferLength = omega arith
@@ -123,7 +120,7 @@ number_small InconsistentOperationType = omega arith
 number_small HeldFillWrong = omega arith
 
 -- each operation lies inside a buffer of at most 2^63
-inside_small : (l : ℕ) (ops : ScheduledOperations) → l ≤ 2 ^ 63 → Each (λ a. a.off.0 + a.len ≤ l) ops → Small (plan.Operations ops)
+inside_small : (l : ℕ) (ops : ScheduledOperations) → l ≤ 2 ^ 63 → Each (λ a. a.off.0 + a.len ≤ l) ops → Small (Ok (plan.Operations ops))
 inside_small l list.None f h = tt
 inside_small l (list.One a) f h = (omega arith, omega arith)
 inside_small l (list.Two a b) f h = ((omega (arith, h.0), omega (arith, h.0)), (omega (arith, h.1), omega (arith, h.1)))
@@ -131,15 +128,15 @@ inside_small l (list.Two a b) f h = ((omega (arith, h.0), omega (arith, h.0)), (
 scheduled_small : (s : RingBufferScheduler) (t : OperationType) (m : ℕ) → Small (plan_after (schedule_of s t m))
 scheduled_small s t m = go (sound_of s) refl
   where
-    go : (c : Checked) → sound_of s ≡ c → Small (plan_after (schedule_of s t m))
-    go (checked.Refused e) p = rw p (number_small e)
-    go (checked.Sound u) p =
+    go : (c : Result RingBufferScheduler Refusal) → sound_of s ≡ c → Small (plan_after (schedule_of s t m))
+    go (Err e) p = rw p (number_small e)
+    go (Ok u) p =
         let b : IsSound s × (u ≡ s) = sound_both u s (sym p) in
         rw (p, b.1) (inside_small s.buf_len (schedule_in s t m).operations b.0.sized.fits (scheduling s b.0 t m).inside)
 
-ring_small : (p : Parsed) → Small (plan_from p)
-ring_small (parsed.Of a) = scheduled_small (scheduler_of a.buf_len (record { 0 = a.written }) (record { 0 = a.read })) a.typ a.max_len
-ring_small parsed.Bad = tt
+ring_small : (p : Option Asked) → Small (plan_from p)
+ring_small (Some a) = scheduled_small (scheduler_of a.buf_len (record { 0 = a.written }) (record { 0 = a.read })) a.typ a.max_len
+ring_small None = tt
 
 planner_number_small : (e : planner.Refusal) → planner_number.number_of e < 2 ^ 64
 planner_number_small (refused_by_lem.Scheduler e) = number_small e
@@ -152,19 +149,19 @@ planner_number_small (refused_by_lem.RowsLeft reached) = omega arith
 planner_number_small (refused_by_lem.PlanTooShort needed lent) = omega arith
 
 -- no number of an outline is over the count of rows
-outline_small : (rows : ℕ) (o : Strips) → AreStrips rows o → Small (plan.Strips o)
+outline_small : (rows : ℕ) (o : Strips) → AreStrips rows o → Small (Ok (plan.Strips o))
 outline_small rows o s =
     let count : o.count ≡ (rows - 1) / o.height + 1 = ap (λ (x : Strips). x.count) s.is in
     let last : o.last ≡ (rows - 1) % o.height + 1 = ap (λ (x : Strips). x.last) s.is in
     (omega (arith, s.most, div-le_self (rows - 1) o.height), omega (arith, s.most, s.within), omega (arith, s.most, mod-le (rows - 1) o.height))
 
-outlined_small : (rows bytes l : ℕ) (z : Outlined) → z ≡ outline_of rows bytes l → Small (strips_after z)
-outlined_small rows bytes l (outlined.Of o) e = outline_small rows o (outline_strips rows bytes l o e)
-outlined_small rows bytes l (outlined.Refused f) e = planner_number_small f
+outlined_small : (rows bytes l : ℕ) (z : Result Strips planner.Refusal) → z ≡ outline_of rows bytes l → Small (strips_after z)
+outlined_small rows bytes l (Ok o) e = outline_small rows o (outline_strips rows bytes l o e)
+outlined_small rows bytes l (Err f) e = planner_number_small f
 
-strips_small : (p : ParsedStrips) → Small (strips_from p)
-strips_small (parsed_strips.Of a) = outlined_small a.rows a.row_bytes a.buf_len (outline_of a.rows a.row_bytes a.buf_len) refl
-strips_small parsed_strips.Bad = tt
+strips_small : (p : Option AskedStrips) → Small (strips_from p)
+strips_small (Some a) = outlined_small a.rows a.row_bytes a.buf_len (outline_of a.rows a.row_bytes a.buf_len) refl
+strips_small None = tt
 
 answer_small : (q : Question) (xs : List ℕ) → Small (answer_to q xs)
 answer_small question.Ring xs = ring_small (parse_of xs)
@@ -176,7 +173,7 @@ plan_small q xs = ⊎_elim (λ long. rw (← plan_long q xs long) tt) (λ short.
 pub plan_printed : (q : Question) (xs : List ℕ) → Printed (plan_text (plan_of q xs)) (plan_of q xs)
 plan_printed q xs = printed (plan_of q xs) (plan_small q xs)
 
-module _ (q : Question) (Plans : List ℕ → Plan → Type 0) (plans-is : (line : List ℕ) (p : Plan) → Plans line p → p ≡ plan_of q line) where
+module _ (q : Question) (Plans : List ℕ → Result Plan PlanError → Type 0) (plans-is : (line : List ℕ) (p : Result Plan PlanError) → Plans line p → p ≡ plan_of q line) where
   pub answered : (lines : List (List ℕ)) → Answered Plans lines (texts_of (line_text q) lines)
   unfolding texts_of
   answered [] = none

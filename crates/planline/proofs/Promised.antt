@@ -18,12 +18,10 @@ use Rattle.lines.proofs.Runs.{run_text}
 use Rattle.lines.proofs.TextLaws.{appended}
 use Rattle.modular.proofs.Saying.{Allows, Keeps}
 use Rattle.operations.specs.declared.refusal.Refusal.{Refusal}
-use Rattle.operations.specs.Refusal.{number_of}
 use Rattle.sched.specs.declared.schedule.Scheduled.{Scheduled}
-use Rattle.sched.specs.declared.schedule.ScheduledAnswer.{ScheduledAnswer}
-use Rattle.sched.specs.declared.schedule.ScheduledAnswer.TheVariants as schedules
-use Rattle.sched.specs.declared.scheduler.Checked.{Checked}
-use Rattle.sched.specs.declared.scheduler.Checked.TheVariants as checked
+use Rattle.std.specs.Prelude.{Some}
+use Rattle.std.proofs.Common.{Result, Ok, Err}
+use Rattle.planner.specs.declared.refusal.Refusal.TheVariants.{Scheduler}
 use Rattle.sched.specs.declared.scheduler.RingBufferScheduler.{RingBufferScheduler}
 use Rattle.sched.proofs.Says.{try_from_counters_says, schedule_contiguous_operations_says}
 use Rattle.sched.proofs.scheduler.RingBufferScheduler.try_from_counters.Kinds as from_counters_kinds
@@ -32,9 +30,10 @@ use Rattle.sched.proofs.scheduler.RingBufferScheduler.schedule_contiguous_operat
 use Rattle.sched.proofs.scheduler.RingBufferScheduler.schedule_contiguous_operations.Reads as schedule
 use Rattle.planline.specs.declared.cut.Cut.{Cut}
 use Rattle.planline.specs.declared.ring.Asked.{Asked}
-use Rattle.planline.specs.declared.ring.Parsed.TheVariants as parsed
 use Rattle.planline.specs.declared.plan.Plan.{Plan}
 use Rattle.planline.specs.declared.plan.Plan.TheVariants as plan
+use Rattle.planline.specs.declared.plan.PlanError.{PlanError}
+use Rattle.planline.specs.declared.plan.PlanError.TheVariants.{Bad, Refused}
 use Rattle.planline.specs.declared.plan.Question.{Question}
 use Rattle.planline.specs.declared.plan.Question.TheVariants as question
 use Rattle.planline.specs.Cut.{most_held, line_text, step_of, last_of, texts_of}
@@ -61,49 +60,49 @@ use Rattle.planline.proofs.cut.answer_last.Reads as answer_last
 -- ---- a line is read exactly when it is one, as what it asks
 pub parse_promised :
     Keeps 1 parse_kinds.ps parse_kinds.r parse.Learnt
-    (λ κs a z. (x : Asked) → (RingLine a.0.now x → z ≡ parsed.Of x) × (z ≡ parsed.Of x → RingLine a.0.now x))
+    (λ κs a z. (x : Asked) → (RingLine a.0.now x → z ≡ Some x) × (z ≡ Some x → RingLine a.0.now x))
 parse_promised κs a z q x = (λ l. said ∙ line_parsed a.0.now x l, λ e. parsed_line a.0.now x (sym said ∙ e))
   where
     said : z ≡ parse_of a.0.now
     said = parse_says κs a z q.0 q.1
 
--- its answer is what the scheduler that is built of its numbers answers to it, a refusal by the scheduler's number of it, and `bad`
+-- its answer is what the scheduler that is built of its numbers answers to it, a refusal as the scheduler's, and `bad`
 -- where it is no line
-abbrev pub FromCounters : Asked → Checked → Type 0
+abbrev pub FromCounters : Asked → Result RingBufferScheduler Refusal → Type 0
 FromCounters x c =
     Allows 0 from_counters_kinds.ps from_counters_kinds.r from_counters.Learnt tt
     (x.buf_len, (record { 0 = x.written }, (record { 0 = x.read }, tt))) c
 
-abbrev pub Schedule : RingBufferScheduler → Asked → ScheduledAnswer → Type 0
+abbrev pub Schedule : RingBufferScheduler → Asked → Result Scheduled Refusal → Type 0
 Schedule s x y = Allows 0 schedule_kinds.ps schedule_kinds.r schedule.Learnt tt (s, (x.typ, (x.max_len, tt))) y
 
-pub record Planned (x : Asked) (z : Plan) : Type 0 where
-  pub unbuilt : (e : Refusal) → FromCounters x (checked.Refused e) → z ≡ plan.Refused (number_of e)
-  pub scheduled : (s : RingBufferScheduler) → FromCounters x (checked.Sound s) → (r : Scheduled) → Schedule s x (schedules.Of r) → z ≡ plan.Operations r.operations
-  pub refused : (s : RingBufferScheduler) → FromCounters x (checked.Sound s) → (e : Refusal) → Schedule s x (schedules.Refused e) → z ≡ plan.Refused (number_of e)
+pub record Planned (x : Asked) (z : Result Plan PlanError) : Type 0 where
+  pub unbuilt : (e : Refusal) → FromCounters x (Err e) → z ≡ Err (Refused (Scheduler e))
+  pub scheduled : (s : RingBufferScheduler) → FromCounters x (Ok s) → (r : Scheduled) → Schedule s x (Ok r) → z ≡ Ok (plan.Operations r.operations)
+  pub refused : (s : RingBufferScheduler) → FromCounters x (Ok s) → (e : Refusal) → Schedule s x (Err e) → z ≡ Err (Refused (Scheduler e))
 
 pub plan_line_promised :
     Keeps 1 plan_line_kinds.ps plan_line_kinds.r plan_line.Learnt
-    (λ κs a z. a.0 ≡ question.Ring → ((x : Asked) → RingLine a.1.0.now x → Planned x z) × (((x : Asked) → RingLine a.1.0.now x → ⊥) → z ≡ plan.Bad))
-plan_line_promised κs a z q ring = (λ x l. record { unbuilt = unbuilt x l; scheduled = λ s f r g. planned x l s f (schedules.Of r) g; refused = λ s f e g. planned x l s f (schedules.Refused e) g }, λ n. said ∙ else_bad a.1.0.now n)
+    (λ κs a z. a.0 ≡ question.Ring → ((x : Asked) → RingLine a.1.0.now x → Planned x z) × (((x : Asked) → RingLine a.1.0.now x → ⊥) → z ≡ Err Bad))
+plan_line_promised κs a z q ring = (λ x l. record { unbuilt = unbuilt x l; scheduled = λ s f r g. planned x l s f (Ok r) g; refused = λ s f e g. planned x l s f (Err e) g }, λ n. said ∙ else_bad a.1.0.now n)
   where
     said : z ≡ plan_of question.Ring a.1.0.now
     said = plan_line_says κs a z q.0 q.1 ∙ ap (λ (y : Question). plan_of y a.1.0.now) ring
 
-    planned : (x : Asked) → RingLine a.1.0.now x → (s : RingBufferScheduler) → FromCounters x (checked.Sound s) → (y : ScheduledAnswer) → Schedule s x y → z ≡ plan_after y
+    planned : (x : Asked) → RingLine a.1.0.now x → (s : RingBufferScheduler) → FromCounters x (Ok s) → (y : Result Scheduled Refusal) → Schedule s x y → z ≡ plan_after y
     planned x l s f y r =
         said ∙ line_planned a.1.0.now x l
-        ∙ ap plan_after (sym (schedule_contiguous_operations_says tt _ y r.0 r.1 ∙ scheduled_is _ x.typ x.max_len s (sym (try_from_counters_says tt _ _ f.0 f.1))))
+        ∙ ap plan_after (sym (schedule_contiguous_operations_says tt _ y r.0 r.1 ∙ scheduled_is _ x.typ x.max_len (try_from_counters_says tt _ _ f.0 f.1)))
 
-    unbuilt : (x : Asked) → RingLine a.1.0.now x → (e : Refusal) → FromCounters x (checked.Refused e) → z ≡ plan.Refused (number_of e)
-    unbuilt x l e f = said ∙ line_planned a.1.0.now x l ∙ ap plan_after (sym (scheduled_refused _ x.typ x.max_len e (sym (try_from_counters_says tt _ _ f.0 f.1))))
+    unbuilt : (x : Asked) → RingLine a.1.0.now x → (e : Refusal) → FromCounters x (Err e) → z ≡ Err (Refused (Scheduler e))
+    unbuilt x l e f = said ∙ line_planned a.1.0.now x l ∙ ap plan_after (sym (scheduled_refused _ x.typ x.max_len (try_from_counters_says tt _ _ f.0 f.1)))
 
 -- ---- the text of a line's answer, of which every number is worth what it says
 pub append_promised :
     (κs : Lfts 2) (a : Dens κs append_kinds.ps) (z : (res_t append_kinds.r κs).Denot) (ws : Lasts (ended_of 2 append_kinds.ps append_kinds.r) κs a) →
     append.Learnt κs a z (at_exit (ended_of 2 append_kinds.ps append_kinds.r) κs a ws) →
     (ηs : Lfts 1) (b : Dens ηs plan_line_kinds.ps) → (b.0 ≡ a.0) × (b.1.0.now ≡ a.1.0.now) →
-    (p : Plan) → Allows 1 plan_line_kinds.ps plan_line_kinds.r plan_line.Learnt ηs b p →
+    (p : Result Plan PlanError) → Allows 1 plan_line_kinds.ps plan_line_kinds.r plan_line.Learnt ηs b p →
     Appended a.1.1.0.now a.1.1.1.0 p z ws.1.1.0
 append_promised κs a z ws q ηs b e p r =
     let said : p ≡ plan_of a.0 a.1.0.now = plan_line_says ηs b p r.0 r.1 ∙ rw (e.0, e.1) in
@@ -187,14 +186,14 @@ module _ (q : Question) where
     pub leaves : o ≡ filled z ws.1.1.1.0
 
   -- `plan_line` may answer p to a line
-  pub record PlanCall (line : List ℕ) (p : Plan) : Type 0 where
+  pub record PlanCall (line : List ℕ) (p : Result Plan PlanError) : Type 0 where
     pub κs : Lfts 1
     pub a : Dens κs plan_line_kinds.ps
     pub asks : a.0 ≡ q
     pub allowed : Allows 1 plan_line_kinds.ps plan_line_kinds.r plan_line.Learnt κs a p
     pub lent : a.1.0.now ≡ line
 
-  plan_is : (line : List ℕ) (p : Plan) → PlanCall line p → p ≡ plan_of q line
+  plan_is : (line : List ℕ) (p : Result Plan PlanError) → PlanCall line p → p ≡ plan_of q line
   plan_is line p c = plan_line_says c.κs c.a p c.allowed.0 c.allowed.1 ∙ rw (c.asks, c.lent)
 
   next_is : (piece : List ℕ) (s : Place) (i : ℕ) (x : Step) → NextCall piece s i x → x ≡ step_of q s.held i piece s.out

@@ -2,6 +2,7 @@
 use Prim.Native.Nat.{ℕ, ◌≤◌}
 use mathlib.Core.Path.{◌≡◌, sym, ap, ◌∙◌}
 use mathlib.Core.List.{List, [], ◌∷◌, ◌++◌}
+use Rattle.std.proofs.Common.{Result, Ok, Err}
 use mathlib.Core.Logic.{⊎_elim}
 use lib.ListN.{length, take, length-append, length-take}
 use lib.Seq.{take_all}
@@ -9,12 +10,15 @@ use native.Mathlib.Omega.{arith}
 use Rattle.lines.specs.Decimal.{decimal}
 use Rattle.lines.proofs.DecimalLaws.{decimal_short}
 use Rattle.modular.proofs.Laws.{lt_or_le}
-use Rattle.operations.specs.declared.list.ScheduledOperations.{ScheduledOperations}
-use Rattle.operations.specs.declared.list.ScheduledOperations.TheVariants as list
+use Rattle.operations.specs.Lists.{ScheduledOperations}
+use Rattle.operations.specs.declared.list.AtMostTwo.TheVariants as list
 use Rattle.operations.specs.declared.operation.ScheduledOperation.{ScheduledOperation}
 use Rattle.planner.specs.declared.strips.Strips.{Strips}
+use Rattle.planner.specs.Refusal.{number_of}
 use Rattle.planline.specs.declared.plan.Plan.{Plan}
 use Rattle.planline.specs.declared.plan.Plan.TheVariants as plan
+use Rattle.planline.specs.declared.plan.PlanError.{PlanError}
+use Rattle.planline.specs.declared.plan.PlanError.TheVariants.{Bad, Refused}
 use Rattle.planline.specs.Cut.{most_held, line_text}
 use Rattle.planline.specs.declared.plan.Question.{Question}
 use Rattle.planline.specs.Plan.{plan_of}
@@ -45,12 +49,12 @@ strips_short o =
       decimal_short o.last,
     )
 
-pub plan_text_short : (p : Plan) → length (plan_text p) ≤ 89
+pub plan_text_short : (p : Result Plan PlanError) → length (plan_text p) ≤ 89
 unfolding plan_text
-plan_text_short plan.Bad = omega arith
-plan_text_short (plan.Refused n) = omega (arith, length-append (decimal n) (10 ∷ []), decimal_short n)
-plan_text_short (plan.Operations ops) = omega (arith, length-append (list_text ops) (10 ∷ []), list_short ops)
-plan_text_short (plan.Strips o) = omega (arith, length-append (strips_text o) (10 ∷ []), strips_short o)
+plan_text_short (Err Bad) = omega arith
+plan_text_short (Err (Refused e)) = omega (arith, length-append (decimal (number_of e)) (10 ∷ []), decimal_short (number_of e))
+plan_text_short (Ok (plan.Operations ops)) = omega (arith, length-append (list_text ops) (10 ∷ []), list_short ops)
+plan_text_short (Ok (plan.Strips o)) = omega (arith, length-append (strips_text o) (10 ∷ []), strips_short o)
 
 -- ---- 121 bytes of a line tell its answer
 pub text_kept : (q : Question) (line : List ℕ) → line_text q (take most_held line) ≡ line_text q line

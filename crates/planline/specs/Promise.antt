@@ -1,14 +1,18 @@
 -- Lines and answers in other words, where a number is told by what its digits are worth.
-use Rattle.std.specs.Prelude.{ℕ, ◌^◌, ◌<◌, ◌≡◌, List, [], ◌∷◌, ◌++◌}
+use Rattle.std.specs.Prelude.{ℕ, ◌^◌, ◌<◌, ◌≡◌, List, [], ◌∷◌, ◌++◌, Result, Ok, Err}
 use Rattle.lines.specs.Numeral.{Numeral}
 use Rattle.lines.specs.Promise.{Behind}
-use Rattle.operations.specs.declared.list.ScheduledOperations.TheVariants as list
+use Rattle.operations.specs.declared.list.AtMostTwo.TheVariants as list
 use Rattle.operations.specs.declared.operation.ScheduledOperation.{ScheduledOperation}
+use Rattle.planner.specs.declared.refusal.Refusal.{Refusal}
 use Rattle.planner.specs.declared.strips.Strips.{Strips}
+use Rattle.planner.specs.Refusal.{number_of}
 use Rattle.planline.specs.declared.ring.Asked.{Asked}
 use Rattle.planline.specs.declared.strips.AskedStrips.{AskedStrips}
 use Rattle.planline.specs.declared.plan.Plan.{Plan}
 use Rattle.planline.specs.declared.plan.Plan.TheVariants as plan
+use Rattle.planline.specs.declared.plan.PlanError.{PlanError}
+use Rattle.planline.specs.declared.plan.PlanError.TheVariants.{Bad, Refused}
 use Rattle.planline.specs.Grammar.{Fits}
 use Rattle.planline.specs.Ring.{letter_of}
 
@@ -41,20 +45,20 @@ pub record StripsLine (xs : List ℕ) (a : AskedStrips) : Type 0 where
 pub data Pair : List ℕ → ScheduledOperation → Type 0 where
   pair : {off len : List ℕ} {a : ScheduledOperation} → Numeral off a.off.0 → Numeral len a.len → Pair (32 ∷ (off ++ (32 ∷ len))) a
 
-pub data Printed : List ℕ → Plan → Type 0 where
-  bad : Printed (98 ∷ 97 ∷ 100 ∷ 10 ∷ []) plan.Bad
-  refused : {number : List ℕ} {n : ℕ} → Numeral number n → Printed (114 ∷ 101 ∷ 102 ∷ 117 ∷ 115 ∷ 101 ∷ 100 ∷ 32 ∷ (number ++ (10 ∷ []))) (plan.Refused n)
-  ok_none : Printed (111 ∷ 107 ∷ 32 ∷ 48 ∷ 10 ∷ []) (plan.Operations list.None)
-  ok_one : {xs : List ℕ} {a : ScheduledOperation} → Pair xs a → Printed (111 ∷ 107 ∷ 32 ∷ 49 ∷ (xs ++ (10 ∷ []))) (plan.Operations (list.One a))
-  ok_two : {xs ys : List ℕ} {a b : ScheduledOperation} → Pair xs a → Pair ys b → Printed (111 ∷ 107 ∷ 32 ∷ 50 ∷ ((xs ++ ys) ++ (10 ∷ []))) (plan.Operations (list.Two a b))
-  ok_strips : {count height last : List ℕ} {o : Strips} → Numeral count o.count → Numeral height o.height → Numeral last o.last → Printed (111 ∷ 107 ∷ 32 ∷ ((count ++ (32 ∷ (height ++ (32 ∷ last)))) ++ (10 ∷ []))) (plan.Strips o)
+pub data Printed : List ℕ → Result Plan PlanError → Type 0 where
+  bad : Printed (98 ∷ 97 ∷ 100 ∷ 10 ∷ []) (Err Bad)
+  refused : {number : List ℕ} {e : Refusal} → Numeral number (number_of e) → Printed (114 ∷ 101 ∷ 102 ∷ 117 ∷ 115 ∷ 101 ∷ 100 ∷ 32 ∷ (number ++ (10 ∷ []))) (Err (Refused e))
+  ok_none : Printed (111 ∷ 107 ∷ 32 ∷ 48 ∷ 10 ∷ []) (Ok (plan.Operations list.None))
+  ok_one : {xs : List ℕ} {a : ScheduledOperation} → Pair xs a → Printed (111 ∷ 107 ∷ 32 ∷ 49 ∷ (xs ++ (10 ∷ []))) (Ok (plan.Operations (list.One a)))
+  ok_two : {xs ys : List ℕ} {a b : ScheduledOperation} → Pair xs a → Pair ys b → Printed (111 ∷ 107 ∷ 32 ∷ 50 ∷ ((xs ++ ys) ++ (10 ∷ []))) (Ok (plan.Operations (list.Two a b)))
+  ok_strips : {count height last : List ℕ} {o : Strips} → Numeral count o.count → Numeral height o.height → Numeral last o.last → Printed (111 ∷ 107 ∷ 32 ∷ ((count ++ (32 ∷ (height ++ (32 ∷ last)))) ++ (10 ∷ []))) (Ok (plan.Strips o))
 
 -- the answer stands behind the first `at` bytes of a buffer, where there is room for the longest answer
-abbrev pub Appended : List ℕ → ℕ → Plan → ℕ → List ℕ → Type 0
+abbrev pub Appended : List ℕ → ℕ → Result Plan PlanError → ℕ → List ℕ → Type 0
 Appended before at p next after = (text : List ℕ) × Printed text p × Behind before at text 89 next after
 
 -- ---- the answers to lines, one behind the other: each the text of every plan that may be answered to the line
-module _ (Plans : List ℕ → Plan → Type 0) where
+module _ (Plans : List ℕ → Result Plan PlanError → Type 0) where
   pub data Answered : List (List ℕ) → List ℕ → Type 0 where
     none : Answered [] []
-    more : {line : List ℕ} {lines : List (List ℕ)} {text rest : List ℕ} → ((p : Plan) → Plans line p → Printed text p) → Answered lines rest → Answered (line ∷ lines) (text ++ rest)
+    more : {line : List ℕ} {lines : List (List ℕ)} {text rest : List ℕ} → ((p : Result Plan PlanError) → Plans line p → Printed text p) → Answered lines rest → Answered (line ∷ lines) (text ++ rest)

@@ -1,12 +1,15 @@
 -- A plan as text, with its line feed.
-use Rattle.std.specs.Prelude.{ℕ, List, [], ◌∷◌, ◌++◌}
+use Rattle.std.specs.Prelude.{ℕ, List, [], ◌∷◌, ◌++◌, Result, Ok, Err}
 use Rattle.lines.specs.Decimal.{decimal}
-use Rattle.operations.specs.declared.list.ScheduledOperations.{ScheduledOperations}
-use Rattle.operations.specs.declared.list.ScheduledOperations.TheVariants as list
+use Rattle.operations.specs.Lists.{ScheduledOperations}
+use Rattle.operations.specs.declared.list.AtMostTwo.TheVariants as list
 use Rattle.operations.specs.declared.operation.ScheduledOperation.{ScheduledOperation}
 use Rattle.planner.specs.declared.strips.Strips.{Strips}
+use Rattle.planner.specs.Refusal.{number_of}
 use Rattle.planline.specs.declared.plan.Plan.{Plan}
 use Rattle.planline.specs.declared.plan.Plan.TheVariants as plan
+use Rattle.planline.specs.declared.plan.PlanError.{PlanError}
+use Rattle.planline.specs.declared.plan.PlanError.TheVariants.{Bad, Refused}
 
 -- " offset length"
 unfoldable pub operation_text : ScheduledOperation → List ℕ
@@ -23,11 +26,11 @@ unfoldable pub strips_text : Strips → List ℕ
 strips_text o = decimal o.count ++ (32 ∷ (decimal o.height ++ (32 ∷ decimal o.last)))
 
 -- "bad", "refused number", "ok list", "ok count height last"
-unfoldable pub plan_text : Plan → List ℕ
-plan_text plan.Bad = 98 ∷ 97 ∷ 100 ∷ 10 ∷ []
-plan_text (plan.Refused n) = 114 ∷ 101 ∷ 102 ∷ 117 ∷ 115 ∷ 101 ∷ 100 ∷ 32 ∷ (decimal n ++ (10 ∷ []))
-plan_text (plan.Operations ops) = 111 ∷ 107 ∷ 32 ∷ (list_text ops ++ (10 ∷ []))
-plan_text (plan.Strips o) = 111 ∷ 107 ∷ 32 ∷ (strips_text o ++ (10 ∷ []))
+unfoldable pub plan_text : Result Plan PlanError → List ℕ
+plan_text (Err Bad) = 98 ∷ 97 ∷ 100 ∷ 10 ∷ []
+plan_text (Err (Refused e)) = 114 ∷ 101 ∷ 102 ∷ 117 ∷ 115 ∷ 101 ∷ 100 ∷ 32 ∷ (decimal (number_of e) ++ (10 ∷ []))
+plan_text (Ok (plan.Operations ops)) = 111 ∷ 107 ∷ 32 ∷ (list_text ops ++ (10 ∷ []))
+plan_text (Ok (plan.Strips o)) = 111 ∷ 107 ∷ 32 ∷ (strips_text o ++ (10 ∷ []))
 
 -- no text is longer
 abbrev pub longest : ℕ

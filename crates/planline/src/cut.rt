@@ -12,7 +12,8 @@ use lines::{has_room, take_line};
 // Of a line as many bytes are held: enough to tell that it is too long.
 const MOST_HELD: usize = 121;
 
-// Where a step got to: how many bytes are held, the next index of the piece, and the index behind the text.
+// Where a step got to: how many bytes are held, the next index of the piece, and the index behind the text. Lengths beside lent buffers,
+// here and in the calls, since a caller keeps the three between calls, and the buffers in fixed memory.
 #[derive(Clone, Copy)]
 pub struct Cut {
     pub held: usize,
@@ -41,43 +42,33 @@ pub fn answer_next(
         };
     }
     let took = take_line(line, held, MOST_HELD, piece, from);
-    let n = took.held;
     if took.whole {
         return Cut {
             held: 0,
             next: took.next,
-            at: append(question, &line[..n], out, at),
+            at: append(question, &line[..took.held], out, at),
         };
     }
     Cut {
-        held: n,
+        held: took.held,
         next: took.next,
         at,
     }
 }
 
-// The input's end: a last line without its line feed is answered too.
+// The input's end: a last line without its line feed is answered too. Answers the index behind the text, which is `at` where there is none.
 pub fn answer_last(question: Question, line: &[u8], held: usize, out: &mut [u8], at: usize) -> usize
     ensures { filled result out.new ≡ last_of question (filled held line.now) (filled at out.old) }
 {
-    if !is_ready(line, out, at) {
+    if !is_ready(line, out, at) || held == 0 {
         return at;
     }
-    if held == 0 {
-        return at;
-    }
-    if held < MOST_HELD {
-        return append(question, &line[..held], out, at);
-    }
-    append(question, &line[..MOST_HELD], out, at)
+    append(question, &line[..held.min(MOST_HELD)], out, at)
 }
 
 // Whether the longest line that is held has room, and the longest answer.
 fn is_ready(line: &[u8], out: &[u8], at: usize) -> bool
     ensures { result ≡ is_ready most_held longest line.now (filled at out.now) }
 {
-    if line.len() < MOST_HELD {
-        return false;
-    }
-    has_room(out, at, LONGEST)
+    MOST_HELD <= line.len() && has_room(out, at, LONGEST)
 }

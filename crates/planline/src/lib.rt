@@ -8,7 +8,7 @@ mod strips;
 mod text;
 
 pub use cut::{Cut, answer_last, answer_next};
-pub use plan::{Plan, Question, plan_line};
-pub use ring::{Asked, Parsed, parse};
-pub use strips::{AskedStrips, ParsedStrips, parse_strips};
+pub use plan::{Plan, PlanError, Question, plan_line};
+pub use ring::{Asked, parse};
+pub use strips::{AskedStrips, parse_strips};
 pub use text::append;

@@ -1,4 +1,6 @@
 -- 16 to 19 are given exactly when specs/Given.antt says so, of the first run that is wrong: over the definitions.
+use Rattle.std.specs.Bool.{⊤}
+use Rattle.std.proofs.Common.{Result, Ok, Err}
 use Prim.Native.Nat.{ℕ, zero, suc, ◌+◌, ◌-◌, ◌<◌, ◌≤◌}
 use mathlib.Core.Path.{◌≡◌, refl, ap, ◌∙◌}
 use mathlib.Core.List.{List, [], ◌∷◌}
@@ -6,11 +8,8 @@ use mathlib.Core.Logic.{⊎_elim}
 use native.Mathlib.Nat.{zero-add}
 use native.Mathlib.Omega.{arith}
 use Rattle.modular.proofs.Laws.{lt_or_le}
-use Rattle.planner.specs.declared.sizes.Sizes.{Sizes}
-use Rattle.planner.specs.declared.sizes.Sizes.TheVariants as sizes
-use Rattle.planner.specs.declared.verdict.Verdict.{Verdict}
 use Rattle.planner.specs.Check.{check_in, checked_from, check_of}
-use Rattle.planner.specs.Given.{told, Exactly, Good, Fault, fault_16, fault_17, fault_18, GivenCheck, by_sizes, bad_run, given_19, accepted, of_verdict}
+use Rattle.planner.specs.Given.{told, Exactly, Good, Fault, fault_16, fault_17, fault_18, GivenCheck, by_sizes, bad_run, given_19, accepted, of_planner}
 use Rattle.planner.specs.Promise.{Fitting, runs_in, behind, IsPlan}
 use Rattle.planner.specs.Refusal.{number_of}
 use Rattle.planner.specs.Sizes.{sizes_of}
@@ -19,6 +18,7 @@ use Rattle.planner.proofs.GivenSizes.{of_sizes, sizes_only, sizes_always, fit_on
 use Rattle.planner.proofs.PromisedValues.{number_some}
 use Rattle.planner.proofs.SizeLaws.{Tested, tested}
 use Rattle.planner.proofs.SizeLaws as size
+use Rattle.planner.specs.declared.refusal.Refusal.{Refusal}
 
 module _ (rows bytes L : ℕ) (plan : List ℕ) where
   -- ---- a run is good, or one of the three is wrong with it
@@ -104,27 +104,27 @@ module _ (rows bytes L : ℕ) (plan : List ℕ) where
     from : {k : ℕ} → AllGood rows bytes L plan 0 k → Before k
     from a j l = a j (omega arith) l
 
-    walked_given : (z : Verdict) → Walked rows bytes L plan 0 (runs_in plan) z → Exactly Given (of_verdict z)
+    walked_given : (z : Result ⊤ Refusal) → Walked rows bytes L plan 0 (runs_in plan) z → Exactly Given (of_planner z)
     walked_given z w = by z (0 + runs_in plan) (zero-add (runs_in plan)) w
       where
-        by : (z : Verdict) (n : ℕ) → 0 + runs_in plan ≡ runs_in plan → Walked rows bytes L plan 0 (runs_in plan) z → Exactly Given (of_verdict z)
+        by : (z : Result ⊤ Refusal) (n : ℕ) → 0 + runs_in plan ≡ runs_in plan → Walked rows bytes L plan 0 (runs_in plan) z → Exactly Given (of_planner z)
         by z n e (ends a p) = all_good (from (rw e at a)) (rw e at p)
         by z n e (stops a p) = rw e (rows_left (from (rw e at a)) (rw e at p))
         by z n e (faults i l h a r v w) = rw w (one_bad i (number_of r) (omega (arith, h, e)) (from a) v)
 
-  pub check_given : Exactly (GivenCheck rows bytes L plan) (of_verdict (check_of rows bytes L plan))
+  pub check_given : Exactly (GivenCheck rows bytes L plan) (of_planner (check_of rows bytes L plan))
   check_given = by (sizes_of rows bytes L) (tested rows bytes L)
     where
-      by : (z : Sizes) → Tested rows bytes L z → Exactly (GivenCheck rows bytes L plan) (of_verdict (checked_from rows bytes L plan z))
-      by sizes.Fit (size.fit f) = walked_given f (check_in rows bytes L plan) (walked rows bytes L plan (runs_in plan) 0 0 refl (omega arith))
-      by (sizes.Refused e) t =
+      by : (z : Result ⊤ Refusal) → Tested rows bytes L z → Exactly (GivenCheck rows bytes L plan) (of_planner (checked_from rows bytes L plan z))
+      by (Ok tt) (size.fit f) = walked_given f (check_in rows bytes L plan) (walked rows bytes L plan (runs_in plan) 0 0 refl (omega arith))
+      by (Err e) t =
           record {
-            only = by_sizes (number_some e) (sizes_only rows bytes L (sizes.Refused e) t);
+            only = by_sizes (number_some e) (sizes_only rows bytes L (Err e) t);
             always = λ n vs g. so g;
           }
         where
-          so : {n : ℕ} {vs : List ℕ} → GivenCheck rows bytes L plan n vs → of_sizes (sizes.Refused e) ≡ told n vs
-          so (by_sizes p g) = sizes_always rows bytes L (sizes.Refused e) t g
+          so : {n : ℕ} {vs : List ℕ} → GivenCheck rows bytes L plan n vs → of_sizes (Err e) ≡ told n vs
+          so (by_sizes p g) = sizes_always rows bytes L (Err e) t g
           so (bad_run f l a w) = absurd (refused_not rows bytes L e t f)
           so (given_19 f a l) = absurd (refused_not rows bytes L e t f)
           so (accepted f p) = absurd (refused_not rows bytes L e t f)

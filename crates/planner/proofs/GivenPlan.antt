@@ -1,4 +1,6 @@
 -- 39 is given exactly where the lent plan has no room for the fewest runs there are: over the definitions.
+use Rattle.std.specs.Bool.{⊤}
+use Rattle.std.proofs.Common.{Result, Ok, Err}
 use Prim.Native.Nat.{ℕ, ◌<◌, ◌≤◌}
 use mathlib.Core.Path.{◌≡◌, refl, sym, ap, subst}
 use mathlib.Core.Bool.{Bool, true, false, cond}
@@ -7,11 +9,8 @@ use lib.Dec.{ltb}
 use lib.Seq.{sets}
 use borrow.Author.Tests.{ltb-true, ltb-false}
 use native.Mathlib.Omega.{arith}
-use Rattle.planner.specs.declared.plan.Proposed.TheVariants as proposed
 use Rattle.planner.specs.declared.refusal.Refusal.TheVariants.{PlanTooShort}
-use Rattle.planner.specs.declared.sizes.Sizes.{Sizes}
-use Rattle.planner.specs.declared.sizes.Sizes.TheVariants as sizes
-use Rattle.planner.specs.Given.{told, Exactly, GivenSizes, GivenPlan, before_39, given_39, room, of_outlined, of_proposed}
+use Rattle.planner.specs.Given.{told, Exactly, GivenSizes, GivenPlan, before_39, given_39, room, of_planner}
 use Rattle.planner.specs.Plan.{Proposal, proposal, propose_in, propose_from, propose_of}
 use Rattle.planner.specs.Promise.{Fitting, runs_in, IsPlan, Fewest}
 use Rattle.planner.specs.Sizes.{sizes_of}
@@ -21,14 +20,15 @@ use Rattle.planner.proofs.PlanLaws.{height, strips, own, own_runs, own_plan, own
 use Rattle.planner.proofs.PromisedValues.{number_some}
 use Rattle.planner.proofs.SizeLaws.{Tested, tested}
 use Rattle.planner.proofs.SizeLaws as size
+use Rattle.planner.specs.declared.refusal.Refusal.{Refusal}
 
 module _ (rows bytes L : ℕ) where
   -- ---- an outline is refused just where the sizes are
-  same_outline : (z : Sizes) → of_sizes z ≡ of_outlined (outline_from rows bytes L z)
-  same_outline sizes.Fit = refl
-  same_outline (sizes.Refused e) = refl
+  same_outline : (z : Result ⊤ Refusal) → of_sizes z ≡ of_planner (outline_from rows bytes L z)
+  same_outline (Ok tt) = refl
+  same_outline (Err e) = refl
 
-  pub outline_given : Exactly (GivenSizes rows bytes L) (of_outlined (outline_of rows bytes L))
+  pub outline_given : Exactly (GivenSizes rows bytes L) (of_planner (outline_of rows bytes L))
   outline_given =
       rw (← same_outline (sizes_of rows bytes L))
       (record {
@@ -74,29 +74,29 @@ module _ (rows bytes L : ℕ) where
         so (given_39 other h p w k) = absurd (omega (arith, l, k, as_many other p w))
         so (room other h p w k) = refl
 
-    fit_given : Exactly (GivenPlan rows bytes L plan) (of_proposed (propose_in rows (outline_in rows (height rows bytes L f)) plan).answer)
+    fit_given : Exactly (GivenPlan rows bytes L plan) (of_planner (propose_in rows (outline_in rows (height rows bytes L f)) plan).answer)
     unfolding propose_in
     fit_given = by (sets plan 0 (own rows bytes L f)) (ltb (runs_in plan) (strips rows bytes L f)) refl
       where
         by :
             (after : List ℕ) (b : Bool) → ltb (runs_in plan) (strips rows bytes L f) ≡ b →
             Exactly (GivenPlan rows bytes L plan)
-            (of_proposed (cond {A = Proposal} b (proposal (proposed.Refused (PlanTooShort (strips rows bytes L f) (runs_in plan))) plan) (proposal (proposed.Runs (strips rows bytes L f)) after)).answer)
+            (of_planner (cond {A = Proposal} b (proposal (Err (PlanTooShort (strips rows bytes L f) (runs_in plan))) plan) (proposal (Ok (strips rows bytes L f)) after)).answer)
         by after true e = short (ltb-true (runs_in plan) (strips rows bytes L f) e)
         by after false e = long (ltb-false (runs_in plan) (strips rows bytes L f) e)
 
-  pub plan_given : (plan : List ℕ) → Exactly (GivenPlan rows bytes L plan) (of_proposed (propose_of rows bytes L plan).answer)
+  pub plan_given : (plan : List ℕ) → Exactly (GivenPlan rows bytes L plan) (of_planner (propose_of rows bytes L plan).answer)
   plan_given plan = by (sizes_of rows bytes L) (tested rows bytes L)
     where
-      by : (z : Sizes) → Tested rows bytes L z → Exactly (GivenPlan rows bytes L plan) (of_proposed (propose_from rows plan (outline_from rows bytes L z)).answer)
-      by sizes.Fit (size.fit f) = fit_given plan f
-      by (sizes.Refused e) t =
+      by : (z : Result ⊤ Refusal) → Tested rows bytes L z → Exactly (GivenPlan rows bytes L plan) (of_planner (propose_from rows plan (outline_from rows bytes L z)).answer)
+      by (Ok tt) (size.fit f) = fit_given plan f
+      by (Err e) t =
           record {
-            only = before_39 (number_some e) (sizes_only rows bytes L (sizes.Refused e) t);
+            only = before_39 (number_some e) (sizes_only rows bytes L (Err e) t);
             always = λ n vs g. so g;
           }
         where
-          so : {n : ℕ} {vs : List ℕ} → GivenPlan rows bytes L plan n vs → of_sizes (sizes.Refused e) ≡ told n vs
-          so (before_39 p g) = sizes_always rows bytes L (sizes.Refused e) t g
+          so : {n : ℕ} {vs : List ℕ} → GivenPlan rows bytes L plan n vs → of_sizes (Err e) ≡ told n vs
+          so (before_39 p g) = sizes_always rows bytes L (Err e) t g
           so (given_39 other f p w k) = absurd (refused_not rows bytes L e t f)
           so (room other f p w k) = absurd (refused_not rows bytes L e t f)

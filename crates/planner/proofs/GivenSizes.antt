@@ -1,4 +1,6 @@
 -- The numbers of the sizes, 1, 2, 14 and 15, are given exactly when specs/Given.antt says so: over the definitions.
+use Rattle.std.specs.Bool.{⊤}
+use Rattle.std.proofs.Common.{Result, Ok, Err}
 use Prim.Native.Nat.{ℕ, ◌*◌, ◌<◌}
 use mathlib.Core.Path.{◌≡◌, refl, sym, ap}
 use mathlib.Core.List.{List, [], ◌∷◌}
@@ -9,12 +11,9 @@ use Rattle.operations.specs.Refusal as sched_refusal
 use Rattle.operations.proofs.Given as operations
 use Rattle.sched.specs.Given as sched_given
 use Rattle.sched.specs.Scheduler.{Sized, IsSound, sound_of, data_in}
-use Rattle.sched.specs.declared.scheduler.Checked.TheVariants as checked
 use Rattle.sched.proofs.Given.{counters_exactly}
 use Rattle.sched.proofs.Laws.{sound_is}
 use Rattle.planner.specs.declared.refusal.Refusal.{Refusal}
-use Rattle.planner.specs.declared.sizes.Sizes.{Sizes}
-use Rattle.planner.specs.declared.sizes.Sizes.TheVariants as sizes
 use Rattle.planner.specs.Given.{Told, told, GivenSizes, fit, given_1, given_2, given_14, given_15}
 use Rattle.planner.specs.Promise.{Fitting}
 use Rattle.planner.specs.Refusal.{number_of, values_of}
@@ -23,9 +22,9 @@ use Rattle.planner.proofs.SizeLaws.{new, Tested}
 use Rattle.planner.proofs.SizeLaws as size
 
 -- ---- the sizes
-abbrev pub of_sizes : Sizes → Told
-of_sizes sizes.Fit = told 0 []
-of_sizes (sizes.Refused e) = told (number_of e) (values_of e)
+abbrev pub of_sizes : Result ⊤ Refusal → Told
+of_sizes (Ok tt) = told 0 []
+of_sizes (Err e) = told (number_of e) (values_of e)
 
 -- a new scheduler holds no data
 no_data : (L : ℕ) → Sized L → data_in (new L) ≡ 0
@@ -41,25 +40,25 @@ module _ (rows bytes L : ℕ) where
   ring_given p (sched_given.given_4 s w l) = absurd (omega (arith, s.some, l))
   ring_given p (sched_given.given_5 s w r l) = absurd (omega (arith, l, no_data L s))
 
-  pub sizes_only : (z : Sizes) → Tested rows bytes L z → GivenSizes rows bytes L (of_sizes z).number (of_sizes z).values
+  pub sizes_only : (z : Result ⊤ Refusal) → Tested rows bytes L z → GivenSizes rows bytes L (of_sizes z).number (of_sizes z).values
   sizes_only z (size.fit f) = fit f
   sizes_only z (size.no_ring e q) = ring_given (operations.number_some e) (rw q at (counters_exactly L (record { 0 = 0 }) (record { 0 = 0 })).only)
   sizes_only z (size.unbounded s k) = given_14 s k
   sizes_only z (size.no_plan s b l) = given_15 s b l
 
   -- a ring that is refused has no length that is one
-  sized_not : (e : sched.Refusal) → sound_of (new L) ≡ checked.Refused e → Sized L → ⊥
+  sized_not : (e : sched.Refusal) → sound_of (new L) ≡ Err e → Sized L → ⊥
   sized_not e q s =
       let sound : IsSound (new L) = record { sized = s; written = omega (arith, s.some); read = omega (arith, s.some); within = omega (arith, no_data L s); held = refl } in
       let z : ◌≡◌ {A = ℕ} 0 1 = cc (sound_is (new L) sound) in
       omega arith
 
-  ring_always : (e : sched.Refusal) → sound_of (new L) ≡ checked.Refused e → (n : ℕ) (vs : List ℕ) → sched_given.GivenCounters L (record { 0 = 0 }) (record { 0 = 0 }) n vs → told (sched_refusal.number_of e) (sched_refusal.values_of e) ≡ told n vs
+  ring_always : (e : sched.Refusal) → sound_of (new L) ≡ Err e → (n : ℕ) (vs : List ℕ) → sched_given.GivenCounters L (record { 0 = 0 }) (record { 0 = 0 }) n vs → told (sched_refusal.number_of e) (sched_refusal.values_of e) ≡ told n vs
   ring_always e q n vs g =
       let t = rw q at ((counters_exactly L (record { 0 = 0 }) (record { 0 = 0 })).always n vs g) in
       rw (t.0, t.1)
 
-  pub sizes_always : (z : Sizes) → Tested rows bytes L z → {n : ℕ} {vs : List ℕ} → GivenSizes rows bytes L n vs → of_sizes z ≡ told n vs
+  pub sizes_always : (z : Result ⊤ Refusal) → Tested rows bytes L z → {n : ℕ} {vs : List ℕ} → GivenSizes rows bytes L n vs → of_sizes z ≡ told n vs
   sizes_always z (size.fit f) (fit g) = refl
   sizes_always z (size.fit f) (given_1 e) = absurd (omega (arith, f.sized.some, e))
   sizes_always z (size.fit f) (given_2 l) = absurd (omega (arith, f.sized.fits, l))
@@ -83,7 +82,7 @@ module _ (rows bytes L : ℕ) where
 
   -- what fits is refused by none of these
   pub fit_only : Fitting rows bytes L → {n : ℕ} {vs : List ℕ} → GivenSizes rows bytes L n vs → n ≡ 0
-  fit_only f g = sym (ap (λ (t : Told). t.number) (sizes_always sizes.Fit (size.fit f) g))
+  fit_only f g = sym (ap (λ (t : Told). t.number) (sizes_always (Ok tt) (size.fit f) g))
 
-  pub refused_not : (e : Refusal) → Tested rows bytes L (sizes.Refused e) → Fitting rows bytes L → ⊥
-  refused_not e t f = omega (arith, number_some e, ap (λ (x : Told). x.number) (sizes_always (sizes.Refused e) t (fit f)))
+  pub refused_not : (e : Refusal) → Tested rows bytes L (Err e) → Fitting rows bytes L → ⊥
+  refused_not e t f = omega (arith, number_some e, ap (λ (x : Told). x.number) (sizes_always (Err e) t (fit f)))

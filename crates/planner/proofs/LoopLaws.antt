@@ -1,4 +1,6 @@
 -- One turn of each loop, and its end: n runs, of which k are behind it.
+use Rattle.std.specs.Bool.{⊤}
+use Rattle.std.proofs.Common.{Result, Ok, Err}
 use Prim.Native.Nat.{ℕ, zero, suc, ◌+◌, ◌-◌, ◌*◌, ◌≤◌, ◌<◌, min}
 use mathlib.Core.Path.{◌≡◌, refl, ap, ◌∙◌}
 use mathlib.Core.Bool.{Bool, true, false, cond}
@@ -10,8 +12,6 @@ use borrow.Author.Tests.{lt-ltb, le-ltb, ltb-true, ltb-false}
 use native.Mathlib.Numerals.{add-one}
 use native.Mathlib.Omega.{arith}
 use Rattle.sched.specs.Chunk.{body_fits}
-use Rattle.planner.specs.declared.verdict.Verdict.{Verdict}
-use Rattle.planner.specs.declared.verdict.Verdict.TheVariants as verdict
 use Rattle.planner.specs.declared.refusal.Refusal.{Refusal}
 use Rattle.planner.specs.declared.refusal.Refusal.TheVariants.{EmptyRun, RunOutOfPlace, RunTooLong, RowsLeft}
 use Rattle.planner.specs.Check.{past_end, run_of, check_from}
@@ -49,22 +49,22 @@ module _ (height rows : ℕ) where
 
 -- ---- the runs that are checked
 module _ (rows bytes L : ℕ) (plan : List ℕ) (at k n : ℕ) where
-  abbrev run : Verdict
+  abbrev run : Result ⊤ Refusal
   run = run_of rows bytes L at k (first_at plan k) (count_at plan k)
 
-  pub check_good : k < n → verdict.Accepted ≡ run → check_from rows bytes L plan (at + count_at plan k) (k + 1) (n - (k + 1)) ≡ check_from rows bytes L plan at k (n - k)
+  pub check_good : k < n → Ok tt ≡ run → check_from rows bytes L plan (at + count_at plan k) (k + 1) (n - (k + 1)) ≡ check_from rows bytes L plan at k (n - k)
   unfolding check_from
   check_good l e = rw (less k n l, ← e, add-one k)
 
-  pub check_bad : (e : Refusal) → k < n → verdict.Refused e ≡ run → verdict.Refused e ≡ check_from rows bytes L plan at k (n - k)
+  pub check_bad : (e : Refusal) → k < n → Err e ≡ run → Err e ≡ check_from rows bytes L plan at k (n - k)
   unfolding check_from
   check_bad r l e = rw (less k n l, ← e)
 
-  pub check_left : n ≤ k → at < rows → verdict.Refused (RowsLeft at) ≡ check_from rows bytes L plan at k (n - k)
+  pub check_left : n ≤ k → at < rows → Err (RowsLeft at) ≡ check_from rows bytes L plan at k (n - k)
   unfolding check_from
   check_left l h = let none : n - k ≡ zero = omega arith in rw (none, lt-ltb at rows h)
 
-  pub check_end : n ≤ k → rows ≤ at → verdict.Accepted ≡ check_from rows bytes L plan at k (n - k)
+  pub check_end : n ≤ k → rows ≤ at → Ok tt ≡ check_from rows bytes L plan at k (n - k)
   unfolding check_from
   check_end l h = let none : n - k ≡ zero = omega arith in rw (none, le-ltb at rows h)
 
@@ -79,13 +79,13 @@ module _ (rows row count : ℕ) (l : row ≤ rows) where
   not_past e = omega (arith, ltb-false)
 
 -- a run that is accepted ends within the rows
-pub run_within : (rows bytes L at k first count : ℕ) → at ≤ rows → verdict.Accepted ≡ run_of rows bytes L at k first count → at + count ≤ rows
+pub run_within : (rows bytes L at k first count : ℕ) → at ≤ rows → Ok tt ≡ run_of rows bytes L at k first count → at + count ≤ rows
 unfolding run_of
 run_within rows bytes L at k first count l e = by (eqb count 0) (eqb first at) (past_end rows at count) refl (body_fits L (count * bytes)) e
   where
     by :
         (a b c : Bool) → past_end rows at count ≡ c → (d : Bool) →
-        verdict.Accepted ≡ cond a (verdict.Refused (EmptyRun k)) (cond b (cond c (verdict.Refused (RunOutOfPlace k)) (cond d verdict.Accepted (verdict.Refused (RunTooLong k)))) (verdict.Refused (RunOutOfPlace k))) →
+        ◌≡◌ {A = Result ⊤ Refusal} (Ok tt) (cond a (Err (EmptyRun k)) (cond b (cond c (Err (RunOutOfPlace k)) (cond d (Ok tt) (Err (RunTooLong k)))) (Err (RunOutOfPlace k)))) →
         at + count ≤ rows
     by a b false p d q = not_past rows at count l p
     by true b true p d q = let z : ◌≡◌ {A = ℕ} 0 1 = cc in absurd (omega arith)

@@ -1,4 +1,6 @@
 -- What is promised of the calls, in the words of specs/Promise.antt: every outcome that an attached contract allows keeps it.
+use Rattle.std.specs.Bool.{⊤}
+use Rattle.std.proofs.Common.{Result, Ok, Err, ℕ}
 use Prim.Native.Nat.{ℕ, ◌*◌, ◌≤◌}
 use mathlib.Core.Path.{◌≡◌, refl, sym, ap, ◌∙◌}
 use mathlib.Core.Bool.{Bool, true, false, cond}
@@ -13,12 +15,7 @@ use borrow.Fn.Kinds.{Dens, ended_of}
 use native.Mathlib.Nat.{zero-add}
 use native.Mathlib.Omega.{arith}
 use Rattle.modular.proofs.Saying.{Keeps}
-use Rattle.planner.specs.declared.plan.Proposed.{Proposed}
-use Rattle.planner.specs.declared.plan.Proposed.TheVariants as proposed
 use Rattle.planner.specs.declared.refusal.Refusal.TheVariants.{PlanTooShort}
-use Rattle.planner.specs.declared.sizes.Sizes.{Sizes}
-use Rattle.planner.specs.declared.sizes.Sizes.TheVariants as sizes
-use Rattle.planner.specs.declared.strips.Outlined.TheVariants as outlined
 use Rattle.planner.specs.Plan.{Proposal, proposal, propose_in, propose_from}
 use Rattle.planner.specs.Promise.{Fitting, runs_in, Proposes, Outlines, tells}
 use Rattle.planner.specs.Promise as promise
@@ -31,11 +28,12 @@ use Rattle.planner.proofs.strips.outline.Kinds as outline_kinds
 use Rattle.planner.proofs.strips.outline.Reads as outline
 use Rattle.planner.proofs.plan.propose.Kinds as propose_kinds
 use Rattle.planner.proofs.plan.propose.Reads as propose
+use Rattle.planner.specs.declared.refusal.Refusal.{Refusal}
 
 -- ---- over the definitions
 module _ (rows bytes L : ℕ) where
   module _ (f : Fitting rows bytes L) where
-    outlines_fit : Outlines rows bytes L (outlined.Of (outline_in rows (height rows bytes L f)))
+    outlines_fit : Outlines rows bytes L (Ok (outline_in rows (height rows bytes L f)))
     outlines_fit =
         tells (own rows bytes L f) (outline_in rows (height rows bytes L f)) (own_plan rows bytes L f) (own_tall rows bytes L f)
         (λ other p. omega (arith, own_runs rows bytes L f, own_fewest rows bytes L f other p))
@@ -60,13 +58,13 @@ module _ (rows bytes L : ℕ) where
       rest : drop (2 * strips rows bytes L f) after ≡ drop (2 * strips rows bytes L f) plan
       rest = ap (drop (2 * strips rows bytes L f)) stands ∙ drop_at (own rows bytes L f) (drop (2 * strips rows bytes L f) plan) (2 * strips rows bytes L f) size_of
 
-      proposes_runs : Proposes rows bytes L plan (proposed.Runs (strips rows bytes L f)) after
+      proposes_runs : Proposes rows bytes L plan (Ok (strips rows bytes L f)) after
       proposes_runs =
           promise.runs (strips rows bytes L f) after (rw front (own_plan rows bytes L f)) (ap runs_in front ∙ own_runs rows bytes L f)
           (rw front (own_tall rows bytes L f)) (own_fewest rows bytes L f) (length-sets plan 0 (own rows bytes L f)) rest
 
     abbrev either : List ℕ → Bool → Proposal
-    either plan b = cond {A = Proposal} b (proposal (proposed.Refused (PlanTooShort (strips rows bytes L f) (runs_in plan))) plan) (proposal (proposed.Runs (strips rows bytes L f)) (sets plan 0 (own rows bytes L f)))
+    either plan b = cond {A = Proposal} b (proposal (Err (PlanTooShort (strips rows bytes L f) (runs_in plan))) plan) (proposal (Ok (strips rows bytes L f)) (sets plan 0 (own rows bytes L f)))
 
     proposes_fit : (plan : List ℕ) → Proposes rows bytes L plan (propose_in rows (outline_in rows (height rows bytes L f)) plan).answer (propose_in rows (outline_in rows (height rows bytes L f)) plan).plan
     unfolding propose_in
@@ -76,20 +74,20 @@ module _ (rows bytes L : ℕ) where
         by true e = promise.refuses (PlanTooShort (strips rows bytes L f) (runs_in plan))
         by false e = proposes_runs plan (ltb-false (runs_in plan) (strips rows bytes L f) e)
 
-  outlines : (z : Sizes) → Tested rows bytes L z → Outlines rows bytes L (outline_from rows bytes L z)
-  outlines sizes.Fit (size.fit f) = outlines_fit f
-  outlines (sizes.Refused e) t = promise.refuses e
+  outlines : (z : Result ⊤ Refusal) → Tested rows bytes L z → Outlines rows bytes L (outline_from rows bytes L z)
+  outlines (Ok tt) (size.fit f) = outlines_fit f
+  outlines (Err e) t = promise.refuses e
 
-  proposes : (plan : List ℕ) (z : Sizes) → Tested rows bytes L z → Proposes rows bytes L plan (propose_from rows plan (outline_from rows bytes L z)).answer (propose_from rows plan (outline_from rows bytes L z)).plan
-  proposes plan sizes.Fit (size.fit f) = proposes_fit f plan
-  proposes plan (sizes.Refused e) t = promise.refuses e
+  proposes : (plan : List ℕ) (z : Result ⊤ Refusal) → Tested rows bytes L z → Proposes rows bytes L plan (propose_from rows plan (outline_from rows bytes L z)).answer (propose_from rows plan (outline_from rows bytes L z)).plan
+  proposes plan (Ok tt) (size.fit f) = proposes_fit f plan
+  proposes plan (Err e) t = promise.refuses e
 
 -- ---- of the calls
 pub outline_promised : Keeps 0 outline_kinds.ps outline_kinds.r outline.Learnt (λ κs a z. Outlines a.0 a.1.0 a.1.1.0 z)
 outline_promised κs a z (ws, p) = rw (outline_says κs a z ws p) (outlines a.0 a.1.0 a.1.1.0 _ (tested a.0 a.1.0 a.1.1.0))
 
 pub propose_promised :
-    (κs : Lfts 1) (a : Dens κs propose_kinds.ps) (z : Proposed) (ws : Lasts (ended_of 1 propose_kinds.ps propose_kinds.r) κs a) →
+    (κs : Lfts 1) (a : Dens κs propose_kinds.ps) (z : Result ℕ Refusal) (ws : Lasts (ended_of 1 propose_kinds.ps propose_kinds.r) κs a) →
     propose.Learnt κs a z (at_exit (ended_of 1 propose_kinds.ps propose_kinds.r) κs a ws) →
     Proposes a.0 a.1.0 a.1.1.0 a.1.1.1.0.now z ws.1.1.1.0
 propose_promised κs a z ws p =

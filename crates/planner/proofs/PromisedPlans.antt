@@ -1,5 +1,7 @@
 -- The sentences of the request that go over several calls: which plans the check accepts, that those of the planner are among them and that
 -- none of them has fewer runs, and that 15 is given where no plan exists at all.
+use Rattle.std.specs.Bool.{⊤}
+use Rattle.std.proofs.Common.{Result, Ok, Err, ℕ}
 use Prim.Native.Nat.{ℕ, zero, ◌+◌, ◌*◌, ◌<◌, ◌≤◌}
 use mathlib.Core.Path.{◌≡◌, refl, ap}
 use mathlib.Core.List.{List, [], ◌∷◌}
@@ -13,11 +15,7 @@ use native.Mathlib.Omega.{arith}
 use Rattle.modular.proofs.Laws.{lt_or_le}
 use Rattle.modular.proofs.Saying.{Allows, Keeps}
 use Rattle.sched.specs.Scheduler.{Sized}
-use Rattle.planner.specs.declared.plan.Proposed.{Proposed}
-use Rattle.planner.specs.declared.plan.Proposed.TheVariants as proposed
-use Rattle.planner.specs.declared.verdict.Verdict.{Verdict}
-use Rattle.planner.specs.declared.verdict.Verdict.TheVariants as verdict
-use Rattle.planner.specs.Given.{Told, told, Exactly, GivenSizes, fit, given_1, given_2, given_14, given_15, GivenPlan, before_39, given_39, room, Fault, fault_16, fault_17, fault_18, GivenCheck, by_sizes, bad_run, given_19, accepted, of_outlined, of_proposed, of_verdict}
+use Rattle.planner.specs.Given.{Told, told, Exactly, GivenSizes, fit, given_1, given_2, given_14, given_15, GivenPlan, before_39, given_39, room, Fault, fault_16, fault_17, fault_18, GivenCheck, by_sizes, bad_run, given_19, accepted, of_planner}
 use Rattle.planner.specs.Promise.{Bounded, Fitting, runs_in, count_at, behind, IsPlan, Fewest, NoPlanExists, Proposes, runs}
 use Rattle.planner.specs.Promise as promise
 use Rattle.planner.proofs.PromisedValues.{number_some}
@@ -30,6 +28,7 @@ use Rattle.planner.proofs.plan.propose.Kinds as propose_kinds
 use Rattle.planner.proofs.plan.propose.Reads as propose
 use Rattle.planner.proofs.verdict.check.Kinds as check_kinds
 use Rattle.planner.proofs.verdict.check.Reads as check
+use Rattle.planner.specs.declared.refusal.Refusal.{Refusal}
 
 abbrev pub Fifteen : ℕ → ℕ → ℕ → Told → Type 0
 Fifteen rows bytes L t = (t.number ≡ 15 → NoPlanExists rows bytes L) × (NoPlanExists rows bytes L → t.number ≡ 15)
@@ -92,12 +91,12 @@ module _ (rows bytes L : ℕ) where
   accepted_plan plan (given_19 f a l) e = absurd (omega arith)
   accepted_plan plan (accepted f p) e = (f, p)
 
-  zero_accepts : (z : Verdict) → of_verdict z ≡ told 0 [] → z ≡ verdict.Accepted
-  zero_accepts verdict.Accepted e = refl
-  zero_accepts (verdict.Refused r) e = absurd (omega (arith, number_some r, ap (λ (t : Told). t.number) e))
+  zero_accepts : (z : Result ⊤ Refusal) → of_planner z ≡ told 0 [] → z ≡ Ok tt
+  zero_accepts (Ok tt) e = refl
+  zero_accepts (Err r) e = absurd (omega (arith, number_some r, ap (λ (t : Told). t.number) e))
 
   -- ---- a proposal that is not refused
-  made : (plan after : List ℕ) (z : Proposed) → Proposes rows bytes L plan z after → (n : ℕ) → z ≡ proposed.Runs n → IsPlan rows bytes L (take (2 * n) after) × Fewest rows bytes L n
+  made : (plan after : List ℕ) (z : Result ℕ Refusal) → Proposes rows bytes L plan z after → (n : ℕ) → z ≡ Ok n → IsPlan rows bytes L (take (2 * n) after) × Fewest rows bytes L n
   made plan after z (promise.refuses e) n q = let x : ◌≡◌ {A = ℕ} 0 1 = cc in absurd (omega arith)
   made plan after z (runs m _ p r t w u v) n q = let e : m ≡ n = cc in (rw e at p, rw e at w)
 
@@ -111,10 +110,10 @@ pub check_promised :
     Keeps 1 check_kinds.ps check_kinds.r check.Learnt
     (λ κs a z.
     Sized a.1.1.0 → Bounded a.0 a.1.0 →
-    (z ≡ verdict.Accepted → IsPlan a.0 a.1.0 a.1.1.0 a.1.1.1.0.now) × (IsPlan a.0 a.1.0 a.1.1.0 a.1.1.1.0.now → z ≡ verdict.Accepted))
+    (z ≡ Ok tt → IsPlan a.0 a.1.0 a.1.1.0 a.1.1.1.0.now) × (IsPlan a.0 a.1.0 a.1.1.0 a.1.1.1.0.now → z ≡ Ok tt))
 check_promised κs a z q s b =
     let x = check_refuses κs a z q in (
-      λ e. (accepted_plan a.0 a.1.0 a.1.1.0 a.1.1.1.0.now x.only (ap (λ (v : Verdict). (of_verdict v).number) e)).1,
+      λ e. (accepted_plan a.0 a.1.0 a.1.1.0 a.1.1.1.0.now x.only (ap (λ (v : Result ⊤ Refusal). (of_planner v).number) e)).1,
       λ p. zero_accepts a.0 a.1.0 a.1.1.0 z (x.always 0 [] (accepted (planned_fits a.0 a.1.0 a.1.1.0 s b a.1.1.1.0.now p) p)),
     )
 
@@ -122,50 +121,50 @@ check_promised κs a z q s b =
 module _
     (κs : Lfts 1)
     (a : Dens κs propose_kinds.ps)
-    (z : Proposed)
+    (z : Result ℕ Refusal)
     (ws : Lasts (ended_of 1 propose_kinds.ps propose_kinds.r) κs a)
     (q : propose.Learnt κs a z (at_exit (ended_of 1 propose_kinds.ps propose_kinds.r) κs a ws))
     (n : ℕ)
-    (e : z ≡ proposed.Runs n)
+    (e : z ≡ Ok n)
     (ηs : Lfts 1)
     (b : Dens ηs check_kinds.ps)
     (same : (b.0 ≡ a.0) × (b.1.0 ≡ a.1.0) × (b.1.1.0 ≡ a.1.1.0))
-    (y : Verdict)
+    (y : Result ⊤ Refusal)
     (c : Allows 1 check_kinds.ps check_kinds.r check.Learnt ηs b y)
   where
     proposed_plan : IsPlan a.0 a.1.0 a.1.1.0 (take (2 * n) ws.1.1.1.0) × Fewest a.0 a.1.0 a.1.1.0 n
     proposed_plan = made a.0 a.1.0 a.1.1.0 a.1.1.1.0.now ws.1.1.1.0 z (propose_promised κs a z ws q) n e
 
-    pub own_plan_accepted : b.1.1.1.0.now ≡ take (2 * n) ws.1.1.1.0 → y ≡ verdict.Accepted
+    pub own_plan_accepted : b.1.1.1.0.now ≡ take (2 * n) ws.1.1.1.0 → y ≡ Ok tt
     own_plan_accepted p =
-        let f : Fitting a.0 a.1.0 a.1.1.0 = made_fits a.0 a.1.0 a.1.1.0 a.1.1.1.0.now (propose_refuses κs a z (ws, q)).only (ap (λ (r : Proposed). (of_proposed r).number) e) in
+        let f : Fitting a.0 a.1.0 a.1.1.0 = made_fits a.0 a.1.0 a.1.1.0 a.1.1.1.0.now (propose_refuses κs a z (ws, q)).only (ap (λ (r : Result ℕ Refusal). (of_planner r).number) e) in
         (check_promised ηs b y c (rw same.2 f.sized) (rw (same.0, same.1) f.bounded)).1 (rw (same.0, same.1, same.2, p) proposed_plan.0)
 
-    pub accepted_not_fewer : y ≡ verdict.Accepted → n ≤ runs_in b.1.1.1.0.now
+    pub accepted_not_fewer : y ≡ Ok tt → n ≤ runs_in b.1.1.1.0.now
     accepted_not_fewer g =
         proposed_plan.1 b.1.1.1.0.now
-        (rw (same.0, same.1, same.2) at (accepted_plan b.0 b.1.0 b.1.1.0 b.1.1.1.0.now (check_refuses ηs b y c).only (ap (λ (v : Verdict). (of_verdict v).number) g)).1)
+        (rw (same.0, same.1, same.2) at (accepted_plan b.0 b.1.0 b.1.1.0 b.1.1.1.0.now (check_refuses ηs b y c).only (ap (λ (v : Result ⊤ Refusal). (of_planner v).number) g)).1)
 
 -- ---- 15 is given exactly when no plan exists at all, of each call
 pub outline_15 :
     Keeps 0 outline_kinds.ps outline_kinds.r outline.Learnt
-    (λ κs a z. Sized a.1.1.0 → Bounded a.0 a.1.0 → Fifteen a.0 a.1.0 a.1.1.0 (of_outlined z))
+    (λ κs a z. Sized a.1.1.0 → Bounded a.0 a.1.0 → Fifteen a.0 a.1.0 a.1.1.0 (of_planner z))
 outline_15 κs a z q s b =
     let x = outline_refuses κs a z q in
-    fifteen a.0 a.1.0 a.1.1.0 s b _ (of_outlined z) x (sizes_15 a.0 a.1.0 a.1.1.0 x.only) (given_15 s b)
+    fifteen a.0 a.1.0 a.1.1.0 s b _ (of_planner z) x (sizes_15 a.0 a.1.0 a.1.1.0 x.only) (given_15 s b)
 
 pub propose_15 :
     Keeps 1 propose_kinds.ps propose_kinds.r propose.Learnt
-    (λ κs a z. Sized a.1.1.0 → Bounded a.0 a.1.0 → Fifteen a.0 a.1.0 a.1.1.0 (of_proposed z))
+    (λ κs a z. Sized a.1.1.0 → Bounded a.0 a.1.0 → Fifteen a.0 a.1.0 a.1.1.0 (of_planner z))
 propose_15 κs a z q s b =
     let x = propose_refuses κs a z q in
-    fifteen a.0 a.1.0 a.1.1.0 s b _ (of_proposed z) x (plan_15 a.0 a.1.0 a.1.1.0 a.1.1.1.0.now x.only)
+    fifteen a.0 a.1.0 a.1.1.0 s b _ (of_planner z) x (plan_15 a.0 a.1.0 a.1.1.0 a.1.1.1.0.now x.only)
     (λ l. before_39 (omega arith) (given_15 s b l))
 
 pub check_15 :
     Keeps 1 check_kinds.ps check_kinds.r check.Learnt
-    (λ κs a z. Sized a.1.1.0 → Bounded a.0 a.1.0 → Fifteen a.0 a.1.0 a.1.1.0 (of_verdict z))
+    (λ κs a z. Sized a.1.1.0 → Bounded a.0 a.1.0 → Fifteen a.0 a.1.0 a.1.1.0 (of_planner z))
 check_15 κs a z q s b =
     let x = check_refuses κs a z q in
-    fifteen a.0 a.1.0 a.1.1.0 s b _ (of_verdict z) x (checked_15 a.0 a.1.0 a.1.1.0 a.1.1.1.0.now x.only)
+    fifteen a.0 a.1.0 a.1.1.0 s b _ (of_planner z) x (checked_15 a.0 a.1.0 a.1.1.0 a.1.1.1.0.now x.only)
     (λ l. by_sizes (omega arith) (given_15 s b l))

@@ -1,7 +1,7 @@
 -- A turn of the division, and its end.
 use Prim.Native.Nat.{ℕ, zero, suc, ◌+◌, ◌-◌, ◌*◌, ◌/◌, ◌%◌, ◌^◌, ◌≤◌, ◌<◌}
 use mathlib.Core.Path.{◌≡◌, sym, ap, ◌∙◌}
-use native.Mathlib.Nat.{pow-zero, two-pow-succ, one-le-pow, one-mul, mul_assoc, mul_left_comm, add-mul, le-mul_of_pos_right, mul-le-mul_right, mul-add-div_right, mul-add-mod_self_right, div-eq_of_lt, mod-eq_of_lt, div-le_self, mod-le}
+use native.Mathlib.Nat.{pow-zero, two-pow-succ, one-le-pow, one-mul, mul_assoc, mul_left_comm, add-mul, le-mul_of_pos_right, mul-le-mul_right, mul-add-div_right, mul-add-mod_self_right, div-eq_of_lt, mod-eq_of_lt}
 use native.Mathlib.Omega.{arith}
 
 -- the divisor, doubled some times
@@ -19,42 +19,41 @@ halved by part (suc k, e) l =
     ((k, omega arith), omega arith)
 
 -- n is divided by a part: q times it and a rest
-abbrev pub Divided : ℕ → ℕ → ℕ → ℕ → ℕ → Type 0
-Divided n by q rest part = Doubled by part × (q * part + rest ≡ n) × (rest < part)
+pub record Divided (n by q rest part : ℕ) : Type 0 where
+  pub doubled : Doubled by part
+  pub is : q * part + rest ≡ n
+  pub less : rest < part
 
 pub at_start : (n by : ℕ) → n < by * 2 ^ 16 → Divided n by 0 n (by * 2 ^ 16)
-at_start n by l = ((16, omega arith), omega arith, l)
+at_start n by l = record { doubled = (16, omega arith); is = omega arith; less = l }
 
-module _ (n by q rest part : ℕ) (d : Divided n by q rest part) where
+module _ {n by q rest part : ℕ} (d : Divided n by q rest part) where
   pub bounded : 1 ≤ by → q ≤ n
-  bounded some = omega (arith, no_less by part d.0, le-mul_of_pos_right {m = part} q (omega (arith, some, no_less by part d.0)))
+  bounded some = omega (arith, no_less by part d.doubled, d.is, le-mul_of_pos_right {m = part} q (omega (arith, some, no_less by part d.doubled)))
 
   -- ---- a turn: the next bit of the quotient
   module _ (l : by < part) where
     same : 2 * q * (part / 2) + rest ≡ n
     same =
-        let e : q * part ≡ q * (2 * (part / 2)) = ap (λ (p : ℕ). q * p) (halved by part d.0 l).1 in
-        omega (arith, e, mul_left_comm q 2 (part / 2), mul_assoc 2 q (part / 2))
+        let e : q * part ≡ q * (2 * (part / 2)) = ap (λ (p : ℕ). q * p) (halved by part d.doubled l).1 in
+        omega (arith, e, d.is, mul_left_comm q 2 (part / 2), mul_assoc 2 q (part / 2))
 
     pub bit_clear : rest < part / 2 → Divided n by (2 * q) rest (part / 2)
-    bit_clear h = ((halved by part d.0 l).0, same, h)
+    bit_clear h = record { doubled = (halved by part d.doubled l).0; is = same; less = h }
 
     pub bit_set : part / 2 ≤ rest → Divided n by (2 * q + 1) (rest - part / 2) (part / 2)
-    bit_set h = (
-      (halved by part d.0 l).0,
-      omega (arith, same, add-mul (2 * q) 1 (part / 2), one-mul (part / 2)),
-      omega (arith, (halved by part d.0 l).1),
-    )
+    bit_set h = record {
+      doubled = (halved by part d.doubled l).0;
+      is = omega (arith, same, add-mul (2 * q) 1 (part / 2), one-mul (part / 2));
+      less = omega (arith, d.less, (halved by part d.doubled l).1);
+    }
 
-  pub at_end_lem : part ≤ by → (q ≡ n / by) × (rest ≡ n % by)
-  at_end_lem l =
-      let e : part ≡ by = omega (arith, no_less by part d.0) in
-      let is : q * by + rest ≡ n = rw e at d.1 in
-      let less : rest < by = omega arith in
+  -- ---- the last turn's part is the divisor
+  pub at_end : part ≤ by → (q ≡ n / by) × (rest ≡ n % by)
+  at_end l =
+      let e : part ≡ by = omega (arith, no_less by part d.doubled) in
+      let is : q * by + rest ≡ n = rw e at d.is in
+      let less : rest < by = omega (arith, d.less) in
       let whole : n / by ≡ q + rest / by = ap (λ (m : ℕ). m / by) (sym is) ∙ mul-add-div_right (omega arith) q rest in
       let left : n % by ≡ rest % by = ap (λ (m : ℕ). m % by) (sym is) ∙ mul-add-mod_self_right q by rest in
       (omega (arith, div-eq_of_lt less), omega (arith, mod-eq_of_lt less))
-
--- neither number of an answer is above n
-pub answer_most : (n by q rest : ℕ) → (q ≡ n / by) × (rest ≡ n % by) → (q ≤ n) × (rest ≤ n)
-answer_most n by q rest (e, f) = (omega (arith, div-le_self n by), omega (arith, mod-le n by))

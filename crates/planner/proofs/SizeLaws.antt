@@ -1,4 +1,6 @@
 -- The ways that the tests of the sizes go.
+use Rattle.std.specs.Bool.{⊤}
+use Rattle.std.proofs.Common.{Result, Ok, Err}
 use Prim.Native.Nat.{ℕ, ◌+◌, ◌^◌, ◌<◌}
 use mathlib.Core.Path.{◌≡◌, refl, sym}
 use mathlib.Core.Bool.{Bool, true, false, cond}
@@ -8,16 +10,13 @@ use native.Mathlib.Omega.{arith}
 use Rattle.operations.specs.declared.refusal.Refusal as sched
 use Rattle.sched.specs.Chunk.{body_fits}
 use Rattle.sched.specs.Scheduler.{scheduler_of, Sized, sound_of}
-use Rattle.sched.specs.declared.scheduler.Checked.{Checked}
-use Rattle.sched.specs.declared.scheduler.Checked.TheVariants as checked
 use Rattle.sched.specs.declared.scheduler.RingBufferScheduler.{RingBufferScheduler}
 use Rattle.sched.proofs.ChunkLaws.{fits_by, fits_not_by}
 use Rattle.sched.proofs.Laws.{sound_both}
 use Rattle.planner.specs.declared.refusal.Refusal.TheVariants.{Scheduler, SizeOutOfBounds, NoPlan}
-use Rattle.planner.specs.declared.sizes.Sizes.{Sizes}
-use Rattle.planner.specs.declared.sizes.Sizes.TheVariants as sizes
 use Rattle.planner.specs.Promise.{Bounded, Fitting}
 use Rattle.planner.specs.Sizes.{in_bounds, sizes_in, sizes_from, sizes_of}
+use Rattle.planner.specs.declared.refusal.Refusal.{Refusal}
 
 -- ---- the bounds
 data Bounds (rows bytes : ℕ) : Bool → Type 0 where
@@ -48,11 +47,11 @@ bounds rows bytes = by (eqb rows 0) refl (ltb 65535 rows) refl (eqb bytes 0) ref
 abbrev pub new : ℕ → RingBufferScheduler
 new L = scheduler_of L (record { 0 = 0 }) (record { 0 = 0 })
 
-pub data Tested (rows bytes L : ℕ) : Sizes → Type 0 where
-  fit : Fitting rows bytes L → Tested rows bytes L sizes.Fit
-  no_ring : (e : sched.Refusal) → sound_of (new L) ≡ checked.Refused e → Tested rows bytes L (sizes.Refused (Scheduler e))
-  unbounded : Sized L → (Bounded rows bytes → ⊥) → Tested rows bytes L (sizes.Refused (SizeOutOfBounds rows bytes))
-  no_plan : Sized L → Bounded rows bytes → L < bytes + 8 → Tested rows bytes L (sizes.Refused (NoPlan bytes L))
+pub data Tested (rows bytes L : ℕ) : Result ⊤ Refusal → Type 0 where
+  fit : Fitting rows bytes L → Tested rows bytes L (Ok tt)
+  no_ring : (e : sched.Refusal) → sound_of (new L) ≡ Err e → Tested rows bytes L (Err (Scheduler e))
+  unbounded : Sized L → (Bounded rows bytes → ⊥) → Tested rows bytes L (Err (SizeOutOfBounds rows bytes))
+  no_plan : Sized L → Bounded rows bytes → L < bytes + 8 → Tested rows bytes L (Err (NoPlan bytes L))
 
 module _ (rows bytes L : ℕ) where
   sized_tested : Sized L → Tested rows bytes L (sizes_in rows bytes L)
@@ -61,7 +60,7 @@ module _ (rows bytes L : ℕ) where
     where
       by :
           (a : Bool) → Bounds rows bytes a → (b : Bool) → body_fits L bytes ≡ b →
-          Tested rows bytes L (cond a (cond b sizes.Fit (sizes.Refused (NoPlan bytes L))) (sizes.Refused (SizeOutOfBounds rows bytes)))
+          Tested rows bytes L (cond a (cond b (Ok tt) (Err (NoPlan bytes L))) (Err (SizeOutOfBounds rows bytes)))
       by a (within k) true e = fit (record { sized = s; bounded = k; row = fits_by L bytes e })
       by a (within k) false e = no_plan s k (fits_not_by L bytes e)
       by a (outside k) b e = unbounded s k
@@ -69,16 +68,14 @@ module _ (rows bytes L : ℕ) where
   pub tested : Tested rows bytes L (sizes_of rows bytes L)
   tested = by (sound_of (new L)) refl
     where
-      by : (c : Checked) → sound_of (new L) ≡ c → Tested rows bytes L (sizes_from rows bytes L c)
-      by (checked.Sound u) e = sized_tested (sound_both u (new L) (sym e)).0.sized
-      by (checked.Refused r) e = no_ring r e
+      by : (c : Result RingBufferScheduler sched.Refusal) → sound_of (new L) ≡ c → Tested rows bytes L (sizes_from rows bytes L c)
+      by (Ok u) e = sized_tested (sound_both u (new L) (sym e)).0.sized
+      by (Err r) e = no_ring r e
 
   -- what fits is what passes
-  pub fitting : sizes.Fit ≡ sizes_of rows bytes L → Fitting rows bytes L
-  fitting e = by (sizes_of rows bytes L) tested e
+  pub fitting : {u : RingBufferScheduler} → Ok u ≡ sound_of (new L) → in_bounds rows bytes ≡ true → body_fits L bytes ≡ true → Fitting rows bytes L
+  fitting {u} e b f = record { sized = (sound_both u (new L) e).0.sized; bounded = by (in_bounds rows bytes) (bounds rows bytes) b; row = fits_by L bytes f }
     where
-      by : (z : Sizes) → Tested rows bytes L z → sizes.Fit ≡ z → Fitting rows bytes L
-      by z (fit k) p = k
-      by z (no_ring r q) p = let n : ◌≡◌ {A = ℕ} 0 1 = cc in absurd (omega arith)
-      by z (unbounded s q) p = let n : ◌≡◌ {A = ℕ} 0 1 = cc in absurd (omega arith)
-      by z (no_plan s k q) p = let n : ◌≡◌ {A = ℕ} 0 1 = cc in absurd (omega arith)
+      by : (a : Bool) → Bounds rows bytes a → a ≡ true → Bounded rows bytes
+      by a (within k) p = k
+      by a (outside k) p = let n : ◌≡◌ {A = ℕ} 0 1 = cc in absurd (omega arith)

@@ -1,4 +1,6 @@
 -- Strips of one height: where each begins, how many there are, and how many rows fit.
+use Rattle.std.specs.Bool.{⊤}
+use Rattle.std.proofs.Common.{Result, Ok}
 use Prim.Native.Nat.{ℕ, ◌+◌, ◌-◌, ◌*◌, ◌/◌, ◌^◌, ◌≤◌, ◌<◌}
 use mathlib.Core.Path.{◌≡◌, refl}
 use mathlib.Core.Bool.{true, false}
@@ -8,13 +10,12 @@ use native.Mathlib.Omega.{arith}
 use Rattle.modular.proofs.Laws.{lt_or_le}
 use Rattle.sched.specs.Chunk.{body_fits}
 use Rattle.sched.proofs.ChunkLaws.{fits, fits_not}
-use Rattle.planner.specs.declared.sizes.Sizes.{Sizes}
-use Rattle.planner.specs.declared.strips.Outlined.TheVariants as outlined
 use Rattle.planner.specs.declared.strips.Strips.{Strips}
 use Rattle.planner.specs.Promise.{Fitting}
 use Rattle.planner.specs.Sizes.{sizes_of}
 use Rattle.planner.specs.Strips.{height_of, strips_of, outline_in, outline_from, outline_of, AreStrips}
 use Rattle.planner.proofs.SizeLaws.{Tested, fit, no_ring, unbounded, no_plan, tested}
+use Rattle.planner.specs.declared.refusal.Refusal.{Refusal}
 
 below : (k n : ℕ) → k < n + 1 → k ≤ n
 below k n l = omega arith
@@ -68,10 +69,10 @@ module _ (rows bytes L : ℕ) (f : Fitting rows bytes L) where
   pub strips_are : AreStrips rows (outline_in rows (height_of rows bytes L))
   strips_are = record { most = f.bounded.most_rows; some = height_some; within = omega arith; is = refl }
 
-pub outline_strips : (rows bytes L : ℕ) (o : Strips) → outlined.Of o ≡ outline_of rows bytes L → AreStrips rows o
+pub outline_strips : (rows bytes L : ℕ) (o : Strips) → Ok o ≡ outline_of rows bytes L → AreStrips rows o
 outline_strips rows bytes L o e = by (sizes_of rows bytes L) (tested rows bytes L) e
   where
-    by : (z : Sizes) → Tested rows bytes L z → outlined.Of o ≡ outline_from rows bytes L z → AreStrips rows o
+    by : (z : Result ⊤ Refusal) → Tested rows bytes L z → Ok o ≡ outline_from rows bytes L z → AreStrips rows o
     by z (fit k) p = let same : outline_in rows (height_of rows bytes L) ≡ o = cc in rw same at (strips_are rows bytes L k)
     by z (no_ring r q) p = let n : ◌≡◌ {A = ℕ} 0 1 = cc in absurd (omega arith)
     by z (unbounded s q) p = let n : ◌≡◌ {A = ℕ} 0 1 = cc in absurd (omega arith)

@@ -1,14 +1,9 @@
 -- When each number is given, and with which values; 0 where nothing is refused. docs/PAPER.md, "Strips".
-use Rattle.std.specs.Prelude.{ℕ, ◌+◌, ◌*◌, ◌^◌, ◌≤◌, ◌<◌, ◌≡◌, ◌≢◌, ◌⊎◌, List, [], ◌∷◌}
+use Rattle.std.specs.Prelude.{ℕ, ◌+◌, ◌*◌, ◌^◌, ◌≤◌, ◌<◌, ◌≡◌, ◌≢◌, ◌⊎◌, List, [], ◌∷◌, Result, Ok, Err}
 use Rattle.sched.specs.Scheduler.{Sized}
-use Rattle.planner.specs.declared.verdict.Verdict.{Verdict}
-use Rattle.planner.specs.declared.verdict.Verdict.TheVariants as verdict
-use Rattle.planner.specs.declared.strips.Outlined.{Outlined}
-use Rattle.planner.specs.declared.strips.Outlined.TheVariants as outlined
-use Rattle.planner.specs.declared.plan.Proposed.{Proposed}
-use Rattle.planner.specs.declared.plan.Proposed.TheVariants as proposed
 use Rattle.planner.specs.Promise.{Bounded, Fitting, runs_in, first_at, count_at, behind, IsPlan, Fewest}
 use Rattle.planner.specs.Refusal.{number_of, values_of}
+use Rattle.planner.specs.declared.refusal.Refusal.{Refusal}
 
 -- ---- what a caller is told: a number and its values
 pub record Told : Type 0 where
@@ -23,17 +18,9 @@ pub record Exactly (G : ℕ → List ℕ → Type 0) (t : Told) : Type 0 where
   pub only : G t.number t.values
   pub always : (n : ℕ) (vs : List ℕ) → G n vs → t ≡ told n vs
 
-abbrev pub of_outlined : Outlined → Told
-of_outlined (outlined.Of o) = told 0 []
-of_outlined (outlined.Refused e) = told (number_of e) (values_of e)
-
-abbrev pub of_proposed : Proposed → Told
-of_proposed (proposed.Runs n) = told 0 []
-of_proposed (proposed.Refused e) = told (number_of e) (values_of e)
-
-abbrev pub of_verdict : Verdict → Told
-of_verdict verdict.Accepted = told 0 []
-of_verdict (verdict.Refused e) = told (number_of e) (values_of e)
+abbrev pub of_planner : {A : Type 0} → Result A Refusal → Told
+of_planner (Ok o) = told 0 []
+of_planner (Err e) = told (number_of e) (values_of e)
 
 module _ (rows bytes L : ℕ) where
   -- ---- the sizes: 1, 2, 14, 15, in this order

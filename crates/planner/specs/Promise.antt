@@ -1,12 +1,8 @@
 -- What a plan is, in one sentence, and what is promised of the calls. This file cites nothing of how they work: the code's definitions cite it,
 -- for how a plan's numbers are read and which sizes are in bounds.
-use Rattle.std.specs.Prelude.{ℕ, zero, suc, ◌+◌, ◌*◌, ◌/◌, ◌^◌, ◌≤◌, ◌<◌, ◌≡◌, List, length, get_or, take, drop}
+use Rattle.std.specs.Prelude.{ℕ, zero, suc, ◌+◌, ◌*◌, ◌/◌, ◌^◌, ◌≤◌, ◌<◌, ◌≡◌, List, length, get_or, take, drop, Result, Ok, Err}
 use Rattle.sched.specs.Scheduler.{Sized}
-use Rattle.planner.specs.declared.plan.Proposed.{Proposed}
-use Rattle.planner.specs.declared.plan.Proposed.TheVariants as proposed
 use Rattle.planner.specs.declared.refusal.Refusal.{Refusal}
-use Rattle.planner.specs.declared.strips.Outlined.{Outlined}
-use Rattle.planner.specs.declared.strips.Outlined.TheVariants as outlined
 use Rattle.planner.specs.declared.strips.Strips.{Strips}
 
 -- ---- the sizes that are not refused: 1 to 65535 rows, 1 to 2^20 bytes a row, and one row goes into the ring with its header
@@ -57,20 +53,20 @@ NoPlanExists rows bytes L = (plan : List ℕ) → IsPlan rows bytes L plan → �
 
 module _ (rows bytes L : ℕ) where
   -- ---- a proposal is refused, and leaves the lent plan as it was. Or its runs stand at the front, and the rest stays.
-  pub data Proposes (plan : List ℕ) : Proposed → List ℕ → Type 0 where
-    refuses : (e : Refusal) → Proposes plan (proposed.Refused e) plan
+  pub data Proposes (plan : List ℕ) : Result ℕ Refusal → List ℕ → Type 0 where
+    refuses : (e : Refusal) → Proposes plan (Err e) plan
     runs : (n : ℕ) (after : List ℕ) →
         IsPlan rows bytes L (take (2 * n) after) → runs_in (take (2 * n) after) ≡ n →
         Tall bytes L (take (2 * n) after) → Fewest rows bytes L n →
         length after ≡ length plan → drop (2 * n) after ≡ drop (2 * n) plan →
-        Proposes plan (proposed.Runs n) after
+        Proposes plan (Ok n) after
 
   -- ---- an outline tells of a plan: how many runs it has, and the rows of each
-  pub data Outlines : Outlined → Type 0 where
-    refuses : (e : Refusal) → Outlines (outlined.Refused e)
+  pub data Outlines : Result Strips Refusal → Type 0 where
+    refuses : (e : Refusal) → Outlines (Err e)
     tells : (plan : List ℕ) (o : Strips) →
         IsPlan rows bytes L plan → Tall bytes L plan → Fewest rows bytes L (runs_in plan) →
         o.count ≡ runs_in plan → o.height ≡ count_at plan 0 →
         ((k : ℕ) → suc k < runs_in plan → count_at plan k ≡ o.height) →
         ((k : ℕ) → suc k ≡ runs_in plan → count_at plan k ≡ o.last) →
-        Outlines (outlined.Of o)
+        Outlines (Ok o)

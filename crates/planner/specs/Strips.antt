@@ -1,11 +1,8 @@
 -- A plan in three numbers.
-use Rattle.std.specs.Prelude.{ℕ, ◌+◌, ◌-◌, ◌/◌, ◌%◌, ◌≤◌, min, ◌≡◌}
+use Rattle.std.specs.Prelude.{ℕ, ◌+◌, ◌-◌, ◌/◌, ◌%◌, ◌≤◌, min, ◌≡◌, Result, Ok, Err, ⊤}
 use Rattle.planner.specs.declared.strips.Strips.{Strips}
-use Rattle.planner.specs.declared.strips.Outlined.{Outlined}
-use Rattle.planner.specs.declared.strips.Outlined.TheVariants as outlined
-use Rattle.planner.specs.declared.sizes.Sizes.{Sizes}
-use Rattle.planner.specs.declared.sizes.Sizes.TheVariants as sizes
 use Rattle.planner.specs.Sizes.{sizes_of}
+use Rattle.planner.specs.declared.refusal.Refusal.{Refusal}
 
 -- as many rows as fit beside the header, and no more than there are
 abbrev pub height_of : ℕ → ℕ → ℕ → ℕ
@@ -18,11 +15,11 @@ strips_of rows height = (rows - 1) / height + 1
 abbrev pub outline_in : ℕ → ℕ → Strips
 outline_in rows height = record { count = strips_of rows height; height = height; last = (rows - 1) % height + 1 }
 
-abbrev pub outline_from : ℕ → ℕ → ℕ → Sizes → Outlined
-outline_from rows bytes L sizes.Fit = outlined.Of (outline_in rows (height_of rows bytes L))
-outline_from rows bytes L (sizes.Refused e) = outlined.Refused e
+abbrev pub outline_from : ℕ → ℕ → ℕ → Result ⊤ Refusal → Result Strips Refusal
+outline_from rows bytes L (Ok tt) = Ok (outline_in rows (height_of rows bytes L))
+outline_from rows bytes L (Err e) = Err e
 
-abbrev pub outline_of : ℕ → ℕ → ℕ → Outlined
+abbrev pub outline_of : ℕ → ℕ → ℕ → Result Strips Refusal
 outline_of rows bytes L = outline_from rows bytes L (sizes_of rows bytes L)
 
 -- ---- an outline of some image of so many rows

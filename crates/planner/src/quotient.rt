@@ -18,6 +18,7 @@ pub(crate) fn divided(n: u64, by: u64) -> Division
     let mut quotient = 0;
     let mut remainder = n;
     let mut part = by * RANGE;
+    // `while`: no turn is counted, `part` itself tells the last one.
     while part > by {
         part = part / 2;
         quotient = 2 * quotient;

@@ -2,6 +2,7 @@
 ghost use Rattle.std.specs.Prelude.{◌≡◌};
 ghost use Rattle.operations.specs.Refusal.{packed};
 ghost use Rattle.planner.specs.Refusal.{number_of, values_of};
+ghost use Rattle.planner.specs.declared.refusal.Refusal.TheVariants.{Scheduler};
 
 use sched::Values;
 
@@ -25,7 +26,16 @@ pub enum Refusal {
     PlanTooShort { needed: u64, lent: u64 },
 }
 
+impl From<sched::Refusal> for Refusal {
+    ghost from_gives = { λ inner e. e ≡ Scheduler inner };
+
+    fn from(inner: sched::Refusal) -> Refusal {
+        Refusal::Scheduler(inner)
+    }
+}
+
 impl Refusal {
+    // A method and no `From`, which would not say of a number that it is the paper's.
     pub fn number(self) -> u64
         ensures { result ≡ number_of self }
     {

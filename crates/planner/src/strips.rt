@@ -1,11 +1,10 @@
 // A plan in three numbers: how many strips, the rows in each, and the rows in the last.
-ghost use Rattle.std.specs.Prelude.{◌≡◌, ◌≤◌, min};
-ghost use Rattle.planner.specs.Promise.{Fitting};
+ghost use Rattle.std.specs.Prelude.{◌≡◌, ◌≤◌};
 ghost use Rattle.planner.specs.Strips.{height_of, outline_in, outline_of};
 
 use crate::quotient::{RANGE, divided};
 use crate::refusal::Refusal;
-use crate::sizes::{Sizes, demand_sizes};
+use crate::sizes::Fit;
 use sched::HEADER_LEN;
 
 // Each strip but the last has `height` rows; one strip alone has them too.
@@ -16,50 +15,36 @@ pub struct Strips {
     pub last: u64,
 }
 
-#[derive(Clone, Copy)]
-pub enum Outlined {
-    Of(Strips),
-    Refused(Refusal),
-}
-
 // The plan that `propose` makes.
-pub fn outline(rows: u64, row_bytes: u64, buf_len: u64) -> Outlined
+pub fn outline(rows: u64, row_bytes: u64, buf_len: u64) -> Result<Strips, Refusal>
     ensures { result ≡ outline_of rows row_bytes buf_len }
 {
-    match demand_sizes(rows, row_bytes, buf_len) {
-        Sizes::Fit => Outlined::Of(outline_in(rows, height_of(rows, row_bytes, buf_len))),
-        Sizes::Refused(e) => Outlined::Refused(e),
+    Ok(Fit::try_new(rows, row_bytes, buf_len)?.strips())
+}
+
+impl Fit {
+    // As tall as fits, and no taller than the image: all its rows where RANGE would fit, which are more than it has.
+    #[tactic(auto, using(crate::proofs::StripLaws::all_fit))]
+    pub(crate) fn height(self) -> u64
+        ensures { result ≡ height_of self.rows self.row_bytes self.buf_len }
+    {
+        let room = self.buf_len - HEADER_LEN;
+        if room / RANGE >= self.row_bytes {
+            return self.rows;
+        }
+        self.rows.min(divided(room, self.row_bytes).quotient)
     }
-}
 
-// As tall as fits, and no taller than the image: all its rows where RANGE would fit, which are more than it has.
-pub(crate) fn height_of(rows: u64, row_bytes: u64, buf_len: u64) -> u64
-    requires { Fitting rows row_bytes buf_len }
-    ensures { result ≡ height_of rows row_bytes buf_len }
-{
-    let room = buf_len - HEADER_LEN;
-    if room / RANGE >= row_bytes {
-        return rows;
-    }
-    least(rows, divided(room, row_bytes).quotient)
-}
-
-pub(crate) fn least(a: u64, b: u64) -> u64
-    ensures { result ≡ min a b }
-{
-    if a <= b { a } else { b }
-}
-
-fn outline_in(rows: u64, height: u64) -> Strips
-    requires some { 1 ≤ height }
-    requires within { height ≤ rows }
-    requires most { rows ≤ 65535 }
-    ensures { result ≡ outline_in rows height }
-{
-    let before_last = divided(rows - 1, height);
-    Strips {
-        count: before_last.quotient + 1,
-        height,
-        last: before_last.remainder + 1,
+    #[tactic(auto, using(crate::proofs::StripLaws::height_some))]
+    pub(crate) fn strips(self) -> Strips
+        ensures { result ≡ outline_in self.rows (height_of self.rows self.row_bytes self.buf_len) }
+    {
+        let height = self.height();
+        let before_last = divided(self.rows - 1, height);
+        Strips {
+            count: before_last.quotient + 1,
+            height,
+            last: before_last.remainder + 1,
+        }
     }
 }

@@ -1,4 +1,5 @@
 -- The rules of specs/Call.antt keep the cases of specs/Cases.antt.
+use Rattle.std.proofs.Common.{Result, Ok, Err, Option, Some, None}
 use Prim.Native.Nat.{ℕ, ◌+◌, ◌-◌, ◌/◌, ◌%◌, ◌^◌, ◌<◌, ◌≤◌, min}
 use mathlib.Core.Path.{◌≡◌, refl, sym, ap, subst, ◌∙◌}
 use mathlib.Core.Bool.{Bool, cond, true, false}
@@ -28,15 +29,13 @@ use Rattle.sched.proofs.ChunkLaws.{fits_by}
 use Rattle.copies.specs.Number.{number_from}
 use Rattle.receiver.specs.Receiver.{none_beside, beside_byte, read_outcome, failed_outcome, with_scheduler, with_state, with_pending, batch_in, header_in, announced_in, byte_in, handed_in}
 use Rattle.states.specs.State.{failure_in, advance_in}
-use Rattle.receiver.specs.declared.announcement.Announced.{Announced}
-use Rattle.receiver.specs.declared.announcement.Announced.TheVariants as announced
 use Rattle.states.specs.declared.answer.Received.{Received}
 use Rattle.states.specs.declared.answer.Received.TheVariants as received
 use Rattle.states.specs.declared.answer.Sent.TheVariants as sent
+use Rattle.receiver.specs.declared.announcement.Announced.{Announced}
 use Rattle.receiver.specs.declared.call.Call.{Call}
 use Rattle.receiver.specs.declared.call.Ending.{Ending}
 use Rattle.receiver.specs.declared.call.Phase.TheVariants as phase
-use Rattle.receiver.specs.declared.call.Step.{Step}
 use Rattle.receiver.specs.declared.call.Wanted.{Wanted}
 use Rattle.receiver.specs.declared.receiver.Beside.{Beside}
 use Rattle.receiver.specs.declared.receiver.Outcome.{Outcome}
@@ -45,9 +44,8 @@ use Rattle.states.specs.declared.state.Failure.{Failure}
 use Rattle.states.specs.declared.state.Failure.TheVariants.{Io, Protocol}
 use Rattle.states.specs.declared.state.OperationalState.{OperationalState}
 use Rattle.states.specs.declared.state.OperationalState.TheVariants.{Normal, Draining, Terminated}
-use Rattle.states.specs.declared.state.PotentialFailure.{PotentialFailure}
-use Rattle.states.specs.declared.state.PotentialFailure.TheVariants.{Some, None}
 use Rattle.states.specs.declared.state.Violation.TheVariants.{InvalidChunkAnnouncement}
+use Rattle.states.specs.declared.refusal.Refusal.{Refusal}
 
 -- ---- what is answered
 pub comes : (e : Ending) → ComesTo e e.outcome
@@ -62,16 +60,16 @@ meets f e = by e.outcome e.told
 
 -- the kinds of a state differ
 draining_other : (f : Failure) → Draining f ≢ Normal
-draining_other f p = let z : ◌≡◌ {A = ℕ} 0 1 = cc in omega arith
+draining_other f p = cc
 
 terminated_other : (f : Failure) → Terminated f ≢ Normal
-terminated_other f p = let z : ◌≡◌ {A = ℕ} 0 1 = cc in omega arith
+terminated_other f p = cc
 
 live_other : (f : Failure) → Normal ≢ Terminated f
-live_other f p = let z : ◌≡◌ {A = ℕ} 0 1 = cc in omega arith
+live_other f p = cc
 
 drains_other : (c f : Failure) → Draining c ≢ Terminated f
-drains_other c f p = let z : ◌≡◌ {A = ℕ} 0 1 = cc in omega arith
+drains_other c f p = cc
 
 -- ---- shutting down, and acknowledgements
 module _ (q : ReceiverState) (s : RingBufferScheduler) (e : Ending) where
@@ -92,14 +90,14 @@ module _ (q : ReceiverState) (s : RingBufferScheduler) (e : Ending) where
       by true z = none_pending (eqb-true _ _ z) (comes e)
       by false z = sends (batch_rule q.pending_ack_count (eqb-false _ _ z))
 
-  serves_by : (x : PotentialFailure) → Holds q.state x → Serves q s e (service_call_by x q s e)
+  serves_by : (x : Option Failure) → Holds q.state x → Serves q s e (service_call_by x q s e)
   serves_by (Some f) h = failed_before h (meets f e) (comes (told_in f e))
   serves_by None h = flushes h flushes_all
 
   pub serves : Serves q s e (service_call q s e)
   serves = serves_by (failure_in q.state) (holds_rule q.state)
 
-pub advances : (to : OperationalState) (f : PotentialFailure) (q : ReceiverState) (s : RingBufferScheduler) (e ending : Ending) → Meets f e ending → Advances to f q s e (advance_call to q s ending)
+pub advances : (to : OperationalState) (f : Option Failure) (q : ReceiverState) (s : RingBufferScheduler) (e ending : Ending) → Meets f e ending → Advances to f q s e (advance_call to q s ending)
 advances to f q s e ending m =
     record {
       state = advance_in q.state to;
@@ -183,17 +181,17 @@ module _ (q : ReceiverState) (s : RingBufferScheduler) where
 
 -- what is announced of a scheduler: a chunk of it, with this beside, or a violation
 module _ (s : RingBufferScheduler) (sound : IsSound s) (b : Beside) where
-  abbrev Tells : Announced → Type 0
-  Tells (announced.Chunk u _) = Chunk s (data_in u) u × IsSound u
-  Tells (announced.Failed (Protocol v)) = Unit {0}
-  Tells (announced.Failed (Io e)) = ⊥
+  abbrev Tells : Result Announced Failure → Type 0
+  Tells (Ok m) = Chunk s (data_in m.scheduler) m.scheduler × IsSound m.scheduler
+  Tells (Err (Protocol v)) = Unit {0}
+  Tells (Err (Io e)) = ⊥
 
-  by_test : (x y : Announced) (t : Bool) → (t ≡ true → Tells x) → (t ≡ false → Tells y) → Tells (cond t x y)
+  by_test : (x y : Result Announced Failure) (t : Bool) → (t ≡ true → Tells x) → (t ≡ false → Tells y) → Tells (cond t x y)
   by_test x y true f g = f refl
   by_test x y false f g = g refl
 
   module _ (empty : data_in s ≡ 0) where
-    a_chunk : (n : ℕ) → 8 ≤ space_in s → n + 8 ≤ space_in s → Tells (announced.Chunk (advanced_in (advanced_in (advanced_in s Write 8) Read 8) Write n) b)
+    a_chunk : (n : ℕ) → 8 ≤ space_in s → n + 8 ≤ space_in s → Tells (Ok (record { scheduler = advanced_in (advanced_in (advanced_in s Write 8) Read 8) Write n; beside = b }))
     a_chunk n g l =
         let e : data_in (advanced_in (advanced_in (advanced_in s Write 8) Read 8) Write n) ≡ n = omega (arith, chunk.holds s sound g n l, empty) in (
           subst (λ (k : ℕ). Chunk s k (advanced_in (advanced_in (advanced_in s Write 8) Read 8) Write n)) (sym e) (record {
@@ -218,15 +216,15 @@ module _ (s : RingBufferScheduler) (sound : IsSound s) (b : Beside) where
 
 -- a record that waits for an announcement
 module _ (q : ReceiverState) (s : RingBufferScheduler) (sound : IsSound q.scheduler) (empty : data_in q.scheduler ≡ 0) (ring : List ℕ) (w : Wanted) where
-  hears : (fds : ℕ) (x : Announced) → Tells q.scheduler sound (beside_byte fds) x → Header q s ring w (beside_byte fds) (said_by x) → TakesReceived q s ring w (received.Byte 0 fds) (announced_call x w q s)
-  hears fds (announced.Chunk v b) t h = announces h t.0 (hands_out_lem (with_scheduler q v) t.1 w.dst_len b)
-  hears fds (announced.Failed (Protocol v)) t h = header_violates h (numbered v) (fails q s (Protocol v))
-  hears fds (announced.Failed (Io e)) t h = absurd t
+  hears : (fds : ℕ) (x : Result Announced Failure) → Tells q.scheduler sound (beside_byte fds) x → Header q s ring w (beside_byte fds) (said_by x) → TakesReceived q s ring w (received.Byte 0 fds) (announced_call x w q s)
+  hears fds (Ok m) t h = announces h t.0 (hands_out_lem (with_scheduler q m.scheduler) t.1 w.dst_len m.beside)
+  hears fds (Err (Protocol v)) t h = header_violates h (numbered v) (fails q s (Protocol v))
+  hears fds (Err (Io e)) t h = absurd t
 
   takes_byte : (fds byte : ℕ) → TakesReceived q s ring w (received.Byte byte fds) (announced_call (byte_in ring q.scheduler byte (beside_byte fds)) w q s)
   takes_byte fds byte = by (eqb byte 0) refl
     where
-      by : (x : Bool) → eqb byte 0 ≡ x → TakesReceived q s ring w (received.Byte byte fds) (announced_call (cond x (announced_in ring q.scheduler (beside_byte fds)) (announced.Failed (Protocol InvalidChunkAnnouncement))) w q s)
+      by : (x : Bool) → eqb byte 0 ≡ x → TakesReceived q s ring w (received.Byte byte fds) (announced_call (cond x (announced_in ring q.scheduler (beside_byte fds)) (Err (Protocol InvalidChunkAnnouncement))) w q s)
       by true z =
           let x = announced_in ring q.scheduler (beside_byte fds) in
           subst (λ (k : ℕ). TakesReceived q s ring w (received.Byte k fds) (announced_call x w q s)) (sym (eqb-true byte 0 z))
@@ -234,7 +232,7 @@ module _ (q : ReceiverState) (s : RingBufferScheduler) (sound : IsSound q.schedu
       by false z = cases.byte_violates (eqb-false byte 0 z) violation_1 (fails q s (Protocol InvalidChunkAnnouncement))
 
   module _ (live : (f : Failure) → q.state ≢ Terminated f) where
-    takes_failed : (n : ℕ) → TakesReceived q s ring w (received.Failed n) (announced_call (announced.Failed (Io n)) w q s)
+    takes_failed : (n : ℕ) → TakesReceived q s ring w (received.Failed n) (announced_call (Err (Io n)) w q s)
     takes_failed n = by (eqb n 11) refl
       where
         by : (x : Bool) → eqb n 11 ≡ x → TakesReceived q s ring w (received.Failed n) (cond x (blocked_by q.state q s) (failed_call (Io n) q s))
@@ -248,10 +246,10 @@ module _ (q : ReceiverState) (s : RingBufferScheduler) (sound : IsSound q.schedu
 
 -- ---- the beginning of a read
 module _ (q : ReceiverState) (sound : IsSound q.scheduler) (w : Wanted) where
-  abbrev Begins : Step → Type 0
+  abbrev Begins : Result Call Refusal → Type 0
   Begins = Goes (BeginsRead q w)
 
-  either : (b : Bool) (x y : Step) → (b ≡ true → Begins x) → (b ≡ false → Begins y) → Begins (cond b x y)
+  either : (b : Bool) (x y : Result Call Refusal) → (b ≡ true → Begins x) → (b ≡ false → Begins y) → Begins (cond b x y)
   either true x y f g = f refl
   either false x y f g = g refl
 

@@ -1,4 +1,6 @@
 -- The machine's steps keep the cases of specs/Cases.antt: what the rules make of a call, and what an answer makes of that.
+use Rattle.std.specs.Bool.{⊤}
+use Rattle.std.proofs.Common.{Result, Ok, Err, Some, None}
 use Prim.Native.Nat.{ℕ, ◌≤◌, min}
 use mathlib.Core.Path.{◌≡◌, refl, sym, subst}
 use mathlib.Core.Bool.{Bool, cond, true, false}
@@ -20,8 +22,6 @@ use Rattle.states.specs.Promise.{AByte, SaysReceived, a_byte, closed, receive_fa
 use Rattle.states.specs.Promise.{Batch, all, most}
 use Rattle.receiver.specs.Promise.{nothing_more}
 use Rattle.receiver.specs.Receiver.{done_outcome, batch_in, by_sent}
-use Rattle.receiver.specs.declared.admission.Admission.{Admission}
-use Rattle.receiver.specs.declared.admission.Admission.TheVariants as admission
 use Rattle.states.specs.declared.answer.Answer.{Answer}
 use Rattle.states.specs.declared.answer.Received.{Received}
 use Rattle.states.specs.declared.answer.Sent.{Sent}
@@ -32,8 +32,6 @@ use Rattle.receiver.specs.declared.call.Call.{Call}
 use Rattle.receiver.specs.declared.call.Ending.{Ending}
 use Rattle.receiver.specs.declared.call.Phase.{Phase}
 use Rattle.receiver.specs.declared.call.Phase.TheVariants as phase
-use Rattle.receiver.specs.declared.call.Step.{Step}
-use Rattle.receiver.specs.declared.call.Step.TheVariants.{Of, Refused}
 use Rattle.receiver.specs.declared.call.Wanted.{Wanted}
 use Rattle.receiver.specs.declared.receiver.Beside.{Beside}
 use Rattle.receiver.specs.declared.receiver.ReceiverState.{ReceiverState}
@@ -41,17 +39,16 @@ use Rattle.states.specs.declared.refusal.Refusal.TheVariants.{Misfit}
 use Rattle.states.specs.declared.state.Failure.{Failure}
 use Rattle.states.specs.declared.state.Failure.TheVariants.{Io}
 use Rattle.states.specs.declared.state.OperationalState.TheVariants.{Draining, Terminated}
-use Rattle.states.specs.declared.state.PotentialFailure.TheVariants.{None}
-use Rattle.receiver.specs.declared.admission.Memory.TheVariants as memory
+use Rattle.states.specs.declared.refusal.Refusal.{Refusal}
 
 -- ---- where the tests were passed, the rules
-pub passing : (P : Call → Type 0) (x : Admission) (y : Step) → (admission.Passed ≡ x → Goes P y) → Goes P (admitted_step x y)
-passing P admission.Passed y h = h refl
-passing P (admission.Refused r) y h = tt
+pub passing : (P : Call → Type 0) (x : Result ⊤ Refusal) (y : Result Call Refusal) → ((Ok tt) ≡ x → Goes P y) → Goes P (admitted_step x y)
+passing P (Ok tt) y h = h refl
+passing P (Err r) y h = tt
 
-pub then_goes : (P Q : Call → Type 0) (y : Step) → ((c : Call) → P c → Q c) → Goes P y → Goes Q y
-then_goes P Q (Of c) f h = f c h
-then_goes P Q (Refused r) f h = tt
+pub then_goes : (P Q : Call → Type 0) (y : Result Call Refusal) → ((c : Call) → P c → Q c) → Goes P y → Goes Q y
+then_goes P Q (Ok c) f h = f c h
+then_goes P Q (Err r) f h = tt
 
 -- ---- what a call waits for that the rules made
 abbrev WaitsIn : Phase → ReceiverState → Type 0
@@ -112,16 +109,16 @@ sent_below a batch _ (so_many k l) = l
 
 module _ (d : Call) (ring : List ℕ) (a : Answer) (place : ℕ) where
   -- an interruption leaves it waiting
-  waited_out : (ph : Phase) (y : Step) → (Interrupts a × (d ≡ d) → TakesIn ph d ring a d) → ((Interrupts a → ⊥) → Goes (TakesIn ph d ring a) y) →
-      Goes (TakesIn ph d ring a) (cond (interrupted_of a) (Of d) y)
+  waited_out : (ph : Phase) (y : Result Call Refusal) → (Interrupts a × (d ≡ d) → TakesIn ph d ring a d) → ((Interrupts a → ⊥) → Goes (TakesIn ph d ring a) y) →
+      Goes (TakesIn ph d ring a) (cond (interrupted_of a) (Ok d) y)
   waited_out ph y f g = by (interrupted_of a) refl
     where
-      by : (b : Bool) → interrupted_of a ≡ b → Goes (TakesIn ph d ring a) (cond b (Of d) y)
+      by : (b : Bool) → interrupted_of a ≡ b → Goes (TakesIn ph d ring a) (cond b (Ok d) y)
       by true z = f ((interrupted_says a).0 z, refl)
-      by false z = g (λ h. let k = (interrupted_says a).1 h in let w : ◌≡◌ {A = ℕ} 0 1 = cc in omega arith)
+      by false z = g (λ h. let k = (interrupted_says a).1 h in cc)
 
   takes_sends : (batch : ℕ) (e : Ending) → Batch d.receiver.pending_ack_count batch → (x : Sent) → SaysSent a batch x →
-      Goes (TakesSent d.receiver d.source e x) (by_sent x (λ n. Of (sent_call n d.receiver d.source e)) (λ n. Of (unsent_call n d.receiver d.source e)) (Refused (Misfit place)))
+      Goes (TakesSent d.receiver d.source e x) (by_sent x (λ n. Ok (sent_call n d.receiver d.source e)) (λ n. Ok (unsent_call n d.receiver d.source e)) (Err (Misfit place)))
   takes_sends batch e b (sent.Sent n) h = takes_sent d.receiver d.source e n (omega (arith, sent_below a batch n h, batch_is d.receiver.pending_ack_count batch b))
   takes_sends batch e b (sent.Failed n) h = takes_unsent d.receiver d.source e n
   takes_sends batch e b sent.Misfit h = tt
@@ -146,9 +143,9 @@ module _ (d : Call) (ring : List ℕ) (a : Answer) (place : ℕ) where
   takes_by (phase.Finished o) h = refl
 
 module _ (c : Call) (ring : List ℕ) (a : Answer) (place : ℕ) where
-  answers_by : (x : Step) → Goes (Resumes c) x → IsSound c.receiver.scheduler → Goes (Answered c ring a) (answered_from x ring a place)
-  answers_by (Of d) h sound = then_goes (Takes d ring a) (Answered c ring a) (stepped_by d.phase d ring a place) (λ z k. (d, h, k)) (takes_by d ring a place d.phase (resumed_waits c sound c.phase refl d h))
-  answers_by (Refused r) h sound = tt
+  answers_by : (x : Result Call Refusal) → Goes (Resumes c) x → IsSound c.receiver.scheduler → Goes (Answered c ring a) (answered_from x ring a place)
+  answers_by (Ok d) h sound = then_goes (Takes d ring a) (Answered c ring a) (stepped_by d.phase d ring a place) (λ z k. (d, h, k)) (takes_by d ring a place d.phase (resumed_waits c sound c.phase refl d h))
+  answers_by (Err r) h sound = tt
 
   pub answers : Goes (Answered c ring a) (answered_of c ring a place)
   answers =
@@ -167,7 +164,7 @@ module _ (c : Call) (h : Made c) where
   pub made_takes : (ring : List ℕ) (a : Answer) (place : ℕ) → Goes (Takes c ring a) (answered_of c ring a place)
   made_takes ring a place =
       passing (Takes c ring a) (admission_of c.receiver (looks_at c.phase a (length ring))) _
-      (λ p. subst (λ (x : Step). Goes (Takes c ring a) (answered_from x ring a place)) (sym h.resumes) (takes_by c ring a place c.phase made_waits))
+      (λ p. subst (λ (x : Result Call Refusal). Goes (Takes c ring a) (answered_from x ring a place)) (sym h.resumes) (takes_by c ring a place c.phase made_waits))
 
 -- where the ring is looked at, which the table of the numbers cites
 looks_by_lem : (a : Answer) (n : ℕ) (w : Wanted) (x : Received) → SaysReceived a w.max_new_fds x → Looks a n (phase.Receive w) (looks_by x n)
@@ -185,20 +182,20 @@ looks_rule a n (phase.Finished o) = at_the_end
 -- ---- the beginnings
 module _ (q : ReceiverState) where
   pub begins_at : (n top asked : ℕ) → Goes (BeginsRead q (a_want top asked)) (begin_read_of q n top asked)
-  begins_at n top asked = passing _ (admission_of q (memory.Of n)) (read_call q (wanted top asked)) (λ k. begins_read q (passed_sound q (memory.Of n) k) (wanted top asked))
+  begins_at n top asked = passing _ (admission_of q (Some n)) (read_call q (wanted top asked)) (λ k. begins_read q (passed_sound q (Some n) k) (wanted top asked))
 
   pub serves_at : Goes (BeginsService q) (begin_service_of q)
-  serves_at = passing _ (admission_of q memory.None) (Of (service_call q q.scheduler (telling done_outcome))) (λ k. serves q q.scheduler (telling done_outcome))
+  serves_at = passing _ (admission_of q None) (Ok (service_call q q.scheduler (telling done_outcome))) (λ k. serves q q.scheduler (telling done_outcome))
 
   pub shuts_at : Goes (BeginsShutdown q) (begin_shutdown_of q)
   shuts_at =
-      passing _ (admission_of q memory.None) (Of (advance_call (Draining (Io 32)) q q.scheduler (telling done_outcome)))
+      passing _ (admission_of q None) (Ok (advance_call (Draining (Io 32)) q q.scheduler (telling done_outcome)))
       (λ k. advances (Draining (Io 32)) None q q.scheduler (telling done_outcome) (telling done_outcome) none_met)
 
   -- a read that is begun is of a sound record, over a ring of its length
-  pub read_admitted : (n top asked : ℕ) (c : Call) → begin_read_of q n top asked ≡ Of c → IsSound q.scheduler × (n ≡ q.scheduler.buf_len)
-  read_admitted n top asked c e = by (admission_of q (memory.Of n)) refl e
+  pub read_admitted : (n top asked : ℕ) (c : Call) → begin_read_of q n top asked ≡ Ok c → IsSound q.scheduler × (n ≡ q.scheduler.buf_len)
+  read_admitted n top asked c e = by (admission_of q (Some n)) refl e
     where
-      by : (x : Admission) → admission_of q (memory.Of n) ≡ x → admitted_step x (read_call q (wanted top asked)) ≡ Of c → IsSound q.scheduler × (n ≡ q.scheduler.buf_len)
-      by admission.Passed a h = (passed_sound q (memory.Of n) (sym a), passed_sized q n (sym a))
-      by (admission.Refused r) a h = let z : ◌≡◌ {A = ℕ} 0 1 = cc in absurd (omega arith)
+      by : (x : Result ⊤ Refusal) → admission_of q (Some n) ≡ x → admitted_step x (read_call q (wanted top asked)) ≡ Ok c → IsSound q.scheduler × (n ≡ q.scheduler.buf_len)
+      by (Ok tt) a h = (passed_sound q (Some n) (sym a), passed_sized q n (sym a))
+      by (Err r) a h = cc

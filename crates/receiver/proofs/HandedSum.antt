@@ -1,5 +1,6 @@
 -- Over any answers that a host hands in, fitting and not, pending goes down by what was sent, and up by each chunk that was handed out
 -- whole. A refused answer counts for nothing, because the call stays as it was.
+use Rattle.std.proofs.Common.{Result, Ok, Err}
 use Prim.Native.Nat.{ℕ, ◌+◌}
 use mathlib.Core.Path.{◌≡◌, refl, sym, ap, subst}
 use mathlib.Core.List.{List, [], ◌∷◌}
@@ -18,15 +19,13 @@ use Rattle.states.specs.declared.answer.Answer.{Answer}
 use Rattle.receiver.specs.declared.call.Call.{Call}
 use Rattle.receiver.specs.declared.call.Phase.{Phase}
 use Rattle.receiver.specs.declared.call.Phase.TheVariants as phase
-use Rattle.receiver.specs.declared.call.Step.{Step}
-use Rattle.receiver.specs.declared.call.Step.TheVariants.{Of, Refused}
 use Rattle.receiver.specs.declared.call.Wanted.{Wanted}
 use Rattle.states.specs.declared.refusal.Refusal.{Refusal}
 
 -- ---- one answer that is taken
 module _ (c : Call) (ring : List ℕ) (a : Answer) where
   abbrev Sums : Phase → Call → Type 0
-  Sums ph d = d.receiver.pending_ack_count + sent_at ph (Of d) a ≡ c.receiver.pending_ack_count + whole_at ph (Of d)
+  Sums ph d = d.receiver.pending_ack_count + sent_at ph (Ok d) a ≡ c.receiver.pending_ack_count + whole_at ph (Ok d)
 
   module _ (d : Call) where
     took_sums : (w : Wanted) → Took c.receiver c.source w.dst_len d → Sums (phase.Receive w) d
@@ -44,10 +43,10 @@ module _ (c : Call) (ring : List ℕ) (a : Answer) where
 
 -- ---- any answers
 -- taken or not, the call that the host goes on with is made by the machine, and keeps the sum
-abbrev Kept : Call → Answer → Step → Type 0
+abbrev Kept : Call → Answer → Result Call Refusal → Type 0
 Kept c a x = Made (kept_by c x) × ((kept_by c x).receiver.pending_ack_count + sent_at c.phase x a ≡ c.receiver.pending_ack_count + whole_at c.phase x)
 
-refused : (c : Call) (a : Answer) (r : Refusal) (ph : Phase) → c.receiver.pending_ack_count + sent_at ph (Refused r) a ≡ c.receiver.pending_ack_count + whole_at ph (Refused r)
+refused : (c : Call) (a : Answer) (r : Refusal) (ph : Phase) → c.receiver.pending_ack_count + sent_at ph (Err r) a ≡ c.receiver.pending_ack_count + whole_at ph (Err r)
 refused c a r (phase.Receive w) = refl
 refused c a r (phase.Send batch e) = refl
 refused c a r (phase.Shutdown e) = refl
@@ -56,11 +55,11 @@ refused c a r (phase.Finished o) = refl
 kept : (c : Call) (h : Handed) → Made c → Kept c h.answer (step_of c h)
 kept c h m = by (step_of c h) (answered_made c m h.ring h.answer h.place) (made_takes c m h.ring h.answer h.place)
   where
-    by : (x : Step) → MadeBy x → Goes (Takes c h.ring h.answer) x → Kept c h.answer x
-    by (Of d) k t = (k, takes_sums c h.ring h.answer d c.phase refl (made_resumes c m) t)
-    by (Refused r) k t = (m, refused c h.answer r c.phase)
+    by : (x : Result Call Refusal) → MadeBy x → Goes (Takes c h.ring h.answer) x → Kept c h.answer x
+    by (Ok d) k t = (k, takes_sums c h.ring h.answer d c.phase refl (made_resumes c m) t)
+    by (Err r) k t = (m, refused c h.answer r c.phase)
 
-module _ (answers : Call → Handed → Step) (are : (c : Call) (h : Handed) → answers c h ≡ step_of c h) where
+module _ (answers : Call → Handed → Result Call Refusal) (are : (c : Call) (h : Handed) → answers c h ≡ step_of c h) where
   taken_or_not : (c : Call) (h : Handed) → Made c → Kept c h.answer (answers c h)
   taken_or_not c h m = subst (Kept c h.answer) (sym (are c h)) (kept c h m)
 

@@ -1,5 +1,6 @@
 -- Cases of the machine with one answer at a time, computed from the definitions: what a refused answer leaves, where the record is tested
 -- anew, where the ring is looked at, and what a phase comes to that a host made up.
+use Rattle.std.proofs.Common.{Ok, Err}
 use Prim.Native.Nat.{ℕ}
 use mathlib.Core.Path.{◌≡◌, refl}
 use native.Mathlib.Omega.{arith}
@@ -16,7 +17,6 @@ use Rattle.states.specs.declared.answer.Answer.{Answer}
 use Rattle.receiver.specs.declared.call.Call.{Call}
 use Rattle.receiver.specs.declared.call.Phase.{Phase}
 use Rattle.receiver.specs.declared.call.Phase.TheVariants.{Receive, Send, Shutdown}
-use Rattle.receiver.specs.declared.call.Step.TheVariants.{Of, Refused}
 use Rattle.states.specs.declared.refusal.Refusal.TheVariants.{Copy, Misfit}
 use Rattle.states.specs.declared.state.Failure.TheVariants.{Io}
 use Rattle.states.specs.declared.state.OperationalState.{OperationalState}
@@ -55,42 +55,42 @@ reading pending = call (receiver (ring 10 3 3) Normal pending false) (ring 10 3 
 
 -- the second answer does not fit: the call still waits to send, with pending 173, and goes on from there
 a_refused_answer_leaves_the_call :
-    (begin_read_of (receiver (ring 10 3 0) Normal 300 false) 10 0 9 ≡ Of (reading 301)) ×
-    (answered_of (reading 301) [] (sends 128) 1 ≡ Of (reading 173)) ×
-    (answered_of (reading 173) [] done 2 ≡ Refused (Misfit 2)) ×
-    (answered_of (reading 173) [] (sends 129) 2 ≡ Refused (Misfit 2)) ×
-    (answered_of (reading 173) [] (sends 100) 3 ≡ Of (call (receiver (ring 10 3 3) Normal 73 false) (ring 10 3 0) (Send 73 (dropping (read_outcome 3 none_beside)))))
+    (begin_read_of (receiver (ring 10 3 0) Normal 300 false) 10 0 9 ≡ Ok (reading 301)) ×
+    (answered_of (reading 301) [] (sends 128) 1 ≡ Ok (reading 173)) ×
+    (answered_of (reading 173) [] done 2 ≡ Err (Misfit 2)) ×
+    (answered_of (reading 173) [] (sends 129) 2 ≡ Err (Misfit 2)) ×
+    (answered_of (reading 173) [] (sends 100) 3 ≡ Ok (call (receiver (ring 10 3 3) Normal 73 false) (ring 10 3 0) (Send 73 (dropping (read_outcome 3 none_beside)))))
 unfolding flush_call ready_from counted_of sound_of sub_mod add_mod fits_errno interrupted_of sent_of
 a_refused_answer_leaves_the_call = (refl, refl, refl, refl, refl)
 
 -- 1 to 5 and 20, then 12 with place 0, in every phase
 an_answer_tests_the_record_anew :
     (answered_of (waits (ring 10 11 0) (Draining (Io 5000)) 3 (Send 3 (telling done_outcome))) [] (sends 3) 1 ≡
-    Refused (Copy (Scheduler (DataAvailOutOfBounds 10 (record { 0 = 11 }) (record { 0 = 0 }))))) ×
-    (answered_of (waits (ring 10 3 0) (Draining (Io 5000)) 3 (Send 3 (telling done_outcome))) [] (sends 3) 1 ≡ Refused (Misfit 0)) ×
-    (answered_of (waits (ring 10 3 0) (Draining (Io 5000)) 3 (Shutdown (telling done_outcome))) [] done 1 ≡ Refused (Misfit 0)) ×
+    Err (Copy (Scheduler (DataAvailOutOfBounds 10 (record { 0 = 11 }) (record { 0 = 0 }))))) ×
+    (answered_of (waits (ring 10 3 0) (Draining (Io 5000)) 3 (Send 3 (telling done_outcome))) [] (sends 3) 1 ≡ Err (Misfit 0)) ×
+    (answered_of (waits (ring 10 3 0) (Draining (Io 5000)) 3 (Shutdown (telling done_outcome))) [] done 1 ≡ Err (Misfit 0)) ×
     (answered_of (waits (ring 10 11 0) (Draining (Io 5)) 3 (Shutdown (telling done_outcome))) [] done 1 ≡
-    Refused (Copy (Scheduler (DataAvailOutOfBounds 10 (record { 0 = 11 }) (record { 0 = 0 })))))
+    Err (Copy (Scheduler (DataAvailOutOfBounds 10 (record { 0 = 11 }) (record { 0 = 0 })))))
 unfolding counted_of sound_of sub_mod fits_errno
 an_answer_tests_the_record_anew = (refl, refl, refl, refl)
 
 -- 9 where a byte was received and the ring is another, and only there; before 12 with place 0
 the_ring_is_looked_at_where_a_byte_was_received :
-    (answered_of (waits (ring 10 0 0) Normal 0 (Receive (wanted 0 9))) [] (fails 11) 1 ≡ Of (finished_call (receiver (ring 10 0 0) Normal 0 false) (ring 10 0 0) (failed_outcome (Io 11)))) ×
-    (answered_of (waits (ring 10 0 0) Normal 0 (Receive (wanted 0 9))) [] byte 1 ≡ Refused (Copy RingMemory)) ×
-    (answered_of (waits (ring 10 0 0) (Draining (Io 5000)) 0 (Receive (wanted 0 9))) [] byte 1 ≡ Refused (Copy RingMemory)) ×
-    (answered_of (waits (ring 10 0 0) (Draining (Io 5000)) 0 (Receive (wanted 0 9))) [] (fails 11) 1 ≡ Refused (Misfit 0))
+    (answered_of (waits (ring 10 0 0) Normal 0 (Receive (wanted 0 9))) [] (fails 11) 1 ≡ Ok (finished_call (receiver (ring 10 0 0) Normal 0 false) (ring 10 0 0) (failed_outcome (Io 11)))) ×
+    (answered_of (waits (ring 10 0 0) Normal 0 (Receive (wanted 0 9))) [] byte 1 ≡ Err (Copy RingMemory)) ×
+    (answered_of (waits (ring 10 0 0) (Draining (Io 5000)) 0 (Receive (wanted 0 9))) [] byte 1 ≡ Err (Copy RingMemory)) ×
+    (answered_of (waits (ring 10 0 0) (Draining (Io 5000)) 0 (Receive (wanted 0 9))) [] (fails 11) 1 ≡ Err (Misfit 0))
 unfolding ready_from counted_of sound_of sub_mod fits_errno interrupted_of received_of
 the_ring_is_looked_at_where_a_byte_was_received = (refl, refl, refl, refl)
 
 -- a phase that the record cannot be in is answered by the rules of the record
 a_made_up_phase :
     (answered_of (waits (ring 10 0 0) (Terminated (Io 9)) 0 (Receive (wanted 0 9))) (replicate 10 0) byte 1 ≡
-    Of (finished_call (receiver (ring 10 0 0) (Terminated (Io 9)) 0 false) (ring 10 0 0) (failed_outcome (Io 9)))) ×
+    Ok (finished_call (receiver (ring 10 0 0) (Terminated (Io 9)) 0 false) (ring 10 0 0) (failed_outcome (Io 9)))) ×
     (answered_of (waits (ring 10 0 0) (Draining (Io 5)) 3 (Send 3 (telling done_outcome))) [] (sends 3) 1 ≡
-    Of (finished_call (receiver (ring 10 0 0) (Draining (Io 5)) 3 false) (ring 10 0 0) (failed_outcome (Io 5)))) ×
+    Ok (finished_call (receiver (ring 10 0 0) (Draining (Io 5)) 3 false) (ring 10 0 0) (failed_outcome (Io 5)))) ×
     (answered_of (waits (ring 10 0 0) Normal 3 (Shutdown (telling done_outcome))) [] done 1 ≡
-    Of (finished_call (receiver (ring 10 0 0) Normal 3 false) (ring 10 0 0) done_outcome))
+    Ok (finished_call (receiver (ring 10 0 0) Normal 3 false) (ring 10 0 0) done_outcome))
 unfolding ready_from counted_of sound_of sub_mod fits_errno interrupted_of received_of sent_of shut_of
 a_made_up_phase = (refl, refl, refl)
 
@@ -101,7 +101,7 @@ a_read_hears =
     record {
       wanted = wanted 0 9;
       waits = refl;
-      live = λ f e. let z : ◌≡◌ {A = ℕ} 0 1 = cc in omega arith;
+      live = λ f e. cc;
       some = λ e. omega (arith, e);
       empty = refl;
       byte = (refl, omega arith, omega arith);

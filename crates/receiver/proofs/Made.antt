@@ -1,4 +1,5 @@
 -- A call that the machine made: its record passes the tests, and the rules make of it what it is.
+use Rattle.std.proofs.Common.{Ok, Option, None, ℕ}
 use mathlib.Core.Path.{◌≡◌, refl}
 use mathlib.Core.Bool.{Bool, true, false}
 use Rattle.sched.proofs.Laws.{sound_is}
@@ -9,11 +10,7 @@ use Rattle.states.specs.State.{fits_state}
 use Rattle.receiver.proofs.AdmissionLaws.{passed_sound, passed_fits}
 use Rattle.receiver.specs.Admission.{admission_of}
 use Rattle.receiver.specs.Call.{resumed_of}
-use Rattle.receiver.specs.declared.admission.Admission.TheVariants.{Passed}
-use Rattle.receiver.specs.declared.admission.Memory.{Memory}
-use Rattle.receiver.specs.declared.admission.Memory.TheVariants as memory
 use Rattle.receiver.specs.declared.call.Call.{Call}
-use Rattle.receiver.specs.declared.call.Step.TheVariants.{Of}
 use Rattle.receiver.specs.declared.receiver.ReceiverState.{ReceiverState}
 use Rattle.states.specs.declared.state.OperationalState.{OperationalState}
 
@@ -24,9 +21,9 @@ pub record Tested (q : ReceiverState) : Type 0 where
 
 pub record Made (c : Call) : Type 0 where
   pub tested : Tested c.receiver
-  pub resumes : resumed_of c ≡ Of c
+  pub resumes : resumed_of c ≡ Ok c
 
-pub passed_tested : (q : ReceiverState) (m : Memory) → Passed ≡ admission_of q m → Tested q
+pub passed_tested : (q : ReceiverState) (m : Option ℕ) → Ok tt ≡ admission_of q m → Tested q
 passed_tested q m p = record { sound = passed_sound q m p; stored = (state_fits q.state true (passed_fits q m p)).0 refl }
 
 stored_fits : (st : OperationalState) → Stored st → fits_state st ≡ true
@@ -36,5 +33,5 @@ stored_fits st h = by (fits_state st) refl
     by true e = refl
     by false e = absurd ((state_fits st false e).1 refl h)
 
-pub passes : (q : ReceiverState) → Tested q → Passed ≡ admission_of q memory.None
+pub passes : (q : ReceiverState) → Tested q → Ok tt ≡ admission_of q None
 passes q h = rw (← sound_is q.scheduler h.sound, stored_fits q.state h.stored)

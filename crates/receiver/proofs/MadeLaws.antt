@@ -1,5 +1,7 @@
 -- What the machine makes it can take up again: a call that the cases of specs/Cases.antt make of itself, the rules do, and every case makes
 -- such a call.
+use Rattle.std.specs.Bool.{⊤}
+use Rattle.std.proofs.Common.{Result, Ok, Err, Option, Some, None, ℕ}
 use Prim.Native.Nat.{ℕ}
 use mathlib.Core.Path.{◌≡◌, refl, sym, ap, subst, ◌∙◌}
 use mathlib.Core.Bool.{true}
@@ -23,10 +25,6 @@ use Rattle.states.specs.Promise.{Errno, FailureFits, Stored, Reason, end_and_end
 use Rattle.states.specs.Promise.{Batch, all, most}
 use Rattle.receiver.specs.Promise.{nothing_more}
 use Rattle.receiver.specs.Receiver.{done_outcome}
-use Rattle.receiver.specs.declared.admission.Admission.{Admission}
-use Rattle.receiver.specs.declared.admission.Admission.TheVariants as admission
-use Rattle.receiver.specs.declared.admission.Memory.{Memory}
-use Rattle.receiver.specs.declared.admission.Memory.TheVariants as memory
 use Rattle.states.specs.declared.answer.Answer.{Answer}
 use Rattle.states.specs.declared.answer.Received.{Received}
 use Rattle.states.specs.declared.answer.Received.TheVariants as received
@@ -37,18 +35,15 @@ use Rattle.receiver.specs.declared.call.Call.{Call}
 use Rattle.receiver.specs.declared.call.Ending.{Ending}
 use Rattle.receiver.specs.declared.call.Phase.{Phase}
 use Rattle.receiver.specs.declared.call.Phase.TheVariants as phase
-use Rattle.receiver.specs.declared.call.Step.{Step}
-use Rattle.receiver.specs.declared.call.Step.TheVariants.{Of, Refused}
 use Rattle.receiver.specs.declared.call.Wanted.{Wanted}
 use Rattle.receiver.specs.declared.receiver.Beside.{Beside}
 use Rattle.receiver.specs.declared.receiver.ReceiverState.{ReceiverState}
 use Rattle.states.specs.declared.state.Failure.{Failure}
 use Rattle.states.specs.declared.state.OperationalState.{OperationalState}
-use Rattle.states.specs.declared.state.PotentialFailure.{PotentialFailure}
-use Rattle.states.specs.declared.state.PotentialFailure.TheVariants.{Some, None}
+use Rattle.states.specs.declared.refusal.Refusal.{Refusal}
 
 -- ---- a call that waits is the only one that its case makes
-holds_one : (st : OperationalState) (x y : PotentialFailure) → Holds st x → Holds st y → x ≡ y
+holds_one : (st : OperationalState) (x y : Option Failure) → Holds st x → Holds st y → x ≡ y
 holds_one _ _ _ holds_none holds_none = refl
 holds_one _ _ _ draining_holds draining_holds = refl
 holds_one _ _ _ terminated_holds terminated_holds = refl
@@ -61,30 +56,30 @@ module _ (q : ReceiverState) (s : RingBufferScheduler) (e : Ending) where
   closes_one : (c d : Call) → Closes q s e c → Closes q s e d → c.phase ≡ phase.Shutdown e → d ≡ c
   closes_one _ _ (asks n p) (asks m r) k = refl
   closes_one _ _ (asks n p) (is_normal m t) k = absurd (n m)
-  closes_one _ _ (asks n p) (shut_before r t) k = let z : ◌≡◌ {A = ℕ} 0 1 = cc in absurd (omega arith)
-  closes_one _ d (is_normal p t) h k = let z : ◌≡◌ {A = ℕ} 0 1 = cc in absurd (omega arith)
-  closes_one _ d (shut_before p t) h k = let z : ◌≡◌ {A = ℕ} 0 1 = cc in absurd (omega arith)
+  closes_one _ _ (asks n p) (shut_before r t) k = cc
+  closes_one _ d (is_normal p t) h k = cc
+  closes_one _ d (shut_before p t) h k = cc
 
   module _ (batch : ℕ) where
     flushes_one : (c d : Call) → Flushes q s e c → Flushes q s e d → c.phase ≡ phase.Send batch e → d ≡ c
     flushes_one _ _ (sends {batch = n} b) (sends {batch = m} f) k = ap (λ (x : ℕ). call q s (phase.Send x e)) (batch_is _ m f ∙ sym (batch_is _ n b))
     flushes_one _ _ (sends b) (none_pending z t) k = absurd (some_pending _ _ b z)
-    flushes_one _ d (none_pending z t) h k = let y : ◌≡◌ {A = ℕ} 0 1 = cc in absurd (omega arith)
+    flushes_one _ d (none_pending z t) h k = cc
 
     serves_one : (c d : Call) → Serves q s e c → Serves q s e d → c.phase ≡ phase.Send batch e → d ≡ c
-    serves_one _ d (failed_before h m t) g k = let z : ◌≡◌ {A = ℕ} 0 1 = cc in absurd (omega arith)
-    serves_one c _ (flushes h f) (failed_before {f = x} g m t) k = let p : None ≡ Some x = holds_one _ _ _ h g in let z : ◌≡◌ {A = ℕ} 0 1 = cc in absurd (omega arith)
+    serves_one _ d (failed_before h m t) g k = cc
+    serves_one c _ (flushes h f) (failed_before {f = x} g m t) k = let p : None ≡ Some x = holds_one _ _ _ h g in cc
     serves_one c d (flushes h f) (flushes g i) k = flushes_one c d f i k
 
     -- and no failure is stored
     holds : (c : Call) → Serves q s e c → c.phase ≡ phase.Send batch e → Holds q.state None
-    holds _ (failed_before h m t) k = let z : ◌≡◌ {A = ℕ} 0 1 = cc in absurd (omega arith)
+    holds _ (failed_before h m t) k = cc
     holds c (flushes h f) k = h
 
 module _ (q : ReceiverState) (w : Wanted) where
   pub awaiting : (c : Call) → BeginsRead q w c → c.phase ≡ phase.Receive w → Reading q w.dst_len × (data_in q.scheduler ≡ 0) × (c ≡ call q q.scheduler (phase.Receive w))
-  awaiting _ (is_terminated p) k = let z : ◌≡◌ {A = ℕ} 0 1 = cc in absurd (omega arith)
-  awaiting _ (none_asked l y) k = let z : ◌≡◌ {A = ℕ} 0 1 = cc in absurd (omega arith)
+  awaiting _ (is_terminated p) k = cc
+  awaiting _ (none_asked l y) k = cc
   awaiting _ (awaits r z) k = (r, z, refl)
   awaiting c (holds_data r l h) k = absurd (subst Settled k (hands q w.dst_len nothing_more r.some l c h).settled)
 
@@ -99,14 +94,14 @@ abbrev Stays : Call → Type 0
 Stays c = Tested c.receiver × Resumes c c
 
 module _ (c : Call) (t : Tested c.receiver) where
-  resumed_as : (ph : Phase) → c.phase ≡ ph → ResumesIn ph c c → resumed_by ph c ≡ Of c
+  resumed_as : (ph : Phase) → c.phase ≡ ph → ResumesIn ph c c → resumed_by ph c ≡ Ok c
   resumed_as (phase.Receive w) p h = by (resumed_by (phase.Receive w) c) (resumes_by c t.sound (phase.Receive w)) (resumed_told c (phase.Receive w))
     where
-      by : (x : Step) → Goes (ResumesIn (phase.Receive w) c) x → Refuses c (phase.Receive w) x → x ≡ Of c
-      by (Of d) g f = let k = awaiting c.receiver w c h p in ap Of (awaits_one c.receiver w k.0 k.1 d g ∙ sym k.2)
-      by (Refused r) g f = absurd ((awaiting c.receiver w c h p).0.counts f.2.2)
-  resumed_as (phase.Send batch e) p h = ap Of (serves_one c.receiver c.source e batch c _ h (resumes_by c t.sound (phase.Send batch e)) p)
-  resumed_as (phase.Shutdown e) p h = ap Of (closes_one c.receiver c.source e c _ h (resumes_by c t.sound (phase.Shutdown e)) p)
+      by : (x : Result Call Refusal) → Goes (ResumesIn (phase.Receive w) c) x → Refuses c (phase.Receive w) x → x ≡ Ok c
+      by (Ok d) g f = let k = awaiting c.receiver w c h p in ap Ok (awaits_one c.receiver w k.0 k.1 d g ∙ sym k.2)
+      by (Err r) g f = absurd ((awaiting c.receiver w c h p).0.counts f.2.2)
+  resumed_as (phase.Send batch e) p h = ap Ok (serves_one c.receiver c.source e batch c _ h (resumes_by c t.sound (phase.Send batch e)) p)
+  resumed_as (phase.Shutdown e) p h = ap Ok (closes_one c.receiver c.source e c _ h (resumes_by c t.sound (phase.Shutdown e)) p)
   resumed_as (phase.Finished o) p h = refl
 
 remade : (c : Call) → Stays c → Made c
@@ -151,7 +146,7 @@ module _ (q : ReceiverState) (t : Tested q) (s : RingBufferScheduler) (e : Endin
   serves_stays c (flushes h f) = flushes_stays h c f
 
 module _ (q : ReceiverState) (t : Tested q) (s : RingBufferScheduler) where
-  advances_stays : (to : OperationalState) → Stored to → (f : PotentialFailure) (e : Ending) (c : Call) → Advances to f q s e c → Stays c
+  advances_stays : (to : OperationalState) → Stored to → (f : Option Failure) (e : Ending) (c : Call) → Advances to f q s e c → Stays c
   advances_stays to k f e c h =
       closes_stays _ (record { sound = t.sound; stored = advanced_stored q.state to h.state h.advanced t.stored k }) s h.ending c h.closes
 
@@ -185,7 +180,7 @@ module _ (q : ReceiverState) (t : Tested q) where
   read_stays w c (holds_data r l h) = hands_stays q t _ _ c h
 
 -- ---- an answer
-abbrev pub MadeBy : Step → Type 0
+abbrev pub MadeBy : Result Call Refusal → Type 0
 MadeBy = Goes Made
 
 module _ (c : Call) (h : Made c) (ring : List ℕ) (a : Answer) where
@@ -202,35 +197,35 @@ module _ (c : Call) (h : Made c) (ring : List ℕ) (a : Answer) where
     answered_made = then_goes (Takes c ring a) Made (answered_of c ring a place) (λ d t. remade d (takes_stays d c.phase refl (made_resumes c h) t)) (made_takes c h ring a place)
 
     -- what it waits out leaves it as it was, over any ring: an interruption is no byte
-    no_byte : (top : ℕ) → a.kind ≡ 2 → (x : Received) → SaysReceived a top x → memory.None ≡ looks_by x (length ring)
+    no_byte : (top : ℕ) → a.kind ≡ 2 → (x : Received) → SaysReceived a top x → None ≡ looks_by x (length ring)
     no_byte top k _ (a_byte g) = absurd (omega (arith, k, g.0))
     no_byte top k _ (closed g) = refl
     no_byte top k _ (receive_failed g) = refl
     no_byte top k _ (no_receive f g i) = refl
 
-    looks_at_none : (ph : Phase) → retries_in ph a ≡ true → memory.None ≡ looks_at ph a (length ring)
+    looks_at_none : (ph : Phase) → retries_in ph a ≡ true → None ≡ looks_at ph a (length ring)
     looks_at_none (phase.Receive w) e = no_byte w.max_new_fds ((interrupted_says a).0 e).0 (received_of w.max_new_fds a) (received_says a w.max_new_fds)
     looks_at_none (phase.Send batch x) e = refl
     looks_at_none (phase.Shutdown x) e = refl
     looks_at_none (phase.Finished o) e = refl
 
-    pub waited_out : retries_of c a ≡ true → answered_of c ring a place ≡ Of c
-    waited_out e = sym (answered_on c ring a place memory.None (looks_at_none c.phase e) (passes c.receiver h.tested) (Of c) (sym h.resumes)) ∙ steps_back c ring a place c.phase e
+    pub waited_out : retries_of c a ≡ true → answered_of c ring a place ≡ Ok c
+    waited_out e = sym (answered_on c ring a place None (looks_at_none c.phase e) (passes c.receiver h.tested) (Ok c) (sym h.resumes)) ∙ steps_back c ring a place c.phase e
 
 -- ---- the beginnings
 module _ (q : ReceiverState) where
-  begun : (m : Memory) (y : Step) (P : Call → Type 0) → (Tested q → (c : Call) → P c → Stays c) → Goes P (admitted_step (admission_of q m) y) → MadeBy (admitted_step (admission_of q m) y)
+  begun : (m : Option ℕ) (y : Result Call Refusal) (P : Call → Type 0) → (Tested q → (c : Call) → P c → Stays c) → Goes P (admitted_step (admission_of q m) y) → MadeBy (admitted_step (admission_of q m) y)
   begun m y P f g = by (admission_of q m) refl g
     where
-      by : (x : Admission) → admission_of q m ≡ x → Goes P (admitted_step x y) → MadeBy (admitted_step x y)
-      by admission.Passed e g = then_goes P Made y (λ c h. remade c (f (passed_tested q m (sym e)) c h)) g
-      by (admission.Refused r) e g = tt
+      by : (x : Result ⊤ Refusal) → admission_of q m ≡ x → Goes P (admitted_step x y) → MadeBy (admitted_step x y)
+      by (Ok tt) e g = then_goes P Made y (λ c h. remade c (f (passed_tested q m (sym e)) c h)) g
+      by (Err r) e g = tt
 
   pub service_made : MadeBy (begin_service_of q)
-  service_made = begun memory.None _ (BeginsService q) (λ t c h. serves_stays q t q.scheduler (telling done_outcome) c h) (serves_at q)
+  service_made = begun None _ (BeginsService q) (λ t c h. serves_stays q t q.scheduler (telling done_outcome) c h) (serves_at q)
 
   pub shutdown_made : MadeBy (begin_shutdown_of q)
-  shutdown_made = begun memory.None _ (BeginsShutdown q) (λ t c h. advances_stays q t q.scheduler _ (omega arith, omega arith) _ _ c h) (shuts_at q)
+  shutdown_made = begun None _ (BeginsShutdown q) (λ t c h. advances_stays q t q.scheduler _ (omega arith, omega arith) _ _ c h) (shuts_at q)
 
   pub begin_read_made : (ring-len top asked : ℕ) → MadeBy (begin_read_of q ring-len top asked)
-  begin_read_made ring-len top asked = begun (memory.Of ring-len) _ (BeginsRead q (a_want top asked)) (λ t c h. read_stays q t (a_want top asked) c h) (begins_at q ring-len top asked)
+  begin_read_made ring-len top asked = begun (Some ring-len) _ (BeginsRead q (a_want top asked)) (λ t c h. read_stays q t (a_want top asked) c h) (begins_at q ring-len top asked)

@@ -1,13 +1,13 @@
 -- The held fill, of the machine's calls: the record of a receiver that a call answers passes every test, 20 among them. The scheduler
 -- that a call in progress copies by is the receiver's as it was, or what the host handed in, which the copy tests.
+use Rattle.std.specs.Bool.{⊤}
+use Rattle.std.proofs.Common.{Result, Ok, Err, Option, Some, None, ℕ}
 use Prim.Native.Nat.{ℕ}
 use mathlib.Core.Path.{◌≡◌, refl, sym, subst}
 use mathlib.Core.List.{List}
 use mathlib.Core.Logic.{inl, inr}
 use lib.ListN.{length}
 use Rattle.modular.proofs.Saying.{Keeps}
-use Rattle.sched.specs.declared.scheduler.Checked.{Checked}
-use Rattle.sched.specs.declared.scheduler.Checked.TheVariants as checked
 use Rattle.sched.specs.declared.scheduler.RingBufferScheduler.{RingBufferScheduler}
 use Rattle.sched.specs.Given.{Passes}
 use Rattle.sched.specs.Scheduler.{IsSound, sound_of}
@@ -19,26 +19,18 @@ use Rattle.states.specs.declared.state.Failure.TheVariants.{Io}
 use Rattle.states.specs.declared.state.OperationalState.TheVariants.{Draining}
 use Rattle.receiver.specs.Admission.{admission_of}
 use Rattle.receiver.specs.Call.{telling, service_call, advance_call, read_call, admitted_step, wanted, begin_read_of, begin_service_of, begin_shutdown_of, looks_at, resumed_of, answered_from}
-use Rattle.receiver.specs.Cases.{HandsOut, a_part, all_of_it, Blocks, goes_on, is_drained, TakesReceived, announces, header_violates, byte_violates, receive_blocks, receive_fails, BeginsRead, is_terminated, none_asked, awaits, holds_data, BeginsService, BeginsShutdown, ResumesIn, TakesIn, Answered, Goes, a_want}
+use Rattle.receiver.specs.Cases.{Blocks, goes_on, is_drained, TakesReceived, announces, header_violates, byte_violates, receive_blocks, receive_fails, BeginsRead, BeginsService, BeginsShutdown, TakesIn, Answered, Goes, a_want}
 use Rattle.receiver.specs.Receiver.{done_outcome, receiver_from}
-use Rattle.receiver.specs.declared.admission.Admission.{Admission}
-use Rattle.receiver.specs.declared.admission.Admission.TheVariants as admission
-use Rattle.receiver.specs.declared.admission.Memory.{Memory}
-use Rattle.receiver.specs.declared.admission.Memory.TheVariants as memory
 use Rattle.receiver.specs.declared.call.Call.{Call}
 use Rattle.receiver.specs.declared.call.Phase.{Phase}
 use Rattle.receiver.specs.declared.call.Phase.TheVariants as phase
-use Rattle.receiver.specs.declared.call.Step.{Step}
-use Rattle.receiver.specs.declared.call.Step.TheVariants as step
 use Rattle.receiver.specs.declared.call.Wanted.{Wanted}
-use Rattle.receiver.specs.declared.receiver.Beside.{Beside}
-use Rattle.receiver.specs.declared.receiver.ReceiverAnswer.{ReceiverAnswer}
-use Rattle.receiver.specs.declared.receiver.ReceiverAnswer.TheVariants as made
 use Rattle.receiver.specs.declared.receiver.ReceiverState.{ReceiverState}
+use Rattle.receiver.proofs.SoundLaws.{kept, hands_sound, reads_sound, resumes_sound}
 use Rattle.receiver.proofs.AdmissionLaws.{passed_sound}
 use Rattle.receiver.proofs.CaseSteps.{answers, begins_at, serves_at, shuts_at, then_goes}
 use Rattle.receiver.proofs.Says.{ReceiverState-new-says, begin_read_says, begin_service_says, begin_shutdown_says, answered_says}
-use Rattle.receiver.proofs.StepLaws.{closes_spends, serves_spends, advances_spends, sent_spends, shut_spends}
+use Rattle.receiver.proofs.StepLaws.{serves_spends, advances_spends, sent_spends, shut_spends}
 use Rattle.receiver.proofs.receiver.ReceiverState.new.Kinds as new_kinds
 use Rattle.receiver.proofs.receiver.ReceiverState.new.Reads as new
 use Rattle.receiver.proofs.call.Call.begin_read.Kinds as begin_read_kinds
@@ -49,25 +41,14 @@ use Rattle.receiver.proofs.call.Call.begin_shutdown.Kinds as begin_shutdown_kind
 use Rattle.receiver.proofs.call.Call.begin_shutdown.Reads as begin_shutdown
 use Rattle.receiver.proofs.call.Call.answered.Kinds as answered_kinds
 use Rattle.receiver.proofs.call.Call.answered.Reads as answered
+use Rattle.states.specs.declared.refusal.Refusal as states
+use Rattle.operations.specs.declared.refusal.Refusal.{Refusal}
 
 -- ---- by the cases
 abbrev pub Sound : Call → Type 0
 Sound c = IsSound c.receiver.scheduler
 
-kept : (c : Call) (q : ReceiverState) → IsSound q.scheduler → c.receiver.scheduler ≡ q.scheduler → Sound c
-kept c q h e = subst IsSound (sym e) h
-
-hands_sound : (q : ReceiverState) (asked : ℕ) (b : Beside) (c : Call) → HandsOut q asked b c → Sound c
-hands_sound q asked b c (a_part {u} l r h) = subst IsSound (sym (serves_spends _ _ _ c h).scheduler) r.sound
-hands_sound q asked b c (all_of_it {u} l r h) = subst IsSound (sym (serves_spends _ _ _ c h).scheduler) r.sound
-
 module _ (q : ReceiverState) (h : IsSound q.scheduler) where
-  reads_sound : (w : Wanted) (c : Call) → BeginsRead q w c → Sound c
-  reads_sound w _ (is_terminated p) = h
-  reads_sound w _ (none_asked l p) = h
-  reads_sound w _ (awaits r p) = h
-  reads_sound w c (holds_data r p o) = hands_sound q w.dst_len _ c o
-
   blocks_sound : (s : RingBufferScheduler) (c : Call) → Blocks q s c → Sound c
   blocks_sound s _ (goes_on p) = h
   blocks_sound s c (is_drained p f) = kept c q h (advances_spends q s _ _ _ c f).scheduler
@@ -78,12 +59,6 @@ module _ (q : ReceiverState) (h : IsSound q.scheduler) where
   received_sound s ring w _ c (byte_violates l k f) = kept c q h (advances_spends q s _ _ _ c f).scheduler
   received_sound s ring w _ c (receive_blocks b) = blocks_sound s c b
   received_sound s ring w _ c (receive_fails l f) = kept c q h (advances_spends q s _ _ _ c f).scheduler
-
-pub resumes_sound : (c d : Call) → Sound c → (ph : Phase) → ResumesIn ph c d → Sound d
-resumes_sound c d h (phase.Receive w) r = reads_sound c.receiver h w d r
-resumes_sound c d h (phase.Send batch e) r = kept d c.receiver h (serves_spends c.receiver c.source e d r).scheduler
-resumes_sound c d h (phase.Shutdown e) r = kept d c.receiver h (closes_spends c.receiver c.source e d r).scheduler
-resumes_sound c d h (phase.Finished o) r = subst Sound (sym r) h
 
 pub takes_sound : (d : Call) (ring : List ℕ) (a : Answer) (c : Call) → Sound d → (ph : Phase) → TakesIn ph d ring a c → Sound c
 takes_sound d ring a c h (phase.Receive w) (inl (i, e)) = subst Sound (sym e) h
@@ -97,40 +72,40 @@ answered_sound : (c : Call) (ring : List ℕ) (a : Answer) (z : Call) → Sound 
 answered_sound c ring a z h (d, r, t) = takes_sound d ring a z (resumes_sound c d h c.phase r) d.phase t
 
 -- ---- where the tests were passed
-admitted : (q : ReceiverState) (m : Memory) (y : Step) (P : Call → Type 0) → (IsSound q.scheduler → (c : Call) → P c → Sound c) → Goes P (admitted_step (admission_of q m) y) → Goes Sound (admitted_step (admission_of q m) y)
+admitted : (q : ReceiverState) (m : Option ℕ) (y : Result Call states.Refusal) (P : Call → Type 0) → (IsSound q.scheduler → (c : Call) → P c → Sound c) → Goes P (admitted_step (admission_of q m) y) → Goes Sound (admitted_step (admission_of q m) y)
 admitted q m y P f h = by (admission_of q m) refl h
   where
-    by : (x : Admission) → admission_of q m ≡ x → Goes P (admitted_step x y) → Goes Sound (admitted_step x y)
-    by admission.Passed e h = then_goes P Sound y (f (passed_sound q m (sym e))) h
-    by (admission.Refused r) e h = tt
+    by : (x : Result ⊤ states.Refusal) → admission_of q m ≡ x → Goes P (admitted_step x y) → Goes Sound (admitted_step x y)
+    by (Ok tt) e h = then_goes P Sound y (f (passed_sound q m (sym e))) h
+    by (Err r) e h = tt
 
 module _ (q : ReceiverState) where
   pub read_begun_sound : (n top asked : ℕ) → Goes Sound (begin_read_of q n top asked)
-  read_begun_sound n top asked = admitted q (memory.Of n) (read_call q (wanted top asked)) (BeginsRead q (a_want top asked)) (λ h c b. reads_sound q h _ c b) (begins_at q n top asked)
+  read_begun_sound n top asked = admitted q (Some n) (read_call q (wanted top asked)) (BeginsRead q (a_want top asked)) (λ h c b. reads_sound q h _ c b) (begins_at q n top asked)
 
   pub service_begun_sound : Goes Sound (begin_service_of q)
-  service_begun_sound = admitted q memory.None (step.Of (service_call q q.scheduler (telling done_outcome))) (BeginsService q) (λ h c b. kept c q h (serves_spends _ _ _ c b).scheduler) (serves_at q)
+  service_begun_sound = admitted q None (Ok (service_call q q.scheduler (telling done_outcome))) (BeginsService q) (λ h c b. kept c q h (serves_spends _ _ _ c b).scheduler) (serves_at q)
 
   pub shutdown_begun_sound : Goes Sound (begin_shutdown_of q)
-  shutdown_begun_sound = admitted q memory.None (step.Of (advance_call (Draining (Io 32)) q q.scheduler (telling done_outcome))) (BeginsShutdown q) (λ h c b. kept c q h (advances_spends _ _ _ _ _ c b).scheduler) (shuts_at q)
+  shutdown_begun_sound = admitted q None (Ok (advance_call (Draining (Io 32)) q q.scheduler (telling done_outcome))) (BeginsShutdown q) (λ h c b. kept c q h (advances_spends _ _ _ _ _ c b).scheduler) (shuts_at q)
 
 abbrev pub Holding : Call → Type 0
 Holding c = Passes c.receiver.scheduler
 
-holding : (z : Step) → Goes Sound z → Goes Holding z
+holding : (z : Result Call states.Refusal) → Goes Sound z → Goes Holding z
 holding z h = then_goes Sound Holding z (λ c k. passes c.receiver.scheduler k) h
 
 -- ---- of the calls
-abbrev HoldingIn : ReceiverAnswer → Type 0
-HoldingIn (made.Of q) = Passes q.scheduler
-HoldingIn (made.Refused r) = Unit {0}
+abbrev HoldingIn : Result ReceiverState states.Refusal → Type 0
+HoldingIn (Ok q) = Passes q.scheduler
+HoldingIn (Err r) = Unit {0}
 
 pub new_passes : Keeps 0 new_kinds.ps new_kinds.r new.Learnt (λ κs a z. HoldingIn z)
 new_passes κs a z p = subst HoldingIn (sym (ReceiverState-new-says κs a z p.0 p.1)) (by (sound_of a.0) refl)
   where
-    by : (c : Checked) → sound_of a.0 ≡ c → HoldingIn (receiver_from c)
-    by (checked.Sound u) e = passes u (sound u a.0 (sym e))
-    by (checked.Refused r) e = tt
+    by : (c : Result RingBufferScheduler Refusal) → sound_of a.0 ≡ c → HoldingIn (receiver_from c)
+    by (Ok u) e = passes u (sound u a.0 (sym e))
+    by (Err r) e = tt
 
 pub begin_read_passes : Keeps 0 begin_read_kinds.ps begin_read_kinds.r begin_read.Learnt (λ κs a z. Goes Holding z)
 begin_read_passes κs a z p = holding z (subst (Goes Sound) (sym (begin_read_says κs a z p.0 p.1)) (read_begun_sound a.0 a.1.0 a.1.1.0 a.1.1.1.0))

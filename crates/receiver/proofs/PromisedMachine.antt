@@ -1,5 +1,6 @@
 -- Promises of the machine, of its calls: what each comes to, by the cases of specs/Cases.antt, and the pending count over any answers that
 -- a host hands in.
+use Rattle.std.proofs.Common.{Result}
 use Prim.Native.Nat.{ℕ, ◌+◌}
 use mathlib.Core.Path.{◌≡◌, sym, ap, subst, ◌∙◌}
 use mathlib.Core.List.{List}
@@ -14,7 +15,6 @@ use Rattle.receiver.specs.Call.{answered_of}
 use Rattle.receiver.specs.Cases.{a_want, BeginsRead, BeginsService, BeginsShutdown, Answered, Goes}
 use Rattle.receiver.specs.Handed.{Handed, step_of, handed_to, all_sent_to, all_whole_to}
 use Rattle.receiver.specs.declared.call.Call.{Call}
-use Rattle.receiver.specs.declared.call.Step.{Step}
 use Rattle.receiver.proofs.call.Call.begin_read.Kinds as begin_read_kinds
 use Rattle.receiver.proofs.call.Call.begin_read.Reads as begin_read
 use Rattle.receiver.proofs.call.Call.begin_service.Kinds as begin_service_kinds
@@ -23,6 +23,7 @@ use Rattle.receiver.proofs.call.Call.begin_shutdown.Kinds as begin_shutdown_kind
 use Rattle.receiver.proofs.call.Call.begin_shutdown.Reads as begin_shutdown
 use Rattle.receiver.proofs.call.Call.answered.Kinds as answered_kinds
 use Rattle.receiver.proofs.call.Call.answered.Reads as answered
+use Rattle.states.specs.declared.refusal.Refusal.{Refusal}
 
 -- ---- of the calls
 pub begin_read_promised : Keeps 0 begin_read_kinds.ps begin_read_kinds.r begin_read.Learnt (λ κs a z. Goes (BeginsRead a.0 (a_want a.1.1.0 a.1.1.1.0)) z)
@@ -40,12 +41,12 @@ answered_promised κs a z p =
     subst (Goes (Answered a.0 a.1.0.now a.1.1.0)) (sym (answered_says κs a z p.0 p.1)) (answers a.0 a.1.0.now a.1.1.0 a.1.1.1.0)
 
 -- ---- the pending sum, of the call: whatever function of a host's answers its contract allows, somewhere in memory
-abbrev pub Answers : Call → Handed → Step → Type 0
+abbrev pub Answers : Call → Handed → Result Call Refusal → Type 0
 Answers c h z = (κs : Lfts 1) × ((ring : Bor (List ℕ)) × (ring.now ≡ h.ring) × Allows 1 answered_kinds.ps answered_kinds.r answered.Learnt κs (c, (ring, (h.answer, (h.place, tt)))) z)
 
-pub answers_are : (c : Call) (h : Handed) (z : Step) → Answers c h z → z ≡ step_of c h
+pub answers_are : (c : Call) (h : Handed) (z : Result Call Refusal) → Answers c h z → z ≡ step_of c h
 answers_are c h z (κs, (ring, e, p)) = answered_says κs (c, (ring, (h.answer, (h.place, tt)))) z p.0 p.1 ∙ ap (λ (r : List ℕ). answered_of c r h.answer h.place) e
 
-pub pending_promised : (answers : Call → Handed → Step) → ((c : Call) (h : Handed) → Answers c h (answers c h)) → (hs : List Handed) (c : Call) → Made c →
+pub pending_promised : (answers : Call → Handed → Result Call Refusal) → ((c : Call) (h : Handed) → Answers c h (answers c h)) → (hs : List Handed) (c : Call) → Made c →
     (handed_to answers c hs).receiver.pending_ack_count + all_sent_to answers c hs ≡ c.receiver.pending_ack_count + all_whole_to answers c hs
 pending_promised answers allowed = handed_sum answers (λ c h. answers_are c h (answers c h) (allowed c h))

@@ -1,5 +1,6 @@
 -- Which part overflowed: whatever the attached contract of `answered` allows keeps specs/Overflow.antt. By the cases of the machine, of
 -- which a byte 0 leaves two: a chunk is announced, or its header violates.
+use Rattle.std.proofs.Common.{Some, None}
 use Prim.Native.Nat.{ℕ, ◌+◌, ◌%◌, ◌^◌, ◌≤◌}
 use mathlib.Core.Path.{◌≡◌, refl, sym, ap, subst, ◌∙◌}
 use mathlib.Core.Bool.{true, false}
@@ -21,7 +22,6 @@ use Rattle.states.specs.declared.answer.Shut.{Shut}
 use Rattle.states.specs.declared.state.Failure.{Failure}
 use Rattle.states.specs.declared.state.Failure.TheVariants.{Protocol}
 use Rattle.states.specs.declared.state.OperationalState.TheVariants.{Terminated}
-use Rattle.states.specs.declared.state.PotentialFailure.TheVariants.{Some, None}
 use Rattle.states.specs.declared.state.Violation.{Violation}
 use Rattle.receiver.proofs.CaseSteps.{then_goes}
 use Rattle.receiver.proofs.PromisedMachine.{answered_promised}
@@ -67,7 +67,7 @@ module _ (q : ReceiverState) (s : RingBufferScheduler) where
   flushing e _ (sends b) = refl
 
   dropped : (f : Failure) (e ending : Ending) → Meets (Some f) e ending → e.told ≡ false → ending.outcome ≡ e.outcome
-  dropped f _ _ is_told d = let z : ◌≡◌ {A = ℕ} 0 1 = cc in absurd (omega arith)
+  dropped f _ _ is_told d = cc
   dropped f _ _ is_dropped d = refl
 
   serving : (e : Ending) → e.told ≡ false → (c : Call) → Serves q s e c → coming_to c.phase ≡ e.outcome
@@ -76,8 +76,8 @@ module _ (q : ReceiverState) (s : RingBufferScheduler) where
 
 -- bytes are no failure
 no_failure_lem : (q : ReceiverState) (asked : ℕ) (b : Beside) (f : Failure) (c : Call) → HandsOut q asked b c → EndsWith f c.phase → ⊥
-no_failure_lem q asked b f c (a_part l r h) k = let e = ap came_of (sym (serving _ _ _ refl c h) ∙ coming f c.phase k) in let z : ◌≡◌ {A = ℕ} 0 1 = cc in omega arith
-no_failure_lem q asked b f c (all_of_it l r h) k = let e = ap came_of (sym (serving _ _ _ refl c h) ∙ coming f c.phase k) in let z : ◌≡◌ {A = ℕ} 0 1 = cc in omega arith
+no_failure_lem q asked b f c (a_part l r h) k = let e = ap came_of (sym (serving _ _ _ refl c h) ∙ coming f c.phase k) in cc
+no_failure_lem q asked b f c (all_of_it l r h) k = let e = ap came_of (sym (serving _ _ _ refl c h) ∙ coming f c.phase k) in cc
 
 -- ---- a failure that terminates is what the call ends with, and the scheduler stays
 abbrev dropping : Failure → Ending
@@ -112,7 +112,7 @@ module _ (f : Failure) (q : ReceiverState) (s : RingBufferScheduler) (c : Call) 
 
 -- ---- what a call is sure to end with it ends with, whatever is answered
 is_kept : (f g : Failure) (e ending : Ending) → Meets (Some g) e ending → e ≡ dropping f → ending ≡ dropping f
-is_kept f g _ _ is_told p = let d : true ≡ false = ap (λ (x : Ending). x.told) p in let z : ◌≡◌ {A = ℕ} 0 1 = cc in absurd (omega arith)
+is_kept f g _ _ is_told p = let d : true ≡ false = ap (λ (x : Ending). x.told) p in cc
 is_kept f g _ _ is_dropped p = p
 
 shut_kept : (f : Failure) (q : ReceiverState) (s : RingBufferScheduler) (x : Shut) (e : Call) → TakesShut q s (dropping f) x e → EndsWith f e.phase
@@ -151,7 +151,7 @@ module _ (L h : ℕ) (b : Beside) where
       let i : 5 ≡ k = cc in
       let e : h % 2 ^ 48 ≡ n = cc in
       let f : room ≡ r = cc in ((λ z. absurd (omega (arith, i, z))), (λ z. record { known = c; length = sym e; behind = omega (arith, f, a); above = omega (arith, d, e, f) }))
-  by_number_lem k n r _ (accepted a c d) p = let z : ◌≡◌ {A = ℕ} 0 1 = cc in absurd (omega arith)
+  by_number_lem k n r _ (accepted a c d) p = cc
 
   -- and always then
   comes : (k n r : ℕ) (x : Said) → Announces L h b x → x ≡ violates k n r → (m l : ℕ) →
@@ -166,7 +166,7 @@ module _ (L h : ℕ) (b : Beside) where
       let e : 5 ≡ k = cc in
       let f : h % 2 ^ 48 ≡ n = cc in
       let w : room ≡ r = cc in ((λ o. absurd (omega (arith, a, o.eight, o.whole, o.above))), (λ o. (sym e, sym f ∙ sym o.length, omega (arith, w, a, o.behind))))
-  comes k n r _ (accepted a c d) p m l = let z : ◌≡◌ {A = ℕ} 0 1 = cc in absurd (omega arith)
+  comes k n r _ (accepted a c d) p m l = cc
 
 -- ---- the two cases
 module _ (c : Call) (ring : List ℕ) (e : Call) where
@@ -226,8 +226,8 @@ module _ (c : Call) (ring : List ℕ) (e : Call) where
   heard w s _ fds (announces a k o) p = of_chunk _ _ _ _ _ _ a o
   heard w s _ fds (header_violates a num f) p = of_violation _ _ _ _ _ a num s f
   heard w s _ fds (byte_violates {byte} z num f) p = let y : byte ≡ 0 = cc in absurd (z y)
-  heard w s _ fds (receive_blocks b) p = let z : ◌≡◌ {A = ℕ} 0 1 = cc in absurd (omega arith)
-  heard w s _ fds (receive_fails n f) p = let z : ◌≡◌ {A = ℕ} 0 1 = cc in absurd (omega arith)
+  heard w s _ fds (receive_blocks b) p = cc
+  heard w s _ fds (receive_fails n f) p = cc
 
   module _ (a : Answer) (hears : Hears c a) where
     abbrev w : Wanted

@@ -1,4 +1,5 @@
 -- The rule keeps what specs/Promise.antt says of it: what a header says.
+use Rattle.std.proofs.Common.{Result, Ok, Err}
 use Prim.Native.Nat.{ℕ, ◌+◌, ◌/◌, ◌%◌, ◌^◌, ◌<◌, ◌≤◌}
 use mathlib.Core.Path.{◌≡◌, refl, subst}
 use mathlib.Core.Bool.{Bool, true, false}
@@ -21,16 +22,16 @@ use Rattle.receiver.proofs.ChunkLaws.{holds}
 use Rattle.receiver.specs.Promise.{Said, body, violates, Announces, no_room_for_a_header, format_unknown, length_0, too_long, accepted}
 use Rattle.receiver.specs.Receiver.{header_in, announced_in}
 use Rattle.states.specs.State.{behind_header, violation_number, overflow_in}
-use Rattle.receiver.specs.declared.announcement.Announced.{Announced}
-use Rattle.receiver.specs.declared.announcement.Announced.TheVariants as announcement
 use Rattle.receiver.specs.declared.receiver.Beside.{Beside}
 use Rattle.states.specs.declared.state.Failure.TheVariants.{Io, Protocol}
+use Rattle.receiver.specs.declared.announcement.Announced.{Announced}
+use Rattle.states.specs.declared.state.Failure.{Failure}
 
 -- ---- announcements
-abbrev pub said_by : Announced → Said
-said_by (announcement.Chunk u b) = body (data_in u) b
-said_by (announcement.Failed (Protocol v)) = violates (violation_number v) (overflow_in v).needed (overflow_in v).room
-said_by (announcement.Failed (Io e)) = violates 0 0 0
+abbrev pub said_by : Result Announced Failure → Said
+said_by (Ok m) = body (data_in m.scheduler) m.beside
+said_by (Err (Protocol v)) = violates (violation_number v) (overflow_in v).needed (overflow_in v).room
+said_by (Err (Io e)) = violates 0 0 0
 
 top_bits : (h : ℕ) → eqb (h / 2 ^ 62) 0 ≡ true → h < 2 ^ 62
 top_bits h e = let l : h % 2 ^ 62 < 2 ^ 62 = mod-lt h (omega arith) in omega (arith, eqb-true (h / 2 ^ 62) 0 e, div-add-mod' h (2 ^ 62), l)

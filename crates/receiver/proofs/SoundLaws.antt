@@ -1,36 +1,42 @@
--- What the scheduler answers to a sound record, and that it does not refuse.
-use Prim.Native.Nat.{ℕ, ◌≤◌, min}
-use mathlib.Core.Path.{◌≡◌, ap, ◌∙◌}
-use native.Mathlib.Omega.{arith}
-use Rattle.sched.proofs.Laws.{sound_is}
-use Rattle.operations.specs.declared.counter.AmountAnswer.TheVariants as amount
-use Rattle.operations.specs.declared.operation.OperationType.{OperationType}
-use Rattle.operations.specs.declared.refusal.Refusal.{Refusal}
-use Rattle.sched.specs.declared.register.Move.{Move}
-use Rattle.sched.specs.declared.register.MoveAnswer.TheVariants as moves
-use Rattle.sched.specs.declared.scheduler.RingBufferScheduler.{RingBufferScheduler}
-use Rattle.sched.specs.Scheduler.{IsSound, greatest_in, greatest_of, advanced_in, move_in, move_of}
+-- What the machine makes of a sound record is sound, by the cases.
+use Rattle.std.proofs.Common.{Ok, ℕ}
+use Prim.Native.Nat.{ℕ}
+use mathlib.Core.Path.{◌≡◌, sym, subst}
+use Rattle.sched.specs.Scheduler.{IsSound}
+use Rattle.receiver.specs.Call.{resumed_of}
+use Rattle.receiver.specs.Cases.{Resumes, HandsOut, a_part, all_of_it, BeginsRead, is_terminated, none_asked, awaits, holds_data, ResumesIn, Goes}
+use Rattle.receiver.specs.declared.call.Call.{Call}
+use Rattle.receiver.specs.declared.call.Phase.{Phase}
+use Rattle.receiver.specs.declared.call.Phase.TheVariants as phase
+use Rattle.receiver.specs.declared.call.Wanted.{Wanted}
+use Rattle.receiver.specs.declared.receiver.Beside.{Beside}
+use Rattle.receiver.specs.declared.receiver.ReceiverState.{ReceiverState}
+use Rattle.receiver.proofs.CaseSteps.{resumes_by}
+use Rattle.receiver.proofs.StepLaws.{closes_spends, serves_spends}
 
-module _ (s : RingBufferScheduler) (h : IsSound s) (t : OperationType) where
-  greatest : amount.Of (greatest_in s t) ≡ greatest_of s t
-  greatest = rw (← sound_is s h)
+abbrev Sound : Call → Type 0
+Sound c = IsSound c.receiver.scheduler
 
-  pub greatest_is : (n : ℕ) → amount.Of n ≡ greatest_of s t → n ≡ greatest_in s t
-  greatest_is n p = cc greatest
+pub kept : (c : Call) (q : ReceiverState) → IsSound q.scheduler → c.receiver.scheduler ≡ q.scheduler → Sound c
+kept c q h e = subst IsSound (sym e) h
 
-  pub greatest_told : (e : Refusal) → amount.Refused e ≡ greatest_of s t → ⊥
-  greatest_told e p = let z : ◌≡◌ {A = ℕ} 0 1 = cc greatest in omega arith
+pub hands_sound : (q : ReceiverState) (asked : ℕ) (b : Beside) (c : Call) → HandsOut q asked b c → Sound c
+hands_sound q asked b c (a_part {u} l r h) = subst IsSound (sym (serves_spends _ _ _ c h).scheduler) r.sound
+hands_sound q asked b c (all_of_it {u} l r h) = subst IsSound (sym (serves_spends _ _ _ c h).scheduler) r.sound
 
-  module _ (n : ℕ) where
-    move : moves.Of (move_in s t n) ≡ move_of s t n
-    move = rw (← sound_is s h)
+module _ (q : ReceiverState) (h : IsSound q.scheduler) where
+  pub reads_sound : (w : Wanted) (c : Call) → BeginsRead q w c → Sound c
+  reads_sound w _ (is_terminated p) = h
+  reads_sound w _ (none_asked l p) = h
+  reads_sound w _ (awaits r p) = h
+  reads_sound w c (holds_data r p o) = hands_sound q w.dst_len _ c o
 
-    pub move_is : (m : Move) → moves.Of m ≡ move_of s t n → m ≡ move_in s t n
-    move_is m p = cc move
+pub resumes_sound : (c d : Call) → Sound c → (ph : Phase) → ResumesIn ph c d → Sound d
+resumes_sound c d h (phase.Receive w) r = reads_sound c.receiver h w d r
+resumes_sound c d h (phase.Send batch e) r = kept d c.receiver h (serves_spends c.receiver c.source e d r).scheduler
+resumes_sound c d h (phase.Shutdown e) r = kept d c.receiver h (closes_spends c.receiver c.source e d r).scheduler
+resumes_sound c d h (phase.Finished o) r = subst Sound (sym r) h
 
-    pub move_told : (e : Refusal) → moves.Refused e ≡ move_of s t n → ⊥
-    move_told e p = let z : ◌≡◌ {A = ℕ} 0 1 = cc move in omega arith
-
-  -- a move of no more than there is moves all of it
-  pub moves_all : (n : ℕ) → n ≤ greatest_in s t → (m : Move) → m ≡ move_in s t n → m.scheduler ≡ advanced_in s t n
-  moves_all n g m p = ap (λ (x : Move). x.scheduler) p ∙ ap (advanced_in s t) (let e : min n (greatest_in s t) ≡ n = omega (arith, g) in e)
+-- a call that the rules make of a sound record
+pub resumed_sound : (c d : Call) → Sound c → Ok d ≡ resumed_of c → Sound d
+resumed_sound c d h e = resumes_sound c d h c.phase (subst (Goes (Resumes c)) (sym e) (resumes_by c h c.phase))

@@ -1,4 +1,5 @@
 -- What each step of a call comes to, by the cases of specs/Cases.antt: the scheduler that it copies by, the outcome, the pending count.
+use Rattle.std.proofs.Common.{Option}
 use Prim.Native.Nat.{ℕ, ◌+◌, ◌≤◌, min}
 use mathlib.Core.Path.{◌≡◌, refl, ap, ◌∙◌}
 use mathlib.Core.Bool.{Bool, cond, true, false}
@@ -32,7 +33,6 @@ use Rattle.receiver.specs.declared.receiver.ReceiverState.{ReceiverState}
 use Rattle.states.specs.declared.state.Failure.{Failure}
 use Rattle.states.specs.declared.state.Failure.TheVariants.{Io}
 use Rattle.states.specs.declared.state.OperationalState.{OperationalState}
-use Rattle.states.specs.declared.state.PotentialFailure.{PotentialFailure}
 
 -- ---- outcomes
 -- an ending comes to its own outcome, or to a failure that it tells
@@ -51,7 +51,7 @@ own_end e = by e.outcome e.told
 comes_to : (e : Ending) (o : Outcome) → ComesTo e o → Ends e o
 comes_to e _ its_own = own_end e
 
-met_end : (f : PotentialFailure) (e ending : Ending) (o : Outcome) → Meets f e ending → Ends ending o → Ends e o
+met_end : (f : Option Failure) (e ending : Ending) (o : Outcome) → Meets f e ending → Ends ending o → Ends e o
 met_end _ e _ o none_met h = h
 met_end _ _ _ _ is_told as_told = told_failure
 met_end _ _ _ _ is_told told_failure = told_failure
@@ -77,7 +77,7 @@ QuietIn (phase.Send batch e) = Quiet e
 QuietIn (phase.Shutdown e) = Quiet e
 QuietIn (phase.Finished o) = Unit {0}
 
-met_quiet : (f : PotentialFailure) (e ending : Ending) → Meets f e ending → Quiet e → Quiet ending
+met_quiet : (f : Option Failure) (e ending : Ending) → Meets f e ending → Quiet e → Quiet ending
 met_quiet _ e _ none_met h = h
 met_quiet _ _ _ is_told h = tt
 met_quiet _ _ _ is_dropped h = tt
@@ -118,7 +118,7 @@ module _ (q : ReceiverState) (s : RingBufferScheduler) (e : Ending) where
   serves_spends c (flushes h f) = flushes_spends c f
 
 module _ (q : ReceiverState) (s : RingBufferScheduler) (e : Ending) where
-  pub advances_spends : (to : OperationalState) (f : PotentialFailure) (c : Call) → Advances to f q s e c → Spends q s e 0 c
+  pub advances_spends : (to : OperationalState) (f : Option Failure) (c : Call) → Advances to f q s e c → Spends q s e 0 c
   advances_spends to f c h =
       let k = closes_spends _ s h.ending c h.closes in
       record { source = k.source; scheduler = k.scheduler; counts = k.counts; ends = met_end f e h.ending _ h.met k.ends; quiet = λ l. k.quiet (met_quiet f e h.ending h.met l); settled = k.settled }
@@ -204,14 +204,14 @@ module _ (q : ReceiverState) (s : RingBufferScheduler) (ring : List ℕ) (w : Wa
   pub took : (x : Received) (c : Call) → TakesReceived q s ring w x c → (x ≢ received.Misfit) × Took q s w.dst_len c
   took _ c (announces {n = n} {b} {u} h k o) =
       let holds : 1 ≤ data_in u = omega (arith, k.filling.more, some_body _ _ n _ b h) in (
-        (λ z. let y : ◌≡◌ {A = ℕ} 0 1 = cc in omega arith),
+        (λ z. cc),
         handed _ n b k refl (hands _ w.dst_len b some holds c o),
       )
-  took _ c (header_violates h k o) = ((λ z. let y : ◌≡◌ {A = ℕ} 0 1 = cc in omega arith), failed _ (advances_spends q s _ _ _ c o))
-  took _ c (byte_violates h k o) = ((λ z. let y : ◌≡◌ {A = ℕ} 0 1 = cc in omega arith), failed _ (advances_spends q s _ _ _ c o))
-  took _ c (receive_fails h o) = ((λ z. let y : ◌≡◌ {A = ℕ} 0 1 = cc in omega arith), failed _ (advances_spends q s _ _ _ c o))
-  took _ c (receive_blocks (is_drained p o)) = ((λ z. let y : ◌≡◌ {A = ℕ} 0 1 = cc in omega arith), failed _ (advances_spends q s _ _ _ c o))
+  took _ c (header_violates h k o) = ((λ z. cc), failed _ (advances_spends q s _ _ _ c o))
+  took _ c (byte_violates h k o) = ((λ z. cc), failed _ (advances_spends q s _ _ _ c o))
+  took _ c (receive_fails h o) = ((λ z. cc), failed _ (advances_spends q s _ _ _ c o))
+  took _ c (receive_blocks (is_drained p o)) = ((λ z. cc), failed _ (advances_spends q s _ _ _ c o))
   took _ _ (receive_blocks (goes_on p)) = (
-    (λ z. let y : ◌≡◌ {A = ℕ} 0 1 = cc in omega arith),
+    (λ z. cc),
     failed (Io 11) (record { source = refl; scheduler = refl; counts = omega arith; ends = as_dropped; quiet = λ h. tt; settled = tt }),
   )

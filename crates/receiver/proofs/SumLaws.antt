@@ -50,14 +50,14 @@ says_shut a _ (no_shutdown f g) n = absurd (n refl)
 
 -- an answer that does not fit is not taken
 pub sent_taken : (q : ReceiverState) (s : RingBufferScheduler) (e : Ending) (x : Sent) (c : Call) → TakesSent q s e x c → x ≢ sent.Misfit
-sent_taken q s e _ c (none_went h) = λ z. let y : ◌≡◌ {A = ℕ} 0 1 = cc in omega arith
-sent_taken q s e _ c (some_went l m h) = λ z. let y : ◌≡◌ {A = ℕ} 0 1 = cc in omega arith
-sent_taken q s e _ _ (send_blocks t) = λ z. let y : ◌≡◌ {A = ℕ} 0 1 = cc in omega arith
-sent_taken q s e _ c (send_fails n h) = λ z. let y : ◌≡◌ {A = ℕ} 0 1 = cc in omega arith
+sent_taken q s e _ c (none_went h) = λ z. cc
+sent_taken q s e _ c (some_went l m h) = λ z. cc
+sent_taken q s e _ _ (send_blocks t) = λ z. cc
+sent_taken q s e _ c (send_fails n h) = λ z. cc
 
 shut_taken : (q : ReceiverState) (s : RingBufferScheduler) (e : Ending) (x : Shut) (c : Call) → TakesShut q s e x c → x ≢ shut.Misfit
-shut_taken q s e _ _ (is_shut t) = λ z. let y : ◌≡◌ {A = ℕ} 0 1 = cc in omega arith
-shut_taken q s e _ _ (is_not m t) = λ z. let y : ◌≡◌ {A = ℕ} 0 1 = cc in omega arith
+shut_taken q s e _ _ (is_shut t) = λ z. cc
+shut_taken q s e _ _ (is_not m t) = λ z. cc
 
 -- ---- the sum: what is pending and what was sent, against what was pending and what was handed out whole
 module _ (c : Call) (ring : List ℕ) (a : Answer) (d : Call) where
@@ -89,7 +89,7 @@ module _ (c : Call) (ring : List ℕ) (a : Answer) (d : Call) where
       spends_sums e (sent_in x) (ap (λ (y : Phase). whole_in c.receiver (coming_to y)) p) h (says_sent a batch x says (sent_taken _ _ e x d t)) (sent_spends c.receiver c.source e x d t)
   step_sums (phase.Shutdown e) p w h (x, says, t) =
       spends_sums e 0 (ap (λ (y : Phase). whole_in c.receiver (coming_to y)) p) h (says_shut a x says (shut_taken _ _ e x d t)) (shut_spends c.receiver c.source e x d t)
-  step_sums (phase.Finished o) p w h t = let y : ◌≡◌ {A = ℕ} 0 1 = cc in absurd (omega arith)
+  step_sums (phase.Finished o) p w h t = cc
 
 -- ---- the beginnings
 module _ (q : ReceiverState) where

@@ -1,20 +1,14 @@
 -- The machine: what a call in progress becomes with each answer. A call of the machine comes to a step: the call as it goes on, or
 -- why it is refused, and then the call stays what it was.
-use Rattle.std.specs.Prelude.{ℕ, ◌-◌, ◌^◌, ◌<◌, ◌≤◌, ◌≡◌, Bool, cond, true, false, List, eqb, length}
+use Rattle.std.specs.Prelude.{ℕ, ◌-◌, ◌^◌, ◌<◌, ◌≤◌, ◌≡◌, Bool, cond, true, false, List, eqb, length, Result, Ok, Err, Option, Some, None, ⊤}
 use Rattle.operations.specs.declared.operation.OperationType.TheVariants.{Read}
 use Rattle.sched.specs.declared.register.Move.{Move}
 use Rattle.sched.specs.declared.scheduler.RingBufferScheduler.{RingBufferScheduler}
-use Rattle.sched.specs.Scheduler.{IsSound, data_in, move_in}
+use Rattle.sched.specs.Scheduler.{data_in, move_in}
 use Rattle.receiver.specs.Admission.{admission_of}
 use Rattle.states.specs.Answer.{interrupted_of, received_of, sent_of, shut_of}
 use Rattle.states.specs.State.{failure_in, is_errno, advance_in}
 use Rattle.receiver.specs.Receiver.{read_outcome, failed_outcome, done_outcome, with_scheduler, with_state, with_pending, with_shutdown, batch_in, by_sent, none_beside, beside_byte, byte_in, handed_in}
-use Rattle.receiver.specs.declared.admission.Admission.{Admission}
-use Rattle.receiver.specs.declared.admission.Admission.TheVariants as admission
-use Rattle.receiver.specs.declared.admission.Memory.{Memory}
-use Rattle.receiver.specs.declared.admission.Memory.TheVariants as memory
-use Rattle.receiver.specs.declared.announcement.Announced.{Announced}
-use Rattle.receiver.specs.declared.announcement.Announced.TheVariants as announced
 use Rattle.states.specs.declared.answer.Answer.{Answer}
 use Rattle.states.specs.declared.answer.Received.{Received}
 use Rattle.states.specs.declared.answer.Received.TheVariants as received
@@ -24,10 +18,8 @@ use Rattle.receiver.specs.declared.call.Call.{Call}
 use Rattle.receiver.specs.declared.call.Ending.{Ending}
 use Rattle.receiver.specs.declared.call.Phase.{Phase}
 use Rattle.receiver.specs.declared.call.Phase.TheVariants as phase
-use Rattle.receiver.specs.declared.call.Step.{Step}
 use Rattle.receiver.specs.declared.call.Wanted.{Wanted}
 use Rattle.receiver.specs.declared.going.Going.{Going}
-use Rattle.receiver.specs.declared.call.Step.TheVariants as step
 use Rattle.receiver.specs.declared.receiver.Beside.{Beside}
 use Rattle.receiver.specs.declared.receiver.Outcome.{Outcome}
 use Rattle.receiver.specs.declared.receiver.ReceiverState.{ReceiverState}
@@ -36,8 +28,8 @@ use Rattle.states.specs.declared.state.Failure.{Failure}
 use Rattle.states.specs.declared.state.Failure.TheVariants.{Io}
 use Rattle.states.specs.declared.state.OperationalState.{OperationalState}
 use Rattle.states.specs.declared.state.OperationalState.TheVariants.{Normal, Draining, Terminated}
-use Rattle.states.specs.declared.state.PotentialFailure.{PotentialFailure}
-use Rattle.states.specs.declared.state.PotentialFailure.TheVariants.{Some, None}
+use Rattle.receiver.specs.declared.announcement.Announced.{Announced}
+use Rattle.states.specs.declared.refusal.Refusal.{Refusal}
 
 abbrev pub call : ReceiverState → RingBufferScheduler → Phase → Call
 call q s p = record { receiver = q; source = s; phase = p }
@@ -82,7 +74,7 @@ advance_call to q s e = shutdown_call (with_state q (advance_in q.state to)) s e
 unfoldable pub flush_call : ReceiverState → RingBufferScheduler → Ending → Call
 flush_call q s e = cond (eqb q.pending_ack_count 0) (finished_call q s e.outcome) (call q s (phase.Send (batch_in q) e))
 
-abbrev pub service_call_by : PotentialFailure → ReceiverState → RingBufferScheduler → Ending → Call
+abbrev pub service_call_by : Option Failure → ReceiverState → RingBufferScheduler → Ending → Call
 service_call_by (Some f) q s e = finished_call q s (told_in f e).outcome
 service_call_by None q s e = flush_call q s e
 
@@ -104,27 +96,22 @@ abbrev pub unsent_call : ℕ → ReceiverState → RingBufferScheduler → Endin
 unsent_call n q s e = cond (eqb n 11) (finished_call q s e.outcome) (drain_call (Io n) q s e)
 
 -- an answer that the place cannot have is 12
-abbrev pub after_send : ReceiverState → RingBufferScheduler → Ending → Answer → ℕ → Step
+abbrev pub after_send : ReceiverState → RingBufferScheduler → Ending → Answer → ℕ → Result Call Refusal
 after_send q s e a place =
-    by_sent (sent_of (batch_in q) a) (λ n. step.Of (sent_call n q s e)) (λ n. step.Of (unsent_call n q s e)) (step.Refused (Misfit place))
+    by_sent (sent_of (batch_in q) a) (λ n. Ok (sent_call n q s e)) (λ n. Ok (unsent_call n q s e)) (Err (Misfit place))
 
-abbrev pub after_shut : Shut → ReceiverState → RingBufferScheduler → Ending → ℕ → Step
-after_shut shut.Done q s e place = step.Of (finished_call (with_shutdown q) s e.outcome)
-after_shut (shut.Failed n) q s e place = step.Of (finished_call q s (told_in (Io n) e).outcome)
-after_shut shut.Misfit q s e place = step.Refused (Misfit place)
+abbrev pub after_shut : Shut → ReceiverState → RingBufferScheduler → Ending → ℕ → Result Call Refusal
+after_shut shut.Done q s e place = Ok (finished_call (with_shutdown q) s e.outcome)
+after_shut (shut.Failed n) q s e place = Ok (finished_call q s (told_in (Io n) e).outcome)
+after_shut shut.Misfit q s e place = Err (Misfit place)
 
-abbrev pub after_shutdown : ReceiverState → RingBufferScheduler → Ending → Answer → ℕ → Step
+abbrev pub after_shutdown : ReceiverState → RingBufferScheduler → Ending → Answer → ℕ → Result Call Refusal
 after_shutdown q s e a place = after_shut (shut_of a) q s e place
 
 -- ---- reading
 -- an acknowledgement more can be pending
 abbrev pub Counts : ReceiverState → Type 0
 Counts q = q.pending_ack_count < 2 ^ 64 - 1
-
--- bytes can be handed out
-pub record Handing (q : ReceiverState) : Type 0 where
-  pub sound : IsSound q.scheduler
-  pub counted : Counts q
 
 -- as many as the scheduler moves, and its record after them
 abbrev pub hand_out_by : Move → Beside → ReceiverState → Call
@@ -144,19 +131,14 @@ blocked_by (Terminated f) q s = failed_call (Io 11) q s
 abbrev pub blocked_call : ReceiverState → RingBufferScheduler → Call
 blocked_call q s = blocked_by q.state q s
 
--- a chunk's scheduler is sound, and an acknowledgement more can be pending
-abbrev pub Announces : Announced → ReceiverState → Type 0
-Announces (announced.Chunk s b) q = IsSound s × Counts q
-Announces (announced.Failed f) q = Unit {0}
+abbrev pub announced_call : Result Announced Failure → Wanted → ReceiverState → RingBufferScheduler → Call
+announced_call (Ok m) w q s = hand_out_call w.dst_len m.beside (with_scheduler q m.scheduler)
+announced_call (Err f) w q s = cond (is_errno f 11) (blocked_call q s) (failed_call f q s)
 
-abbrev pub announced_call : Announced → Wanted → ReceiverState → RingBufferScheduler → Call
-announced_call (announced.Chunk u b) w q s = hand_out_call w.dst_len b (with_scheduler q u)
-announced_call (announced.Failed f) w q s = cond (is_errno f 11) (blocked_call q s) (failed_call f q s)
-
-abbrev pub after_receive : ReceiverState → RingBufferScheduler → List ℕ → Received → Wanted → ℕ → Step
-after_receive q s ring (received.Byte byte fds) w place = step.Of (announced_call (byte_in ring q.scheduler byte (beside_byte fds)) w q s)
-after_receive q s ring (received.Failed n) w place = step.Of (announced_call (announced.Failed (Io n)) w q s)
-after_receive q s ring received.Misfit w place = step.Refused (Misfit place)
+abbrev pub after_receive : ReceiverState → RingBufferScheduler → List ℕ → Received → Wanted → ℕ → Result Call Refusal
+after_receive q s ring (received.Byte byte fds) w place = Ok (announced_call (byte_in ring q.scheduler byte (beside_byte fds)) w q s)
+after_receive q s ring (received.Failed n) w place = Ok (announced_call (Err (Io n)) w q s)
+after_receive q s ring received.Misfit w place = Err (Misfit place)
 
 -- where a byte was received, the ring has the scheduler's length
 abbrev pub ByteSized : Received → ℕ → ReceiverState → Type 0
@@ -165,36 +147,36 @@ ByteSized (received.Failed e) n q = Unit {0}
 ByteSized received.Misfit n q = Unit {0}
 
 -- in order: the empty destination, 13, the announcement if there is no data
-abbrev pub live_call : ReceiverState → Wanted → Step
+abbrev pub live_call : ReceiverState → Wanted → Result Call Refusal
 live_call q w =
-    cond (eqb w.dst_len 0) (step.Of (finished_call q q.scheduler (read_outcome 0 none_beside)))
-    (cond (eqb q.pending_ack_count (2 ^ 64 - 1)) (step.Refused PendingFull)
-    (cond (eqb (data_in q.scheduler) 0) (step.Of (call q q.scheduler (phase.Receive w))) (step.Of (hand_out_call w.dst_len none_beside q))))
+    cond (eqb w.dst_len 0) (Ok (finished_call q q.scheduler (read_outcome 0 none_beside)))
+    (cond (eqb q.pending_ack_count (2 ^ 64 - 1)) (Err PendingFull)
+    (cond (eqb (data_in q.scheduler) 0) (Ok (call q q.scheduler (phase.Receive w))) (Ok (hand_out_call w.dst_len none_beside q))))
 
-abbrev pub read_by : OperationalState → ReceiverState → Wanted → Step
+abbrev pub read_by : OperationalState → ReceiverState → Wanted → Result Call Refusal
 read_by Normal q w = live_call q w
 read_by (Draining f) q w = live_call q w
-read_by (Terminated f) q w = step.Of (finished_call q q.scheduler (failed_outcome f))
+read_by (Terminated f) q w = Ok (finished_call q q.scheduler (failed_outcome f))
 
-abbrev pub read_call : ReceiverState → Wanted → Step
+abbrev pub read_call : ReceiverState → Wanted → Result Call Refusal
 read_call q w = read_by q.state q w
 
 -- ---- the beginnings: the tests, and then the rules
-abbrev pub admitted_step : Admission → Step → Step
-admitted_step admission.Passed x = x
-admitted_step (admission.Refused r) x = step.Refused r
+abbrev pub admitted_step : Result ⊤ Refusal → Result Call Refusal → Result Call Refusal
+admitted_step (Ok tt) x = x
+admitted_step (Err r) x = Err r
 
 abbrev pub wanted : ℕ → ℕ → Wanted
 wanted top asked = record { max_new_fds = top; dst_len = asked }
 
-abbrev pub begin_read_of : ReceiverState → ℕ → ℕ → ℕ → Step
-begin_read_of q n top asked = admitted_step (admission_of q (memory.Of n)) (read_call q (wanted top asked))
+abbrev pub begin_read_of : ReceiverState → ℕ → ℕ → ℕ → Result Call Refusal
+begin_read_of q n top asked = admitted_step (admission_of q (Some n)) (read_call q (wanted top asked))
 
-abbrev pub begin_service_of : ReceiverState → Step
-begin_service_of q = admitted_step (admission_of q memory.None) (step.Of (service_call q q.scheduler (telling done_outcome)))
+abbrev pub begin_service_of : ReceiverState → Result Call Refusal
+begin_service_of q = admitted_step (admission_of q None) (Ok (service_call q q.scheduler (telling done_outcome)))
 
-abbrev pub begin_shutdown_of : ReceiverState → Step
-begin_shutdown_of q = admitted_step (admission_of q memory.None) (step.Of (advance_call (Draining (Io 32)) q q.scheduler (telling done_outcome)))
+abbrev pub begin_shutdown_of : ReceiverState → Result Call Refusal
+begin_shutdown_of q = admitted_step (admission_of q None) (Ok (advance_call (Draining (Io 32)) q q.scheduler (telling done_outcome)))
 
 -- ---- what a driver asks
 -- a call that is over waits for nothing more
@@ -219,31 +201,31 @@ retries_of c a = retries_in c.phase a
 
 -- ---- the call after an answer
 -- the ring is looked at where a byte was received, and only there
-abbrev pub looks_by : Received → ℕ → Memory
-looks_by (received.Byte byte _) n = memory.Of n
-looks_by (received.Failed e) n = memory.None
-looks_by received.Misfit n = memory.None
+abbrev pub looks_by : Received → ℕ → Option ℕ
+looks_by (received.Byte byte _) n = Some n
+looks_by (received.Failed e) n = None
+looks_by received.Misfit n = None
 
-abbrev pub looks_at : Phase → Answer → ℕ → Memory
+abbrev pub looks_at : Phase → Answer → ℕ → Option ℕ
 looks_at (phase.Receive w) a n = looks_by (received_of w.max_new_fds a) n
-looks_at (phase.Send batch e) a n = memory.None
-looks_at (phase.Shutdown e) a n = memory.None
-looks_at (phase.Finished o) a n = memory.None
+looks_at (phase.Send batch e) a n = None
+looks_at (phase.Shutdown e) a n = None
+looks_at (phase.Finished o) a n = None
 
 -- A phase can be made up, and so the rules are asked anew what the call waits for with this record. A call that the machine made is
 -- what they say.
-abbrev pub resumed_by : Phase → Call → Step
+abbrev pub resumed_by : Phase → Call → Result Call Refusal
 resumed_by (phase.Receive w) c = read_call c.receiver w
-resumed_by (phase.Send batch e) c = step.Of (service_call c.receiver c.source e)
-resumed_by (phase.Shutdown e) c = step.Of (shutdown_call c.receiver c.source e)
-resumed_by (phase.Finished o) c = step.Of c
+resumed_by (phase.Send batch e) c = Ok (service_call c.receiver c.source e)
+resumed_by (phase.Shutdown e) c = Ok (shutdown_call c.receiver c.source e)
+resumed_by (phase.Finished o) c = Ok c
 
-abbrev pub resumed_of : Call → Step
+abbrev pub resumed_of : Call → Result Call Refusal
 resumed_of c = resumed_by c.phase c
 
--- a receive is answered of a record that passed its tests
+-- where a receive is answered, an acknowledgement more can be pending, and the ring of a byte has been tested
 abbrev pub StepsBy : Phase → ReceiverState → Answer → ℕ → Type 0
-StepsBy (phase.Receive w) q a n = Handing q × ByteSized (received_of w.max_new_fds a) n q
+StepsBy (phase.Receive w) q a n = Counts q × ByteSized (received_of w.max_new_fds a) n q
 StepsBy (phase.Send batch e) q a n = Unit {0}
 StepsBy (phase.Shutdown e) q a n = Unit {0}
 StepsBy (phase.Finished o) q a n = Unit {0}
@@ -252,21 +234,21 @@ abbrev pub Steps : Call → Answer → ℕ → Type 0
 Steps c a n = StepsBy c.phase c.receiver a n
 
 -- an interruption leaves it waiting; a shutdown is not tried again; a call that is over stays as it is
-abbrev pub stepped_by : Phase → Call → List ℕ → Answer → ℕ → Step
+abbrev pub stepped_by : Phase → Call → List ℕ → Answer → ℕ → Result Call Refusal
 stepped_by (phase.Receive w) c ring a place =
-    cond (interrupted_of a) (step.Of c) (after_receive c.receiver c.source ring (received_of w.max_new_fds a) w place)
-stepped_by (phase.Send batch e) c ring a place = cond (interrupted_of a) (step.Of c) (after_send c.receiver c.source e a place)
+    cond (interrupted_of a) (Ok c) (after_receive c.receiver c.source ring (received_of w.max_new_fds a) w place)
+stepped_by (phase.Send batch e) c ring a place = cond (interrupted_of a) (Ok c) (after_send c.receiver c.source e a place)
 stepped_by (phase.Shutdown e) c ring a place = after_shutdown c.receiver c.source e a place
-stepped_by (phase.Finished o) c ring a place = step.Of c
+stepped_by (phase.Finished o) c ring a place = Ok c
 
-abbrev pub stepped_of : Call → List ℕ → Answer → ℕ → Step
+abbrev pub stepped_of : Call → List ℕ → Answer → ℕ → Result Call Refusal
 stepped_of c ring a place = stepped_by c.phase c ring a place
 
-abbrev pub answered_from : Step → List ℕ → Answer → ℕ → Step
-answered_from (step.Of c) ring a place = stepped_of c ring a place
-answered_from (step.Refused r) ring a place = step.Refused r
+abbrev pub answered_from : Result Call Refusal → List ℕ → Answer → ℕ → Result Call Refusal
+answered_from (Ok c) ring a place = stepped_of c ring a place
+answered_from (Err r) ring a place = Err r
 
 -- 1 to 5, 20, 9 where the ring is looked at, 12 with place 0, as of every call
-abbrev pub answered_of : Call → List ℕ → Answer → ℕ → Step
+abbrev pub answered_of : Call → List ℕ → Answer → ℕ → Result Call Refusal
 answered_of c ring a place =
     admitted_step (admission_of c.receiver (looks_at c.phase a (length ring))) (answered_from (resumed_of c) ring a place)

@@ -1,6 +1,6 @@
 -- The machine, told again by cases and in other words than those of specs/Call.antt, so that a rule that is changed in its place is
 -- seen. Records and calls are told field by field.
-use Rattle.std.specs.Prelude.{ℕ, ◌+◌, ◌-◌, ◌^◌, ◌<◌, ◌≤◌, ◌≡◌, Bool, true, false, List, ◌≢◌, ◌⊎◌}
+use Rattle.std.specs.Prelude.{ℕ, ◌+◌, ◌-◌, ◌^◌, ◌<◌, ◌≤◌, ◌≡◌, Bool, true, false, List, ◌≢◌, ◌⊎◌, Result, Ok, Err, Option, Some, None}
 use Rattle.states.specs.Promise.{Numbered}
 use Rattle.operations.specs.declared.operation.OperationType.TheVariants.{Read}
 use Rattle.sched.specs.declared.scheduler.RingBufferScheduler.{RingBufferScheduler}
@@ -10,8 +10,6 @@ use Rattle.copies.specs.Promises.{number_at}
 use Rattle.states.specs.Promise.{AByte, SaysReceived, SaysSent, SaysShut, Advanced, Holds}
 use Rattle.states.specs.Promise.{Batch}
 use Rattle.receiver.specs.Promise.{nothing_more, with_descriptors, Said, body, violates, Announces}
-use Rattle.receiver.specs.declared.admission.Memory.{Memory}
-use Rattle.receiver.specs.declared.admission.Memory.TheVariants as memory
 use Rattle.states.specs.declared.answer.Answer.{Answer}
 use Rattle.states.specs.declared.answer.Received.{Received}
 use Rattle.states.specs.declared.answer.Received.TheVariants as received
@@ -23,8 +21,6 @@ use Rattle.receiver.specs.declared.call.Call.{Call}
 use Rattle.receiver.specs.declared.call.Ending.{Ending}
 use Rattle.receiver.specs.declared.call.Phase.{Phase}
 use Rattle.receiver.specs.declared.call.Phase.TheVariants as phase
-use Rattle.receiver.specs.declared.call.Step.{Step}
-use Rattle.receiver.specs.declared.call.Step.TheVariants as step
 use Rattle.receiver.specs.declared.call.Wanted.{Wanted}
 use Rattle.receiver.specs.declared.receiver.Beside.{Beside}
 use Rattle.receiver.specs.declared.receiver.Came.TheVariants as came
@@ -34,9 +30,8 @@ use Rattle.states.specs.declared.state.Failure.{Failure}
 use Rattle.states.specs.declared.state.Failure.TheVariants.{Io, Protocol}
 use Rattle.states.specs.declared.state.OperationalState.{OperationalState}
 use Rattle.states.specs.declared.state.OperationalState.TheVariants.{Normal, Draining, Terminated}
-use Rattle.states.specs.declared.state.PotentialFailure.{PotentialFailure}
-use Rattle.states.specs.declared.state.PotentialFailure.TheVariants.{Some, None}
 use Rattle.states.specs.declared.state.Violation.{Violation}
+use Rattle.states.specs.declared.refusal.Refusal.{Refusal}
 
 abbrev a_record : RingBufferScheduler → OperationalState → ℕ → Bool → ReceiverState
 a_record s st pending issued = record { scheduler = s; state = st; pending_ack_count = pending; notification_socket_shutdown_issued = issued }
@@ -61,7 +56,7 @@ abbrev tells : Outcome → Ending
 tells o = record { outcome = o; told = true }
 
 -- a failure that is met on the way: told in place of the outcome, or dropped
-pub data Meets : PotentialFailure → Ending → Ending → Type 0 where
+pub data Meets : Option Failure → Ending → Ending → Type 0 where
   none_met : {e : Ending} → Meets None e e
   is_told : {f : Failure} {o : Outcome} → Meets (Some f) (tells o) (tells (a_failure f))
   is_dropped : {f : Failure} {o : Outcome} → Meets (Some f) (drops o) (drops o)
@@ -86,7 +81,7 @@ module _ (q : ReceiverState) (s : RingBufferScheduler) (e : Ending) where
     flushes : {c : Call} → Holds q.state None → Flushes c → Serves c
 
 -- the state has advanced, and a failure was met or none
-pub record Advances (to : OperationalState) (f : PotentialFailure) (q : ReceiverState) (s : RingBufferScheduler) (e : Ending) (c : Call) : Type 0 where
+pub record Advances (to : OperationalState) (f : Option Failure) (q : ReceiverState) (s : RingBufferScheduler) (e : Ending) (c : Call) : Type 0 where
   pub state : OperationalState
   pub advanced : Advanced q.state to state
   pub ending : Ending
@@ -173,12 +168,12 @@ BeginsShutdown q c = Advances (Draining (Io 32)) None q q.scheduler (tells all_d
 
 -- ---- an answer
 -- the ring is looked at where a byte was received, and only there
-pub data Looks (a : Answer) (n : ℕ) : Phase → Memory → Type 0 where
-  at_a_byte : {w : Wanted} → AByte a w.max_new_fds → Looks a n (phase.Receive w) (memory.Of n)
-  at_no_byte : {w : Wanted} → (AByte a w.max_new_fds → ⊥) → Looks a n (phase.Receive w) memory.None
-  at_a_send : {batch : ℕ} {e : Ending} → Looks a n (phase.Send batch e) memory.None
-  at_a_shutdown : {e : Ending} → Looks a n (phase.Shutdown e) memory.None
-  at_the_end : {o : Outcome} → Looks a n (phase.Finished o) memory.None
+pub data Looks (a : Answer) (n : ℕ) : Phase → Option ℕ → Type 0 where
+  at_a_byte : {w : Wanted} → AByte a w.max_new_fds → Looks a n (phase.Receive w) (Some n)
+  at_no_byte : {w : Wanted} → (AByte a w.max_new_fds → ⊥) → Looks a n (phase.Receive w) None
+  at_a_send : {batch : ℕ} {e : Ending} → Looks a n (phase.Send batch e) None
+  at_a_shutdown : {e : Ending} → Looks a n (phase.Shutdown e) None
+  at_the_end : {o : Outcome} → Looks a n (phase.Finished o) None
 
 -- what the rules make of a call, whose phase may be made up, with this record
 abbrev pub ResumesIn : Phase → Call → Call → Type 0
@@ -209,6 +204,6 @@ abbrev pub Answered : Call → List ℕ → Answer → Call → Type 0
 Answered c ring a z = (d : Call) × Resumes c d × Takes d ring a z
 
 -- ---- so of a step: where it is not refused
-abbrev pub Goes : (Call → Type 0) → Step → Type 0
-Goes P (step.Of c) = P c
-Goes P (step.Refused r) = Unit {0}
+abbrev pub Goes : (Call → Type 0) → Result Call Refusal → Type 0
+Goes P (Ok c) = P c
+Goes P (Err r) = Unit {0}

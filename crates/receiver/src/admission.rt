@@ -1,49 +1,75 @@
 // The tests before every call of the receiver: 1 to 5 and 20, then 9 where the ring is looked at, then 12 with place 0.
-ghost use Rattle.std.specs.Prelude.{◌≡◌};
-ghost use Rattle.receiver.specs.Admission.{ready_with, admission_of};
+ghost use Rattle.std.specs.Prelude.{◌≡◌, OnOk};
+ghost use Rattle.sched.specs.Scheduler.{IsSound};
+ghost use Rattle.receiver.specs.Admission.{admission_of};
 
+use crate::call::Call;
 use crate::receiver::ReceiverState;
-use copies::{Ready, demand_ring_memory};
-use sched::{Checked, RingBufferScheduler};
+use copies::demand_ring_memory;
+use sched::Sound;
 use states::Refusal;
+use std::marker::Model;
 
+// A record that passed the tests, as a type: its scheduler is not tested again. A clause sees the record.
 #[derive(Clone, Copy)]
-pub enum Admission {
-    Passed,
-    Refused(Refusal),
+pub(crate) struct Admitted {
+    pub(crate) receiver: ReceiverState,
 }
 
-// The ring memory that a call looks at, by its length.
-#[derive(Clone, Copy)]
-pub enum Memory {
-    Of(usize),
-    None,
+impl Model for Admitted {
+    ghost use Rattle.sched.specs.Scheduler.{IsSound};
+    ghost use Rattle.receiver.specs.declared.receiver.ReceiverState.{ReceiverState};
+
+    ghost Value = { ReceiverState };
+
+    ghost view = { λ a. a.receiver };
+
+    ghost invariant = { λ a. IsSound a.receiver.scheduler };
+
+    ghost inverse = { λ q. record { receiver = q } };
 }
 
-fn ready_with(scheduler: RingBufferScheduler, memory: Memory) -> Ready
-    ensures { result ≡ ready_with memory scheduler }
-{
-    match memory {
-        Memory::Of(n) => demand_ring_memory(scheduler, n),
-        Memory::None => match scheduler.demand_soundness() {
-            Checked::Sound(s) => Ready::Sound(s),
-            Checked::Refused(e) => Ready::Refused(copies::Refusal::Scheduler(e)),
-        },
+// A call in progress over such a record, and a clause sees the call.
+#[derive(Clone, Copy)]
+pub(crate) struct AdmittedCall {
+    pub(crate) call: Call,
+}
+
+impl Model for AdmittedCall {
+    ghost use Rattle.sched.specs.Scheduler.{IsSound};
+    ghost use Rattle.receiver.specs.declared.call.Call.{Call};
+
+    ghost Value = { Call };
+
+    ghost view = { λ a. a.call };
+
+    ghost invariant = { λ a. IsSound a.call.receiver.scheduler };
+
+    ghost inverse = { λ c. record { call = c } };
+}
+
+impl Admitted {
+    pub(crate) fn scheduler(self) -> Sound
+        ensures { result ≡ self.scheduler }
+    {
+        Sound {
+            scheduler: self.receiver.scheduler,
+        }
     }
 }
 
-pub(crate) fn admit(receiver: ReceiverState, memory: Memory) -> Admission
-    ensures { result ≡ admission_of receiver memory }
-{
-    let scheduler = receiver.scheduler;
-    let state = receiver.state;
-    match ready_with(scheduler, memory) {
-        Ready::Sound(_) => {
-            if state.fits() {
-                return Admission::Passed;
-            }
-            Admission::Refused(Refusal::Misfit { place: 0 })
+impl ReceiverState {
+    pub(crate) fn admit(self, memory: Option<usize>) -> Result<(), Refusal>
+        ensures value { result ≡ admission_of self memory }
+        ensures sound { OnOk result (IsSound self.scheduler) }
+    {
+        match memory {
+            Some(n) => demand_ring_memory(self.scheduler, n)?,
+            None => self.scheduler.demand_soundness()?,
+        };
+        if !self.state.fits() {
+            return Err(Refusal::Misfit { place: 0 });
         }
-        Ready::Refused(e) => Admission::Refused(Refusal::Copy(e)),
+        Ok(())
     }
 }

@@ -1,82 +1,73 @@
 // A chunk's announcement: one byte on the socket, and a header of 8 bytes in the ring.
 ghost use Rattle.std.specs.Prelude.{◌≡◌, ◌≤◌, length};
-ghost use Rattle.sched.specs.Scheduler.{IsSound, offset_in, space_in};
-ghost use Rattle.copies.specs.Number.{number_from};
-ghost use Rattle.copies.specs.Ring.{get};
+ghost use Rattle.sched.specs.Scheduler.{space_in};
 ghost use Rattle.receiver.specs.Receiver.{header_in, announced_in, byte_in};
 
 use crate::receiver::Beside;
-use crate::sound::{max_operation_len, read_off, register};
-use sched::{HEADER_LEN, OperationType, RingBufferScheduler};
+use sched::{HEADER_LEN, OperationType, Sound};
 use states::{Failure, Violation};
 
-// A header is 2 bits of format, 14 of the strip's tag and 48 of the body's length: 2^62 and 2^48.
-const FORMATS: u64 = 4611686018427387904;
+// A header is 2 bits of format, 14 of the strip's tag and 48 of the body's length.
+const FORMATS: u64 = 1 << 62;
 
-const LENGTHS: u64 = 281474976710656;
+const LENGTHS: u64 = 1 << 48;
 
-// The scheduler with the chunk written, and what comes beside it; or what is wrong.
+// The scheduler before a chunk, or with the chunk written, and what comes beside its byte.
 #[derive(Clone, Copy)]
-pub enum Announced {
-    Chunk {
-        scheduler: RingBufferScheduler,
-        beside: Beside,
-    },
-    Failed(Failure),
+pub struct Announced {
+    pub scheduler: Sound,
+    pub beside: Beside,
 }
 
-// The header goes on at the ring's start where it passes the ring's end.
-fn header(s: RingBufferScheduler, ring: &[u8]) -> u64
-    requires { IsSound s × (length ring.now ≡ s.buf_len) }
-    ensures { result ≡ number_from 0 (get s.buf_len ring.now (offset_in s OperationType.Read).0 8) }
-{
-    copies::big_endian(ring, read_off(s).0)
-}
+impl Announced {
+    // Header and body are registered as written, and the header is read; 8 bytes stay free behind the body.
+    #[tactic(auto, using(crate::proofs::ChunkLaws::chunk_moves))]
+    fn write_chunk(self, header: u64) -> Result<Announced, Failure>
+        requires { 8 ≤ space_in self.scheduler }
+        ensures { result ≡ header_in self.scheduler self.beside header }
+    {
+        if header / FORMATS != 0 {
+            return Err(Failure::Protocol(Violation::UnknownHeader));
+        }
+        let len = header % LENGTHS;
+        if len == 0 {
+            return Err(Failure::Protocol(Violation::InvalidChunkLength));
+        }
+        let space = self.scheduler.greatest(OperationType::Write);
+        if !sched::body_fits(space, len) {
+            return Err(Failure::Protocol(Violation::of_body(space, len)));
+        }
+        let written = self.scheduler.moved(OperationType::Write, HEADER_LEN);
+        let read = written.moved(OperationType::Read, HEADER_LEN);
+        let scheduler = read.moved(OperationType::Write, len);
+        Ok(Announced { scheduler, ..self })
+    }
 
-// Header and body are registered as written, and the header is read; 8 bytes stay free behind the body.
-fn write_chunk(s: RingBufferScheduler, beside: Beside, header: u64) -> Announced
-    requires { IsSound s × (8 ≤ space_in s) }
-    ensures { result ≡ header_in s beside header }
-{
-    if header / FORMATS != 0 {
-        return Announced::Failed(Failure::Protocol(Violation::UnknownHeader));
+    // The header goes on at the ring's start where it passes the ring's end.
+    #[tactic(auto, using(crate::proofs::ChunkLaws::header_is))]
+    fn read_header(self, ring: &[u8]) -> Result<Announced, Failure>
+        requires { length ring.now ≡ self.scheduler.buf_len }
+        ensures { result ≡ announced_in ring.now self.scheduler self.beside }
+    {
+        let space = self.scheduler.greatest(OperationType::Write);
+        if space < HEADER_LEN {
+            return Err(Failure::Protocol(Violation::of_header(space)));
+        }
+        let off = self.scheduler.offset(OperationType::Read);
+        self.write_chunk(copies::big_endian(ring, off.0))
     }
-    let len = header % LENGTHS;
-    if len == 0 {
-        return Announced::Failed(Failure::Protocol(Violation::InvalidChunkLength));
-    }
-    let space = max_operation_len(s, OperationType::Write);
-    if sched::body_fits(space, len) {
-        let written = register(s, OperationType::Write, HEADER_LEN);
-        let head = register(written, OperationType::Read, HEADER_LEN);
-        let scheduler = register(head, OperationType::Write, len);
-        return Announced::Chunk { scheduler, beside };
-    }
-    Announced::Failed(Failure::Protocol(Violation::of_body(space, len)))
-}
 
-fn read_header(ring: &[u8], s: RingBufferScheduler, beside: Beside) -> Announced
-    requires { IsSound s × (length ring.now ≡ s.buf_len) }
-    ensures { result ≡ announced_in ring.now s beside }
-{
-    let space = max_operation_len(s, OperationType::Write);
-    if space < HEADER_LEN {
-        return Announced::Failed(Failure::Protocol(Violation::of_header(space)));
+    pub(crate) fn recv_chunk_announcement(
+        self,
+        ring: &[u8],
+        byte: u64,
+    ) -> Result<Announced, Failure>
+        requires { length ring.now ≡ self.scheduler.buf_len }
+        ensures { result ≡ byte_in ring.now self.scheduler byte self.beside }
+    {
+        if byte != 0 {
+            return Err(Failure::Protocol(Violation::InvalidChunkAnnouncement));
+        }
+        self.read_header(ring)
     }
-    write_chunk(s, beside, header(s, ring))
-}
-
-pub(crate) fn recv_chunk_announcement(
-    ring: &[u8],
-    s: RingBufferScheduler,
-    byte: u64,
-    beside: Beside,
-) -> Announced
-    requires { IsSound s × (length ring.now ≡ s.buf_len) }
-    ensures { result ≡ byte_in ring.now s byte beside }
-{
-    if byte == 0 {
-        return read_header(ring, s, beside);
-    }
-    Announced::Failed(Failure::Protocol(Violation::InvalidChunkAnnouncement))
 }

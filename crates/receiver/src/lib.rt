@@ -8,7 +8,6 @@ mod call;
 mod going;
 mod read;
 mod receiver;
-mod sound;
 
-pub use call::{Call, Ending, Phase, Step, Wanted};
-pub use receiver::{Beside, Came, Ended, Outcome, ReceiverAnswer, ReceiverState};
+pub use call::{Call, Ending, Phase, Wanted};
+pub use receiver::{Beside, Came, Ended, Outcome, ReceiverState};

@@ -1,187 +1,173 @@
 // The receiver's reads: a chunk's bytes are handed out, an announcement is awaited, and a failure ends the stream.
 ghost use Rattle.std.specs.Prelude.{◌≡◌, length};
-ghost use Rattle.sched.specs.Scheduler.{IsSound};
 ghost use Rattle.receiver.specs.Receiver.{handed_in};
-ghost use Rattle.receiver.specs.Call.{going, dropping, Counts, Handing, Announces, hand_out_call, failed_call, blocked_call, announced_call, after_receive, ByteSized, live_call, read_call};
+ghost use Rattle.receiver.specs.Call.{call, Counts, hand_out_call, failed_call, blocked_call, announced_call, after_receive, ByteSized, live_call, read_call};
 
-use crate::announcement::{Announced, recv_chunk_announcement};
-use crate::call::{Call, Ending, Phase, Step, Wanted};
+use crate::admission::{Admitted, AdmittedCall};
+use crate::announcement::Announced;
+use crate::call::{Call, Ending, Phase, Wanted};
 use crate::going::Going;
 use crate::receiver::{Beside, Outcome, ReceiverState};
-use crate::sound::{max_operation_len, moved};
-use sched::{OperationType, RingBufferScheduler};
+use sched::{OperationType, Sound};
 use states::{Failure, OperationalState, Received, Refusal};
 
-// A chunk that is read to its end is acknowledged.
-fn handed_out(q: ReceiverState, scheduler: RingBufferScheduler) -> ReceiverState
-    requires { IsSound scheduler × Counts q }
-    ensures { result ≡ handed_in q scheduler }
-{
-    let after = q.with_scheduler(scheduler);
-    if max_operation_len(scheduler, OperationType::Read) == 0 {
-        return after.with_pending(q.pending_ack_count + 1);
+// `Counts`, that one acknowledgement more can be counted, is a fact of these and no type: one read tests it, and the record after that need
+// not have it.
+impl ReceiverState {
+    // A chunk that is read to its end is acknowledged.
+    fn handed_out(self, scheduler: Sound) -> ReceiverState
+        requires { Counts self }
+        ensures { result ≡ handed_in self scheduler }
+    {
+        let after = ReceiverState {
+            scheduler: scheduler.scheduler,
+            ..self
+        };
+        if scheduler.greatest(OperationType::Read) > 0 {
+            return after;
+        }
+        ReceiverState {
+            pending_ack_count: self.pending_ack_count + 1,
+            ..after
+        }
     }
-    after
-}
 
-// The bytes themselves are copied by `source`: over a run of answers once the call is over, by a host with a real socket before its
-// first send, because an acknowledgement allows the other process to overwrite them.
-fn read_chunk_bytes(receiver: ReceiverState, asked: u64, beside: Beside) -> Call
-    requires { Handing receiver }
-    ensures { result ≡ hand_out_call asked beside receiver }
-{
-    let source = receiver.scheduler;
-    let m = moved(source, OperationType::Read, asked);
-    let scheduler = m.scheduler;
-    dropping(
-        handed_out(receiver, scheduler),
-        source,
-        Outcome::read(m.portion.len, beside),
-    )
-    .service()
-}
-
-// Whatever comes of what the call still does, it answers this.
-fn dropping(receiver: ReceiverState, source: RingBufferScheduler, outcome: Outcome) -> Going
-    ensures { result ≡ going receiver source (dropping outcome) }
-{
-    let ending = Ending {
-        outcome,
-        told: false,
-    };
-    Going {
-        receiver,
-        source,
-        ending,
-    }
-}
-
-// The failure is answered, whatever comes of the shutdown.
-fn terminate_immediately(
-    receiver: ReceiverState,
-    source: RingBufferScheduler,
-    failure: Failure,
-) -> Call
-    ensures { result ≡ failed_call failure receiver source }
-{
-    dropping(
-        receiver,
-        source,
-        Outcome::failed(failure),
-    ).advance_operational_state_towards_termination(OperationalState::Terminated(failure))
-}
-
-// Nothing more comes while draining: the stream ends with its cached reason.
-fn advance_draining_to_terminated(receiver: ReceiverState, source: RingBufferScheduler) -> Call
-    ensures { result ≡ blocked_call receiver source }
-{
-    let state = receiver.state;
-    match state {
-        OperationalState::Normal => dropping(
-            receiver,
-            source,
-            Outcome::failed(Failure::Io(Failure::WOULDBLOCK)),
-        )
-        .finish(),
-        OperationalState::Draining(f) => terminate_immediately(receiver, source, f),
-        OperationalState::Terminated(_) => terminate_immediately(
-            receiver,
-            source,
-            Failure::Io(Failure::WOULDBLOCK),
-        ),
-    }
-}
-
-fn after_announcement(
-    receiver: ReceiverState,
-    source: RingBufferScheduler,
-    announced: Announced,
-    wanted: Wanted,
-) -> Call
-    requires { Announces announced receiver }
-    ensures { result ≡ announced_call announced wanted receiver source }
-{
-    match announced {
-        Announced::Chunk { scheduler, beside } => read_chunk_bytes(
-            receiver.with_scheduler(scheduler),
-            wanted.dst_len,
-            beside,
-        ),
-        Announced::Failed(f) => {
-            if f.is_errno(Failure::WOULDBLOCK) {
-                return advance_draining_to_terminated(receiver, source);
-            }
-            terminate_immediately(receiver, source, f)
+    fn begins(self, phase: Phase) -> Call
+        ensures { result ≡ call self self.scheduler phase }
+    {
+        Call {
+            receiver: self,
+            source: self.scheduler,
+            phase,
         }
     }
 }
 
-pub(crate) fn after_receive(
-    receiver: ReceiverState,
-    source: RingBufferScheduler,
-    ring: &[u8],
-    received: Received,
-    wanted: Wanted,
-    place: u64,
-) -> Step
-    requires { Handing receiver × ByteSized received (length ring.now) receiver }
-    ensures { result ≡ after_receive receiver source ring.now received wanted place }
-{
-    let scheduler = receiver.scheduler;
-    match received {
-        Received::Byte { byte, fds } => Step::Of(after_announcement(
-            receiver,
-            source,
-            recv_chunk_announcement(ring, scheduler, byte, Beside::of_byte(fds)),
-            wanted,
-        )),
-        Received::Failed(errno) => Step::Of(after_announcement(
-            receiver,
-            source,
-            Announced::Failed(Failure::Io(errno)),
-            wanted,
-        )),
-        Received::Misfit => Step::Refused(Refusal::Misfit { place }),
+impl Admitted {
+    // The bytes themselves are copied by `source`: over a run of answers once the call is over, by a host with a real socket before its
+    // first send, because an acknowledgement allows the other process to overwrite them.
+    fn read_chunk_bytes(self, asked: u64, beside: Beside) -> Call
+        requires { Counts self }
+        ensures { result ≡ hand_out_call asked beside self }
+    {
+        let source = self.scheduler();
+        let n = asked.min(source.greatest(OperationType::Read));
+        Going {
+            receiver: self
+                .receiver
+                .handed_out(source.moved(OperationType::Read, asked)),
+            source: source.scheduler,
+            ending: Ending {
+                outcome: Outcome::read(n, beside),
+                told: false,
+            },
+        }
+        .service()
+    }
+
+    // In order: the empty destination, 13, the announcement if there is no data.
+    fn read_live(self, wanted: Wanted) -> Result<Call, Refusal>
+        ensures { result ≡ live_call self wanted }
+    {
+        let receiver = self.receiver;
+        if wanted.dst_len == 0 {
+            return Ok(receiver.begins(Phase::Finished(Outcome::read(0, Beside::default()))));
+        }
+        if receiver.pending_ack_count == u64::MAX {
+            return Err(Refusal::PendingFull);
+        }
+        if self.scheduler().greatest(OperationType::Read) == 0 {
+            return Ok(receiver.begins(Phase::Receive(wanted)));
+        }
+        Ok(self.read_chunk_bytes(wanted.dst_len, Beside::default()))
+    }
+
+    // A stream that is terminated answers its reason.
+    pub(crate) fn read(self, wanted: Wanted) -> Result<Call, Refusal>
+        ensures { result ≡ read_call self wanted }
+    {
+        let receiver = self.receiver;
+        match receiver.state {
+            OperationalState::Normal | OperationalState::Draining(_) => self.read_live(wanted),
+            OperationalState::Terminated(f) => {
+                Ok(receiver.begins(Phase::Finished(Outcome::failed(f))))
+            }
+        }
     }
 }
 
-// In order: the empty destination, 13, the announcement if there is no data.
-fn read_live(receiver: ReceiverState, wanted: Wanted) -> Step
-    requires { IsSound receiver.scheduler }
-    ensures { result ≡ live_call receiver wanted }
-{
-    let source = receiver.scheduler;
-    if wanted.dst_len == 0 {
-        return Step::Of(dropping(receiver, source, Outcome::read(0, Beside::none())).finish());
+impl Call {
+    // The failure is answered, whatever comes of the shutdown.
+    fn terminate_immediately(self, failure: Failure) -> Call
+        ensures { result ≡ failed_call failure self.receiver self.source }
+    {
+        let ending = Ending {
+            outcome: Outcome::failed(failure),
+            told: false,
+        };
+        self.going(ending)
+            .advance_operational_state_towards_termination(OperationalState::Terminated(failure))
     }
-    if receiver.pending_ack_count == ReceiverState::MOST_PENDING {
-        return Step::Refused(Refusal::PendingFull);
+
+    // Nothing more comes while draining: the stream ends with its cached reason.
+    fn advance_draining_to_terminated(self) -> Call
+        ensures { result ≡ blocked_call self.receiver self.source }
+    {
+        let blocked = Failure::Io(Failure::WOULDBLOCK);
+        match self.receiver.state {
+            OperationalState::Normal => Call {
+                phase: Phase::Finished(Outcome::failed(blocked)),
+                ..self
+            },
+            OperationalState::Draining(f) => self.terminate_immediately(f),
+            OperationalState::Terminated(_) => self.terminate_immediately(blocked),
+        }
     }
-    if max_operation_len(source, OperationType::Read) == 0 {
-        let phase = Phase::Receive(wanted);
-        return Step::Of(Call {
-            receiver,
-            source,
-            phase,
-        });
+
+    fn after_announcement(self, announced: Result<Announced, Failure>, wanted: Wanted) -> Call
+        requires { Counts self.receiver }
+        ensures { result ≡ announced_call announced wanted self.receiver self.source }
+    {
+        match announced {
+            Ok(Announced { scheduler, beside }) => {
+                let receiver = ReceiverState {
+                    scheduler: scheduler.scheduler,
+                    ..self.receiver
+                };
+                Admitted { receiver }.read_chunk_bytes(wanted.dst_len, beside)
+            }
+            Err(f) if f.is_errno(Failure::WOULDBLOCK) => self.advance_draining_to_terminated(),
+            Err(f) => self.terminate_immediately(f),
+        }
     }
-    Step::Of(read_chunk_bytes(receiver, wanted.dst_len, Beside::none()))
 }
 
-// A stream that is terminated answers its reason.
-pub(crate) fn read(receiver: ReceiverState, wanted: Wanted) -> Step
-    requires { IsSound receiver.scheduler }
-    ensures { result ≡ read_call receiver wanted }
-{
-    let source = receiver.scheduler;
-    let state = receiver.state;
-    match state {
-        OperationalState::Normal => read_live(receiver, wanted),
-        OperationalState::Draining(_) => read_live(receiver, wanted),
-        OperationalState::Terminated(f) => Step::Of(dropping(
-            receiver,
-            source,
-            Outcome::failed(f),
-        ).finish()),
+impl AdmittedCall {
+    // A failure becomes the call's outcome, and a misfit gets its place here: neither is an Err that ? would hand on.
+    pub(crate) fn after_receive(
+        self,
+        ring: &[u8],
+        received: Received,
+        wanted: Wanted,
+        place: u64,
+    ) -> Result<Call, Refusal>
+        requires { Counts self.receiver × ByteSized received (length ring.now) self.receiver }
+        ensures { result ≡ after_receive self.receiver self.source ring.now received wanted place }
+    {
+        let call = self.call;
+        let announced = match received {
+            Received::Byte { byte, fds } => {
+                let before = Announced {
+                    scheduler: Sound {
+                        scheduler: call.receiver.scheduler,
+                    },
+                    beside: Beside { fds },
+                };
+                before.recv_chunk_announcement(ring, byte)
+            }
+            Received::Failed(errno) => Err(Failure::Io(errno)),
+            Received::Misfit => return Err(Refusal::Misfit { place }),
+        };
+        Ok(call.after_announcement(announced, wanted))
     }
 }

@@ -1,10 +1,11 @@
 // The receiver's record, and what its calls come to.
 ghost use Rattle.std.specs.Prelude.{◌≡◌};
-ghost use Rattle.receiver.specs.Receiver.{with_scheduler, with_state, with_pending, with_shutdown, none_beside, beside_byte, read_outcome, done_outcome, failed_outcome, receiver_of, batch_in};
+ghost use Rattle.receiver.specs.Receiver.{read_outcome, done_outcome, failed_outcome, receiver_of, batch_in};
 
-use sched::{Checked, RingBufferScheduler};
+use sched::RingBufferScheduler;
 use states::{Failure, OperationalState, Refusal, batch_of};
 
+// The flag stays beside the state: a shutdown can have been issued in any of them, and C has both (bindings/stripring.h).
 #[derive(Clone, Copy)]
 pub struct ReceiverState {
     pub scheduler: RingBufferScheduler,
@@ -13,13 +14,7 @@ pub struct ReceiverState {
     pub notification_socket_shutdown_issued: bool,
 }
 
-#[derive(Clone, Copy)]
-pub enum ReceiverAnswer {
-    Of(ReceiverState),
-    Refused(Refusal),
-}
-
-// What a call came to: bytes read, done, or a failure.
+// What a call came to: bytes read, done, or a failure. No Result, whose Err says that a call is refused: one that fails is accepted.
 #[derive(Clone, Copy)]
 pub enum Came {
     Read(u64),
@@ -28,7 +23,7 @@ pub enum Came {
 }
 
 // What every outcome carries beside what it came to: a count of descriptors.
-#[derive(Clone, Copy)]
+#[derive(Clone, Copy, Default)]
 pub struct Beside {
     pub fds: u64,
 }
@@ -40,30 +35,12 @@ pub struct Outcome {
     pub beside: Beside,
 }
 
-// The record after a call, what it answers and how many of the socket's answers it used; or why it is refused.
+// The record after a call, what it answers and how many of the socket's answers it used.
 #[derive(Clone, Copy)]
-pub enum Ended {
-    Accepted {
-        receiver: ReceiverState,
-        outcome: Outcome,
-        used: u64,
-    },
-    Refused(Refusal),
-}
-
-impl Beside {
-    pub(crate) fn none() -> Beside
-        ensures { result ≡ none_beside }
-    {
-        Beside { fds: 0 }
-    }
-
-    // What comes with a byte that is received.
-    pub(crate) fn of_byte(fds: u64) -> Beside
-        ensures { result ≡ beside_byte fds }
-    {
-        Beside { fds }
-    }
+pub struct Ended {
+    pub receiver: ReceiverState,
+    pub outcome: Outcome,
+    pub used: u64,
 }
 
 impl Outcome {
@@ -81,73 +58,22 @@ impl Outcome {
     {
         Outcome {
             came: Came::Done,
-            beside: Beside::none(),
+            beside: Beside::default(),
         }
     }
 
+    // No From<Failure>: the name says, as `read` and `done` do, which outcome it is.
     pub(crate) fn failed(failure: Failure) -> Outcome
         ensures { result ≡ failed_outcome failure }
     {
         Outcome {
             came: Came::Failed(failure),
-            beside: Beside::none(),
+            beside: Beside::default(),
         }
     }
 }
 
 impl ReceiverState {
-    pub(crate) const MOST_PENDING: u64 = 18446744073709551615;
-
-    pub(crate) fn with_scheduler(self, scheduler: RingBufferScheduler) -> ReceiverState
-        ensures { result ≡ with_scheduler self scheduler }
-    {
-        let state = self.state;
-        ReceiverState {
-            scheduler,
-            state,
-            pending_ack_count: self.pending_ack_count,
-            notification_socket_shutdown_issued: self.notification_socket_shutdown_issued,
-        }
-    }
-
-    pub(crate) fn with_state(self, state: OperationalState) -> ReceiverState
-        ensures { result ≡ with_state self state }
-    {
-        let scheduler = self.scheduler;
-        ReceiverState {
-            scheduler,
-            state,
-            pending_ack_count: self.pending_ack_count,
-            notification_socket_shutdown_issued: self.notification_socket_shutdown_issued,
-        }
-    }
-
-    pub(crate) fn with_pending(self, pending_ack_count: u64) -> ReceiverState
-        ensures { result ≡ with_pending self pending_ack_count }
-    {
-        let scheduler = self.scheduler;
-        let state = self.state;
-        ReceiverState {
-            scheduler,
-            state,
-            pending_ack_count,
-            notification_socket_shutdown_issued: self.notification_socket_shutdown_issued,
-        }
-    }
-
-    pub(crate) fn with_shutdown(self) -> ReceiverState
-        ensures { result ≡ with_shutdown self }
-    {
-        let scheduler = self.scheduler;
-        let state = self.state;
-        ReceiverState {
-            scheduler,
-            state,
-            pending_ack_count: self.pending_ack_count,
-            notification_socket_shutdown_issued: true,
-        }
-    }
-
     // A batch of what is pending.
     pub(crate) fn batch(self) -> u64
         ensures { result ≡ batch_in self }
@@ -156,19 +82,15 @@ impl ReceiverState {
     }
 
     // The ring's bytes and the socket stay with the host.
-    pub fn new(scheduler: RingBufferScheduler) -> ReceiverAnswer
+    pub fn new(scheduler: RingBufferScheduler) -> Result<ReceiverState, Refusal>
         ensures { result ≡ receiver_of scheduler }
     {
-        match scheduler.demand_soundness() {
-            Checked::Sound(scheduler) => ReceiverAnswer::Of(ReceiverState {
-                scheduler,
-                state: OperationalState::Normal,
-                pending_ack_count: 0,
-                notification_socket_shutdown_issued: false,
-            }),
-            Checked::Refused(e) => ReceiverAnswer::Refused(Refusal::Copy(copies::Refusal::Scheduler(
-                e,
-            ))),
-        }
+        let scheduler = scheduler.demand_soundness()?;
+        Ok(ReceiverState {
+            scheduler,
+            state: OperationalState::Normal,
+            pending_ack_count: 0,
+            notification_socket_shutdown_issued: false,
+        })
     }
 }

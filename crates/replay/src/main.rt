@@ -1,7 +1,7 @@
-// Replays the lists of answers that the original Rust gave, each in a file of data/, against the calls that a host links.
+// Replays the lists of answers that the original Rust gave, each in a file of data/, against the calls that a host links. A new list is a
+// line of main; a new call of a list is a row of the table in its module.
 #![tactic(auto)]
 
-mod lent_run;
 mod line;
 mod list;
 mod modular_list;
@@ -13,26 +13,8 @@ mod sched_list;
 
 use std::io;
 
-// Whose calls the lines of a list are. A new list is a name here, an arm in the next and a line of main; a new call of a list is a row of the
-// table in its module.
-#[derive(Clone, Copy)]
-pub enum Calls {
-    Modular,
-    Sched,
-    Receiver,
-}
-
-// Whether the line is what the code answers; not where the list has no such call.
-pub fn agrees(calls: Calls, line: &[u64]) -> bool {
-    match calls {
-        Calls::Modular => modular_list::agrees(line),
-        Calls::Sched => sched_list::agrees(line),
-        Calls::Receiver => receiver_list::agrees(line),
-    }
-}
-
 fn main(rt: HostRuntime) -> io::Result<()> {
-    list::replay(&rt, Calls::Modular, "modular", "modular.txt")?;
-    list::replay(&rt, Calls::Sched, "sched", "sched.txt")?;
-    list::replay(&rt, Calls::Receiver, "receiver", "receiver.txt")
+    list::replay(&rt, "modular", "modular.txt", modular_list::agrees)?;
+    list::replay(&rt, "sched", "sched.txt", sched_list::agrees)?;
+    list::replay(&rt, "receiver", "receiver.txt", receiver_list::agrees)
 }

@@ -1,38 +1,31 @@
 // The list of the calls of modular. A line: op modulus a b some value.
-use crate::line::{at, ends_in};
+use crate::line::{are, at, behind};
 use flat::modulus::OptionU64;
 use stripring::modulus;
 
+// The table of the calls: a match, since a closure for each call would be found by its op as an arm is.
 pub fn agrees(line: &[u64]) -> bool {
-    let op = at(line, 0);
-    if op > 10 {
-        return false;
-    }
-    let answer = option(op, at(line, 1), at(line, 2), at(line, 3));
-    ends_in(line, 4, &[answer.some, answer.value])
-}
-
-fn option(op: u64, m: u64, a: u64, b: u64) -> OptionU64 {
-    match op {
+    let m = at(line, 1);
+    let a = at(line, 2);
+    let b = at(line, 3);
+    let answer = match at(line, 0) {
+        0 => some(modulus::stripring_modulus_new_full_range()),
         1 => modulus::stripring_modulus_try_new(m),
+        2 => some(u64::from(modulus::stripring_modulus_is_full_range(m))),
         3 => modulus::stripring_modulus_modulus(m),
+        4 => some(u64::from(modulus::stripring_modulus_contains(m, a))),
         5 => modulus::stripring_modulus_double(m),
+        6 => some(modulus::stripring_modulus_new_number(m, a)),
         7 => modulus::stripring_modulus_try_new_number(m, a),
-        _ => OptionU64 {
-            some: 1,
-            value: number(op, m, a, b),
-        },
-    }
+        8 => some(modulus::stripring_modulus_neg(m, a)),
+        9 => some(modulus::stripring_modulus_sub(m, a, b)),
+        10 => some(modulus::stripring_modulus_add(m, a, b)),
+        _ => return false,
+    };
+    are(behind(line, 4), &[answer.some, answer.value])
 }
 
-fn number(op: u64, m: u64, a: u64, b: u64) -> u64 {
-    match op {
-        0 => modulus::stripring_modulus_new_full_range(),
-        2 => modulus::stripring_modulus_is_full_range(m) as u64,
-        4 => modulus::stripring_modulus_contains(m, a) as u64,
-        6 => modulus::stripring_modulus_new_number(m, a),
-        8 => modulus::stripring_modulus_neg(m, a),
-        9 => modulus::stripring_modulus_sub(m, a, b),
-        _ => modulus::stripring_modulus_add(m, a, b),
-    }
+// What a call that always answers comes to.
+fn some(value: u64) -> OptionU64 {
+    OptionU64 { some: 1, value }
 }

@@ -1,124 +1,137 @@
 // The list of the calls of the receiver. A line: op, what it takes, its answer; the list's head says more.
-use crate::line::{after, answers, at};
+use crate::line::{Recorded, answers, at, behind, ends};
 use crate::receiver_runs::{read, without_ring};
 use crate::sched_inputs::scheduler_at;
 use flat::structs::{
     Failure, FailureAnswer, PotentialFailureAnswer, ReceiverAnswer, State, StateAnswer,
 };
+use stripring::receiver_run::{
+    stripring_receiver_read_with_fds, stripring_receiver_read_with_fds_impl,
+    stripring_receiver_service_chunk_acknowledgements, stripring_receiver_shutdown,
+};
 use stripring::{failure, receiver_record, state};
 
-// The table of the calls. A row: op, the kind of answer, where that stands on the line, the call.
+// The table of the calls: a match, since a closure for each call would be found by its op as an arm is. A row: op, where the answer stands
+// on the line, the call.
 pub fn agrees(line: &[u64]) -> bool {
-    let op = at(line, 0);
-    if op == 0 {
-        return made(
+    let s = state_at(behind(line, 1));
+    let f = failure_at(behind(line, 1));
+    match at(line, 0) {
+        0 => ends(
             line,
+            4,
             receiver_record::stripring_receiver_new(scheduler_at(line)),
-        );
-    }
-    match op / 2 {
-        3 => from_6(op, line, failure_at(line, 1)),
-        4 => read(op, line),
-        5 => without_ring(op, line),
-        _ => from_1(op, line, state_at(line, 1)),
-    }
-}
-
-fn from_1(op: u64, line: &[u64], s: State) -> bool {
-    match op {
-        1 => potential_failure(line, state::stripring_state_failure(s)),
-        2 => state(
+        ),
+        1 => ends(line, 6, state::stripring_state_failure(s)),
+        2 => ends(
             line,
             10,
-            state::stripring_state_with_failure(s, failure_at(line, 6)),
+            state::stripring_state_with_failure(s, failure_at(behind(line, 6))),
         ),
-        3 => state(
+        3 => ends(
             line,
             11,
-            state::stripring_state_with_potential_failure(s, at(line, 6), failure_at(line, 7)),
+            state::stripring_state_with_potential_failure(
+                s,
+                at(line, 6),
+                failure_at(behind(line, 7)),
+            ),
         ),
-        4 => state(line, 6, state::stripring_state_normalize(s)),
-        5 => state(
+        4 => ends(line, 6, state::stripring_state_normalize(s)),
+        5 => ends(
             line,
             11,
-            state::stripring_state_advance_state_towards_termination(s, state_at(line, 6)),
+            state::stripring_state_advance_state_towards_termination(s, state_at(behind(line, 6))),
         ),
+        6 => ends(line, 5, failure::stripring_failure_normalize(f)),
+        7 => ends(
+            line,
+            9,
+            failure::stripring_failure_advance_failure_towards_error(
+                f,
+                failure_at(behind(line, 5)),
+            ),
+        ),
+        8 => read(line, stripring_receiver_read_with_fds),
+        9 => read(line, stripring_receiver_read_with_fds_impl),
+        10 => without_ring(line, stripring_receiver_service_chunk_acknowledgements),
+        11 => without_ring(line, stripring_receiver_shutdown),
         _ => false,
     }
 }
 
-fn from_6(op: u64, line: &[u64], f: Failure) -> bool {
-    match op {
-        6 => failure(line, 5, failure::stripring_failure_normalize(f)),
-        _ => failure(
-            line,
-            9,
-            failure::stripring_failure_advance_failure_towards_error(f, failure_at(line, 5)),
-        ),
+// ---- whether a line ends in an answer, by hand: the structs are the C interface's, and each has its numbers in the order of the list
+
+impl Recorded for ReceiverAnswer {
+    fn is_recorded(self, numbers: &[u64]) -> bool {
+        let r = self.receiver;
+        let s = r.scheduler;
+        let state = r.state;
+        let f = state.failure;
+        answers(
+            numbers,
+            self.refusal,
+            &[
+                s.buf_len,
+                s.items_written,
+                s.items_read,
+                s.fill,
+                state.kind,
+                f.kind,
+                f.value,
+                f.needed,
+                f.room,
+                r.pending_ack_count,
+                r.notification_socket_shutdown_issued,
+            ],
+        )
     }
 }
 
-// ---- whether a line ends in an answer
-
-fn made(line: &[u64], a: ReceiverAnswer) -> bool {
-    let e = a.refusal;
-    let r = a.receiver;
-    let s = r.scheduler;
-    let state = r.state;
-    let f = state.failure;
-    answers(
-        line,
-        4,
-        e,
-        &[
-            s.buf_len,
-            s.items_written,
-            s.items_read,
-            s.fill,
-            state.kind,
-            f.kind,
-            f.value,
-            f.needed,
-            f.room,
-            r.pending_ack_count,
-            r.notification_socket_shutdown_issued,
-        ],
-    )
+impl Recorded for PotentialFailureAnswer {
+    fn is_recorded(self, numbers: &[u64]) -> bool {
+        let f = self.failure;
+        answers(
+            numbers,
+            self.refusal,
+            &[self.some, f.kind, f.value, f.needed, f.room],
+        )
+    }
 }
 
-fn potential_failure(line: &[u64], a: PotentialFailureAnswer) -> bool {
-    let e = a.refusal;
-    let f = a.failure;
-    answers(line, 6, e, &[a.some, f.kind, f.value, f.needed, f.room])
+impl Recorded for StateAnswer {
+    fn is_recorded(self, numbers: &[u64]) -> bool {
+        let s = self.state;
+        let f = s.failure;
+        answers(
+            numbers,
+            self.refusal,
+            &[s.kind, f.kind, f.value, f.needed, f.room],
+        )
+    }
 }
 
-fn state(line: &[u64], from: usize, a: StateAnswer) -> bool {
-    let e = a.refusal;
-    let s = a.state;
-    let f = s.failure;
-    answers(line, from, e, &[s.kind, f.kind, f.value, f.needed, f.room])
+impl Recorded for FailureAnswer {
+    fn is_recorded(self, numbers: &[u64]) -> bool {
+        let f = self.failure;
+        answers(numbers, self.refusal, &[f.kind, f.value, f.needed, f.room])
+    }
 }
 
-fn failure(line: &[u64], from: usize, a: FailureAnswer) -> bool {
-    let e = a.refusal;
-    let f = a.failure;
-    answers(line, from, e, &[f.kind, f.value, f.needed, f.room])
-}
+// ---- what the calls take of the front of these numbers
 
-// ---- what the calls take
-
-pub fn state_at(line: &[u64], i: usize) -> State {
+pub fn state_at(numbers: &[u64]) -> State {
     State {
-        kind: at(line, i),
-        failure: failure_at(line, after(i, 1)),
+        kind: at(numbers, 0),
+        failure: failure_at(behind(numbers, 1)),
     }
 }
 
-fn failure_at(line: &[u64], i: usize) -> Failure {
+fn failure_at(numbers: &[u64]) -> Failure {
     Failure {
-        kind: at(line, i),
-        value: at(line, after(i, 1)),
-        needed: at(line, after(i, 2)),
-        room: at(line, after(i, 3)),
+        kind: at(numbers, 0),
+        value: at(numbers, 1),
+        needed: at(numbers, 2),
+        room: at(numbers, 3),
     }
 }

@@ -1,13 +1,15 @@
 // The receiver's calls over the socket's answers of a line.
 ghost use Rattle.std.specs.Prelude.{◌≤◌};
 
-use crate::lent_run;
-use crate::lent_run::MOST;
-use crate::line::{after, answers, at};
+use crate::line::{MOST, answers, at, behind};
 use crate::receiver_list::state_at;
 use crate::sched_inputs::scheduler_at;
 use flat::structs::{EndedAnswer, Receiver};
 use states::Answer;
+use std::array;
+
+// The most answers of a run. A line that says more is bad.
+const MOST_ANSWERS: usize = 16;
 
 // No ring and no destination of the list is longer.
 const ROOM: usize = 64;
@@ -15,82 +17,58 @@ const ROOM: usize = 64;
 // Every byte of a destination before the call.
 const BEFORE: u8 = 170;
 
+// So many numbers stand before the bytes of an accepted call's destination.
+const TOLD: usize = 20;
+
 // A service or a shutdown, which looks at no ring.
-pub fn without_ring(op: u64, line: &[u64]) -> bool {
-    let n = least(at(line, 11), MOST);
-    let a = without_ring_over(op, receiver(line), run_at(line, 12), n);
-    ended(line, after(12, n + n + n), a, &[])
-}
-
-fn without_ring_over(op: u64, receiver: Receiver, run: [Answer; MOST], n: usize) -> EndedAnswer
-    requires { n ≤ 16 }
+pub fn without_ring<F: Fn(Receiver, &[Answer]) -> EndedAnswer>(line: &[u64], call: F) -> bool
+    requires { F.IsAlwaysCallable call }
 {
-    match op {
-        10 => lent_run::service_chunk_acknowledgements(receiver, run, n),
-        _ => lent_run::shutdown(receiver, run, n),
-    }
+    let rest = behind(line, 11);
+    let n = least(at(rest, 0), MOST_ANSWERS);
+    let answers = answers_at(behind(rest, 1));
+    let ended = call(receiver(line), &answers[..n]);
+    is_recorded(behind(rest, 1 + 3 * n), ended, &[])
 }
 
-pub fn read(op: u64, line: &[u64]) -> bool {
-    let ring = ring(line);
+// Of each memory only the front, as long as the line says, is lent to the call. Behind them stand the most descriptors, and the answers
+// with their count.
+pub fn read<F: Fn(Receiver, &[u8], &mut [u8], u64, &[Answer]) -> EndedAnswer>(
+    line: &[u64],
+    call: F,
+) -> bool
+    requires { F.IsAlwaysCallable call }
+{
+    let ring = bytes_at(behind(line, 12));
+    let ring_len = least(at(line, 11), ROOM);
+    let rest = behind(line, 12 + ring_len);
     let mut dst = [BEFORE; ROOM];
-    read_in(op, line, &ring, &mut dst)
-}
-
-// Of each memory only the front, as long as the line says, is lent to the call.
-fn read_in(op: u64, line: &[u64], ring: &[u8], dst: &mut [u8]) -> bool {
-    let ring_len = least(at(line, 11), ring.len());
-    let i = after(12, ring_len);
-    let dst_len = least(at(line, i), dst.len());
-    read_into(
-        op,
-        line,
-        after(i, 1),
-        &ring[0..ring_len],
-        &mut dst[0..dst_len],
-    )
-}
-
-// From this index on stand the most descriptors, and the answers with their count.
-fn read_into(op: u64, line: &[u64], i: usize, ring: &[u8], dst: &mut [u8]) -> bool {
-    let n = least(at(line, after(i, 1)), MOST);
-    let run = run_at(line, after(i, 2));
-    let a = read_over(op, receiver(line), ring, dst, at(line, i), run, n);
-    ended(line, after(i, 2 + n + n + n), a, dst)
-}
-
-fn read_over(
-    op: u64,
-    receiver: Receiver,
-    ring: &[u8],
-    dst: &mut [u8],
-    max_new_fds: u64,
-    run: [Answer; MOST],
-    n: usize,
-) -> EndedAnswer
-    requires { n ≤ 16 }
-{
-    match op {
-        8 => lent_run::read_with_fds(receiver, ring, dst, max_new_fds, run, n),
-        _ => lent_run::read_with_fds_impl(receiver, ring, dst, max_new_fds, run, n),
-    }
+    let dst_len = least(at(rest, 0), ROOM);
+    let n = least(at(rest, 2), MOST_ANSWERS);
+    let answers = answers_at(behind(rest, 3));
+    let ended = call(
+        receiver(line),
+        &ring[..ring_len],
+        &mut dst[..dst_len],
+        at(rest, 1),
+        &answers[..n],
+    );
+    is_recorded(behind(rest, 3 + 3 * n), ended, &dst[..dst_len])
 }
 
 // An accepted call is told with every byte of its destination, a refused one with none.
-fn ended(line: &[u64], from: usize, a: EndedAnswer, dst: &[u8]) -> bool {
+fn is_recorded(numbers: &[u64], a: EndedAnswer, dst: &[u8]) -> bool {
     if a.refusal.number != 0 {
-        return told(line, from, a);
+        return is_told(numbers, a);
     }
-    let bytes_at = least(after(from, 20) as u64, line.len());
-    told(&line[0..bytes_at], from, a) && ends_in_bytes(line, bytes_at, dst)
+    let told_len = TOLD.min(numbers.len());
+    is_told(&numbers[..told_len], a) && are_bytes(&numbers[told_len..], dst)
 }
 
-fn told(line: &[u64], from: usize, a: EndedAnswer) -> bool {
-    let e = a.refusal;
+fn is_told(numbers: &[u64], a: EndedAnswer) -> bool {
     answers(
-        line,
-        from,
-        e,
+        numbers,
+        a.refusal,
         &[
             a.receiver.scheduler.buf_len,
             a.receiver.scheduler.items_written,
@@ -115,21 +93,13 @@ fn told(line: &[u64], from: usize, a: EndedAnswer) -> bool {
     )
 }
 
-fn ends_in_bytes(line: &[u64], from: usize, bytes: &[u8]) -> bool {
-    for i in 0..line.len() {
-        if at(line, after(from, i)) != byte_at(bytes, i) {
-            return false;
-        }
-    }
-    true
+// Whether the numbers are these bytes. What either lacks is 0.
+fn are_bytes(numbers: &[u64], bytes: &[u8]) -> bool {
+    (0..MOST).all(|i| at(numbers, i) == byte_at(bytes, i))
 }
 
 fn byte_at(bytes: &[u8], i: usize) -> u64 {
-    if i < bytes.len() { wide(bytes[i]) } else { 0 }
-}
-
-fn wide(byte: u8) -> u64 {
-    byte as u64
+    bytes.get(i).map_or(0, |&byte| u64::from(byte))
 }
 
 // ---- what the calls take
@@ -137,42 +107,32 @@ fn wide(byte: u8) -> u64 {
 fn receiver(line: &[u64]) -> Receiver {
     Receiver {
         scheduler: scheduler_at(line),
-        state: state_at(line, 4),
+        state: state_at(behind(line, 4)),
         pending_ack_count: at(line, 9),
         notification_socket_shutdown_issued: at(line, 10),
     }
 }
 
-// What stands behind the ring is taken too, whatever it is, and never lent.
-fn ring(line: &[u64]) -> [u8; ROOM] {
-    let mut bytes = [0u8; ROOM];
-    for i in 0..ROOM {
-        bytes[i] = (at(line, after(12, i)) % 256) as u8;
-    }
-    bytes
+// No heap: what stands behind the ring is taken too, whatever it is, and never lent.
+fn bytes_at(numbers: &[u64]) -> [u8; ROOM] {
+    array::from_fn(|i| (at(numbers, i) % 256) as u8)
 }
 
-// What stands behind the answers is taken too, whatever it is, and never lent.
-fn run_at(line: &[u64], first: usize) -> [Answer; MOST] {
-    let mut i = first;
-    let mut run = [answer_at(line, i); MOST];
-    for k in 0..MOST {
-        run[k] = answer_at(line, i);
-        i = after(i, 3);
-    }
-    run
+// No heap: what stands behind the answers is taken too, whatever it is, and never lent.
+fn answers_at(numbers: &[u64]) -> [Answer; MOST_ANSWERS] {
+    array::from_fn(|i| answer_at(behind(numbers, i.wrapping_mul(3))))
 }
 
-fn answer_at(line: &[u64], i: usize) -> Answer {
+fn answer_at(numbers: &[u64]) -> Answer {
     Answer {
-        kind: at(line, i),
-        value: at(line, after(i, 1)),
-        descriptors: at(line, after(i, 2)),
+        kind: at(numbers, 0),
+        value: at(numbers, 1),
+        descriptors: at(numbers, 2),
     }
 }
 
 fn least(a: u64, most: usize) -> usize
     ensures { result ≤ most }
 {
-    if a < most as u64 { a as usize } else { most }
+    (a as usize).min(most)
 }

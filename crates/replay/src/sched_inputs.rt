@@ -1,5 +1,6 @@
 // What the calls of sched take of a line.
-use crate::line::{after, at};
+// Functions and no `From`: the structs are those of flat, whose own a `From` of a slice would have to be.
+use crate::line::{at, behind};
 use flat::structs::{Diff, Operation, Operations, Scheduler};
 use stripring::scheduler::stripring_scheduler_try_from_counters;
 
@@ -22,26 +23,26 @@ fn by_counters(buf_len: u64, items_written: u64, items_read: u64) -> Scheduler {
     }
 }
 
-pub fn operation_at(line: &[u64], i: usize) -> Operation {
+pub fn operation_at(numbers: &[u64]) -> Operation {
     Operation {
-        typ: at(line, i),
-        off: at(line, after(i, 1)),
-        len: at(line, after(i, 2)),
+        typ: at(numbers, 0),
+        off: at(numbers, 1),
+        len: at(numbers, 2),
     }
 }
 
-pub fn list_at(line: &[u64], i: usize) -> Operations {
+pub fn list_at(numbers: &[u64]) -> Operations {
     Operations {
-        count: at(line, i),
-        first: operation_at(line, after(i, 1)),
-        second: operation_at(line, after(i, 4)),
+        count: at(numbers, 0),
+        first: operation_at(behind(numbers, 1)),
+        second: operation_at(behind(numbers, 4)),
     }
 }
 
-pub fn diff_at(line: &[u64]) -> Diff {
+pub fn diff_at(numbers: &[u64]) -> Diff {
     Diff {
-        different: at(line, 1),
-        old: at(line, 2),
-        new: at(line, 3),
+        different: at(numbers, 0),
+        old: at(numbers, 1),
+        new: at(numbers, 2),
     }
 }

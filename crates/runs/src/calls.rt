@@ -1,90 +1,71 @@
 // The calls of the two ends that move no byte, each told in one flat way.
-use ends::{
-    ReadCounter, ReadCounterAnswer, ReadingEnd, ReadingEndAnswer, WritingEnd, WritingEndAnswer,
-    WrittenCounter, WrittenCounterAnswer,
-};
-use sched::{AmountAnswer, Counter, RingBufferScheduler};
+use ends::{ReadCounter, ReadingEnd, WritingEnd, WrittenCounter};
+use sched::{Counter, RingBufferScheduler};
 
-// The scheduler of an end after a call, how many bytes were moved and how many of those asked were left over, and the refusal's number:
-// 0 where the call is accepted.
-#[derive(Clone, Copy)]
-pub struct Told {
-    pub scheduler: RingBufferScheduler,
+// How many bytes were moved and how many of those asked were left over.
+#[derive(Clone, Copy, Default, PartialEq)]
+pub struct Moved {
     pub n: u64,
     pub remainder: u64,
-    pub number: u64,
+}
+
+// The scheduler of an end after a call, and what the call moved or the refusal's number: a number, because the calls of copies and of ends
+// refuse with types of their own.
+#[derive(Clone, Copy, PartialEq)]
+pub struct Told {
+    pub scheduler: RingBufferScheduler,
+    pub answer: Result<Moved, u64>,
 }
 
 impl Told {
-    pub fn same(self, other: Told) -> bool {
-        self.n == other.n
-            && self.remainder == other.remainder
-            && self.number == other.number
-            && same_scheduler(self.scheduler, other.scheduler)
+    pub fn is_accepted(self) -> bool {
+        self.answer.is_ok()
     }
-}
 
-pub fn same_scheduler(a: RingBufferScheduler, b: RingBufferScheduler) -> bool {
-    a.buf_len == b.buf_len
-        && a.items_written.0 == b.items_written.0
-        && a.items_read.0 == b.items_read.0
-        && a.fill == b.fill
+    pub fn is_refused_with(self, number: u64) -> bool {
+        self.answer == Err(number)
+    }
+
+    // A refused call moves nothing.
+    pub fn moved(self) -> Moved {
+        self.answer.unwrap_or_default()
+    }
 }
 
 pub fn accepted(scheduler: RingBufferScheduler, n: u64, remainder: u64) -> Told {
     Told {
         scheduler,
-        n,
-        remainder,
-        number: 0,
+        answer: Ok(Moved { n, remainder }),
     }
 }
 
 pub fn refused(scheduler: RingBufferScheduler, number: u64) -> Told {
     Told {
         scheduler,
-        n: 0,
-        remainder: 0,
-        number,
+        answer: Err(number),
     }
 }
 
-// ---- counters
+// ---- counters, by a function for each end: the ends are two types, so that none takes the counter that it sends
 
-// No counter of a run is so large: the end refused.
-pub const REFUSED: u64 = u64::MAX;
-
-pub fn sent_by_writer(scheduler: RingBufferScheduler) -> u64 {
-    match (WritingEnd { scheduler }).send() {
-        WrittenCounterAnswer::Of(counter) => counter.0.0,
-        WrittenCounterAnswer::Refused(_) => REFUSED,
-    }
+pub fn sent_by_writer(scheduler: RingBufferScheduler) -> Option<u64> {
+    Some((WritingEnd { scheduler }).send().ok()?.0.0)
 }
 
-pub fn sent_by_reader(scheduler: RingBufferScheduler) -> u64 {
-    match (ReadingEnd { scheduler }).send() {
-        ReadCounterAnswer::Of(counter) => counter.0.0,
-        ReadCounterAnswer::Refused(_) => REFUSED,
-    }
+pub fn sent_by_reader(scheduler: RingBufferScheduler) -> Option<u64> {
+    Some((ReadingEnd { scheduler }).send().ok()?.0.0)
 }
 
 pub fn take_read(scheduler: RingBufferScheduler, counter: u64) -> Told {
     match (WritingEnd { scheduler }).take(ReadCounter(Counter(counter))) {
-        WritingEndAnswer::Of(end) => accepted(end.scheduler, 0, 0),
-        WritingEndAnswer::Refused(e) => refused(scheduler, e.number()),
+        Ok(end) => accepted(end.scheduler, 0, 0),
+        Err(e) => refused(scheduler, e.number()),
     }
 }
 
 pub fn take_written(scheduler: RingBufferScheduler, counter: u64) -> Told {
     match (ReadingEnd { scheduler }).take(WrittenCounter(Counter(counter))) {
-        ReadingEndAnswer::Of(end) => accepted(end.scheduler, 0, 0),
-        ReadingEndAnswer::Refused(e) => refused(scheduler, e.number()),
-    }
-}
-
-pub fn amount(answer: AmountAnswer) -> u64 {
-    match answer {
-        AmountAnswer::Of(n) => n,
-        AmountAnswer::Refused(_) => REFUSED,
+        Ok(end) => accepted(end.scheduler, 0, 0),
+        Err(e) => refused(scheduler, e.number()),
     }
 }

@@ -2,110 +2,76 @@
 ghost use Rattle.copies.specs.Lent.{WriteLeaves, ReadLeaves};
 
 use crate::calls::{Told, accepted, refused};
-use crate::memory::differing;
-use crate::numbers::min;
+use crate::memory::Memory;
 use ends::{Got, ReadingEnd, WritingEnd, Wrote};
-use sched::RingBufferScheduler;
+use sched::{Portion, RingBufferScheduler};
 
 // What a copy is told, and what it leaves where it goes: of a write the ring, of a read the destination.
-#[derive(Clone, Copy)]
+#[derive(Clone, Copy, PartialEq)]
 pub struct Copied {
     pub told: Told,
-    pub left: [u8; 12],
+    pub left: Memory,
 }
 
 impl Copied {
-    pub fn same(self, other: Copied) -> bool {
-        let left = self.left;
-        let other_left = other.left;
-        self.told.same(other.told) && differing(left, other_left, 0, 12) == 0
+    // Of a copy to this memory.
+    fn to<F: FnOnce(&mut [u8]) -> Told>(memory: Memory, copy: F) -> Copied
+        requires { F.IsAlwaysCallable copy }
+    {
+        let mut left = memory;
+        let len = left.lent_len();
+        let told = copy(&mut left.bytes[..len]);
+        Copied { told, left }
     }
 }
 
-// ---- by the ends: of the ring the first `len` bytes are lent, and of the others as many as are asked
+// ---- by the ends, and so by a function for each: the ends are two types, of which one copies into the ring and one out of it
 
-pub fn written(
-    scheduler: RingBufferScheduler,
-    ring: [u8; 12],
-    len: u64,
-    src: [u8; 12],
-    asked: u64,
-) -> Copied {
-    let mut left = ring;
-    let len = min(len, 12) as usize;
-    let asked = min(asked, 12) as usize;
-    let answer = (WritingEnd { scheduler }).write(&mut left[0..len], &src[0..asked]);
-    let told = wrote(scheduler, answer);
-    Copied { told, left }
+pub fn written(scheduler: RingBufferScheduler, ring: Memory, src: Memory) -> Copied {
+    Copied::to(ring, |ring| {
+        wrote(
+            scheduler,
+            (WritingEnd { scheduler }).write(ring, src.lent()),
+        )
+    })
 }
 
-pub fn read_out(
-    scheduler: RingBufferScheduler,
-    ring: [u8; 12],
-    len: u64,
-    dst: [u8; 12],
-    asked: u64,
-) -> Copied {
-    let mut left = dst;
-    let len = min(len, 12) as usize;
-    let asked = min(asked, 12) as usize;
-    let answer = (ReadingEnd { scheduler }).read(&ring[0..len], &mut left[0..asked]);
-    let told = got(scheduler, answer);
-    Copied { told, left }
+pub fn read_out(scheduler: RingBufferScheduler, ring: Memory, dst: Memory) -> Copied {
+    Copied::to(dst, |dst| {
+        got(scheduler, (ReadingEnd { scheduler }).read(ring.lent(), dst))
+    })
 }
 
-fn wrote(before: RingBufferScheduler, answer: Wrote) -> Told {
+fn wrote(before: RingBufferScheduler, answer: Result<Wrote, ends::Refusal>) -> Told {
     match answer {
-        Wrote::Moved { end, portion } => accepted(end.scheduler, portion.len, portion.remainder),
-        Wrote::Refused(e) => refused(before, e.number()),
+        Ok(Wrote { end, portion }) => accepted(end.scheduler, portion.len, portion.remainder),
+        Err(e) => refused(before, e.number()),
     }
 }
 
-fn got(before: RingBufferScheduler, answer: Got) -> Told {
+fn got(before: RingBufferScheduler, answer: Result<Got, ends::Refusal>) -> Told {
     match answer {
-        Got::Moved { end, portion } => accepted(end.scheduler, portion.len, portion.remainder),
-        Got::Refused(e) => refused(before, e.number()),
+        Ok(Got { end, portion }) => accepted(end.scheduler, portion.len, portion.remainder),
+        Err(e) => refused(before, e.number()),
     }
 }
 
 // ---- over a lent scheduler
 
-pub fn written_lent(
-    scheduler: RingBufferScheduler,
-    ring: [u8; 12],
-    len: u64,
-    src: [u8; 12],
-    asked: u64,
-) -> Copied {
-    let mut left = ring;
-    let len = min(len, 12) as usize;
-    let asked = min(asked, 12) as usize;
-    let lent = write(scheduler, &mut left[0..len], &src[0..asked]);
-    let told = flat(lent);
-    Copied { told, left }
+pub fn written_lent(scheduler: RingBufferScheduler, ring: Memory, src: Memory) -> Copied {
+    Copied::to(ring, |ring| flat(write(scheduler, ring, src.lent())))
 }
 
-pub fn read_out_lent(
-    scheduler: RingBufferScheduler,
-    ring: [u8; 12],
-    len: u64,
-    dst: [u8; 12],
-    asked: u64,
-) -> Copied {
-    let mut left = dst;
-    let len = min(len, 12) as usize;
-    let asked = min(asked, 12) as usize;
-    let lent = read(scheduler, &ring[0..len], &mut left[0..asked]);
-    let told = flat(lent);
-    Copied { told, left }
+pub fn read_out_lent(scheduler: RingBufferScheduler, ring: Memory, dst: Memory) -> Copied {
+    Copied::to(dst, |dst| flat(read(scheduler, ring.lent(), dst)))
 }
 
 fn flat(lent: Lent) -> Told {
     let scheduler = lent.scheduler;
     let told = lent.told;
     match told {
-        copies::Told::Moved(portion) => accepted(scheduler, portion.len, portion.remainder),
-        copies::Told::Refused(e) => refused(scheduler, e.number()),
+        Ok(portion) => accepted(scheduler, portion.len, portion.remainder),
+        Err(e) => refused(scheduler, e.number()),
     }
 }
 
@@ -113,10 +79,10 @@ fn flat(lent: Lent) -> Told {
 #[derive(Clone, Copy)]
 pub struct Lent {
     pub scheduler: RingBufferScheduler,
-    pub told: copies::Told,
+    pub told: Result<Portion, copies::Refusal>,
 }
 
-// These two lend the scheduler, and nothing else does.
+// These two lend the scheduler, and nothing else does. Two, as in copies: another slice is lent to be changed.
 fn write(s: RingBufferScheduler, ring: &mut [u8], src: &[u8]) -> Lent
     ensures { WriteLeaves s ring.old src.now result.told result.scheduler ring.new }
 {

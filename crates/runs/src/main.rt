@@ -11,7 +11,6 @@ mod report;
 mod wanted;
 mod world;
 
-use numbers::add;
 use report::Report;
 use std::io;
 use world::World;
@@ -19,31 +18,23 @@ use world::World;
 // In each run.
 const EVENTS: u64 = 4000;
 
-// Over rings of 1 to 9 bytes, of which the last has 18 counters.
+// Over rings of 1 to 9 bytes, from every counter that a ring has.
 fn main(rt: HostRuntime) -> io::Result<()> {
-    let mut report = Report::new();
-    for i in 0..162 {
-        report = started(report, 1 + i / 18, i % 18);
+    let mut report = Report::default();
+    for len in 1..10 {
+        for start in 0..2 * len {
+            let world = World::new(report, len, start);
+            report = run(world, numbers::seed(len, start)).ended();
+        }
     }
-    report.print(&rt)
+    print!(rt; "{report}")
 }
 
-// Both ends start at this counter, where a ring of this length has it.
-fn started(report: Report, len: u64, start: u64) -> Report {
-    if start >= add(len, len) {
-        return report;
-    }
-    run(World::new(report, len, start), numbers::seed(len, start)).ended()
-}
-
-fn run(world: World, seed: u64) -> World {
-    let mut world = world;
+fn run(mut world: World, seed: u64) -> World {
     let mut random = seed;
-    let mut left = EVENTS;
-    while left > 0 {
+    for _ in 0..EVENTS {
         random = numbers::random(random);
         world = events::happened(world, random).checked();
-        left -= 1;
     }
     world
 }

@@ -1,26 +1,16 @@
 // Numbers that wrap nowhere in a run: the wrapping calls ask for no bound. And random ones.
-ghost use Rattle.std.specs.Prelude.{◌≤◌};
 
 pub fn add(a: u64, b: u64) -> u64 {
-    std::num::wrapping_add_u64(a, b)
+    a.wrapping_add(b)
 }
 
 pub fn sub(a: u64, b: u64) -> u64 {
-    std::num::wrapping_sub_u64(a, b)
-}
-
-pub fn min(a: u64, b: u64) -> u64
-    ensures { result ≤ b }
-{
-    if a < b { a } else { b }
+    a.wrapping_sub(b)
 }
 
 // No run divides by 0.
 pub fn rem(a: u64, m: u64) -> u64 {
-    if m == 0 {
-        return 0;
-    }
-    a % m
+    a.checked_rem(m).unwrap_or(0)
 }
 
 // Each run has random numbers of its own.

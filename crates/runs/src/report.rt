@@ -1,160 +1,187 @@
-// What happened in all runs and what came of the checks: one row of counts, in the order in which they are printed.
-use crate::memory::differing;
+// What happened in all runs and what came of the checks.
+use crate::memory::Memory;
+use crate::notes::Note;
 use crate::numbers::{add, sub};
-use std::io;
+use std::fmt;
+use std::ops::Range;
 
-pub const RUNS: usize = 0;
+// A promise: it was checked so often, and failed so often.
+#[derive(Clone, Copy, Default)]
+pub struct Promise {
+    checks: u64,
+    failures: u64,
+}
 
-const EVENTS: usize = 1;
+impl Promise {
+    pub fn check(&mut self, holds: bool) {
+        self.checked(1, u64::from(!holds));
+    }
+
+    // The bytes of this range are the same in both.
+    pub fn same(&mut self, a: Memory, b: Memory, range: Range<u64>) {
+        let checks = sub(range.end, range.start);
+        self.checked(checks, a.differing(&b, range));
+    }
+
+    fn checked(&mut self, checks: u64, failures: u64) {
+        self.checks = add(self.checks, checks);
+        self.failures = add(self.failures, failures);
+    }
+}
+
+impl fmt::Display for Promise {
+    fn fmt<W: fmt::Write>(&self, f: &mut fmt::Formatter<W>) -> fmt::Result {
+        write!(f, "{} checks, {} failures", self.checks, self.failures)
+    }
+}
 
 // Copies, each with its bytes.
-pub const WRITES: usize = 2;
+#[derive(Clone, Copy, Default)]
+pub struct Copies {
+    calls: u64,
+    bytes: u64,
+}
 
-pub const WRITTEN: usize = 3;
+impl Copies {
+    pub fn count(&mut self, bytes: u64) {
+        self.calls = add(self.calls, 1);
+        self.bytes = add(self.bytes, bytes);
+    }
+}
 
-pub const READS: usize = 4;
+// The counters of an end. A late one was taken after a newer one was sent.
+#[derive(Clone, Copy, Default)]
+pub struct Counters {
+    sent: u64,
+    taken: u64,
+    lost: u64,
+    late: u64,
+    repeated: u64,
+}
 
-pub const READ: usize = 5;
+impl Counters {
+    // A note is lost until it is taken.
+    pub fn send(&mut self) {
+        self.sent = add(self.sent, 1);
+        self.lost = add(self.lost, 1);
+    }
 
-// How often the writing ends came round their rings.
-pub const TURNS: usize = 6;
+    // Of so many that were sent.
+    pub fn take(&mut self, note: Note, sent: u64) {
+        let again = u64::from(note.taken);
+        let late = add(note.number, 1) < sent;
+        self.taken = add(self.taken, 1);
+        self.lost = add(self.lost, sub(again, 1));
+        self.late = add(self.late, u64::from(late));
+        self.repeated = add(self.repeated, again);
+    }
+}
 
-// The counters of each end: sent, taken, lost, late and repeated. A late one was taken after a newer one was sent.
-pub const BY_WRITER: usize = 7;
+impl fmt::Display for Counters {
+    fn fmt<W: fmt::Write>(&self, f: &mut fmt::Formatter<W>) -> fmt::Result {
+        write!(
+            f,
+            "{} sent, {} taken, {} lost",
+            self.sent, self.taken, self.lost
+        )?;
+        write!(f, ", {} late, {} repeated", self.late, self.repeated)
+    }
+}
 
-pub const BY_READER: usize = 12;
-
-pub const TAKEN: usize = 1;
-
-pub const LOST: usize = 2;
-
-pub const LATE: usize = 3;
-
-pub const REPEATED: usize = 4;
-
-// Calls that must be refused.
-pub const RAN_BACK: usize = 17;
-
-pub const WRONG_MEMORY: usize = 18;
-
-// Promises: each was checked so often, and failed so often.
-pub const ACCEPTED: usize = 19;
-// What an end's record allows is what its positions say, so that the next check does not rest on the record alone.
-pub const VIEWS: usize = 21;
-
-pub const EXACT: usize = 23;
-
-pub const LEFT_OVER: usize = 25;
-
-pub const IN_ORDER: usize = 27;
-
-pub const UNTOUCHED: usize = 29;
-
-pub const IN_CELLS: usize = 31;
-
-pub const ONLY_OWN: usize = 33;
-
-pub const AGREED: usize = 35;
-
-pub const NUMBERS: usize = 37;
-
-pub const LEFT: usize = 39;
-
-pub const LENT: usize = 41;
-
-pub const HELD: usize = 43;
-
-const COUNTS: usize = 45;
-
-#[derive(Clone, Copy)]
+#[derive(Clone, Copy, Default)]
 pub struct Report {
-    counts: [u64; COUNTS],
+    pub runs: u64,
+    pub writes: Copies,
+    pub reads: Copies,
+    // How often the writing ends came round their rings.
+    pub turns: u64,
+    pub by_writer: Counters,
+    pub by_reader: Counters,
+    // Calls that must be refused.
+    pub ran_back: u64,
+    pub wrong_memory: u64,
+    pub accepted: Promise,
+    // What an end's record allows is what its positions say, so that the next check does not rest on the record alone.
+    pub views: Promise,
+    pub exact: Promise,
+    pub left_over: Promise,
+    pub in_order: Promise,
+    pub untouched: Promise,
+    pub in_cells: Promise,
+    pub only_own: Promise,
+    pub agreed: Promise,
+    pub numbers: Promise,
+    pub left: Promise,
+    pub lent: Promise,
+    pub held: Promise,
 }
 
 impl Report {
-    pub fn new() -> Report {
-        Report {
-            counts: [0; COUNTS],
-        }
+    // The calls that are to be accepted and those that are to be refused.
+    fn events(&self) -> u64 {
+        add(self.accepted.checks, self.numbers.checks)
     }
 
-    fn of(self, i: usize) -> u64 {
-        if i >= COUNTS {
-            return 0;
-        }
-        self.counts[i]
+    fn write_events<W: fmt::Write>(&self, f: &mut fmt::Formatter<W>) -> fmt::Result {
+        writeln!(
+            f,
+            "{} runs, over rings of 1 to 9 bytes, from every counter",
+            self.runs
+        )?;
+        writeln!(f, "{} events", self.events())?;
+        writeln!(
+            f,
+            "{} writes of {} bytes",
+            self.writes.calls, self.writes.bytes
+        )?;
+        writeln!(
+            f,
+            "{} reads of {} bytes",
+            self.reads.calls, self.reads.bytes
+        )?;
+        writeln!(f, "{} turns of a ring", self.turns)?;
+        writeln!(f, "written counters: {}", self.by_writer)?;
+        writeln!(f, "read counters: {}", self.by_reader)?;
+        writeln!(f, "{} counters that ran back", self.ran_back)?;
+        writeln!(f, "{} memories of a wrong length", self.wrong_memory)
     }
 
-    pub fn plus(mut self, i: usize, n: u64) -> Report {
-        if i >= COUNTS {
-            return self;
-        }
-        self.counts[i] = add(self.counts[i], n);
-        self
-    }
-
-    pub fn check(self, promise: usize, holds: bool) -> Report {
-        self.checked(promise, 1, !holds as u64)
-    }
-
-    fn checked(self, promise: usize, checks: u64, failures: u64) -> Report {
-        self.plus(promise, checks)
-            .plus(behind(promise, 1), failures)
-    }
-
-    // The bytes from one index up to another are the same in both.
-    pub fn same(self, promise: usize, a: [u8; 12], b: [u8; 12], from: u64, to: u64) -> Report {
-        self.checked(promise, sub(to, from), differing(a, b, from, to))
-    }
-
-    // The events are the calls that are to be accepted and those that are to be refused.
-    pub fn print(self, rt: &impl Print) -> io::Result<()> {
-        let events = add(self.of(ACCEPTED), self.of(NUMBERS));
-        self.plus(EVENTS, events).print_counts(
-            rt,
-            b"\
-% runs, over rings of 1 to 9 bytes, from every counter\n\
-% events\n\
-% writes of % bytes\n\
-% reads of % bytes\n\
-% turns of a ring\n\
-written counters: % sent, % taken, % lost, % late, % repeated\n\
-read counters: % sent, % taken, % lost, % late, % repeated\n\
-% counters that ran back\n\
-% memories of a wrong length\n\
-no call is refused: % checks, % failures\n\
-each record allows what its positions say: % checks, % failures\n\
-as many bytes as asked and allowed: % checks, % failures\n\
-moved and left over are what was asked: % checks, % failures\n\
-bytes read are the next ones written: % checks, % failures\n\
-the rest of a destination is untouched: % checks, % failures\n\
-each unread byte stands in its cell: % checks, % failures\n\
-a write changes no other cell: % checks, % failures\n\
-both records are equal: % checks, % failures\n\
-refused with its number, 9 or 10: % checks, % failures\n\
-a refusal touches no byte: % checks, % failures\n\
-a lent scheduler makes the same copy: % checks, % failures\n\
-each record holds what lies between its positions: % checks, % failures\n",
+    fn write_promises<W: fmt::Write>(&self, f: &mut fmt::Formatter<W>) -> fmt::Result {
+        writeln!(f, "no call is refused: {}", self.accepted)?;
+        writeln!(
+            f,
+            "each record allows what its positions say: {}",
+            self.views
+        )?;
+        writeln!(f, "as many bytes as asked and allowed: {}", self.exact)?;
+        writeln!(
+            f,
+            "moved and left over are what was asked: {}",
+            self.left_over
+        )?;
+        writeln!(f, "bytes read are the next ones written: {}", self.in_order)?;
+        writeln!(
+            f,
+            "the rest of a destination is untouched: {}",
+            self.untouched
+        )?;
+        writeln!(f, "each unread byte stands in its cell: {}", self.in_cells)?;
+        writeln!(f, "a write changes no other cell: {}", self.only_own)?;
+        writeln!(f, "both records are equal: {}", self.agreed)?;
+        writeln!(f, "refused with its number, 9 or 10: {}", self.numbers)?;
+        writeln!(f, "a refusal touches no byte: {}", self.left)?;
+        writeln!(f, "a lent scheduler makes the same copy: {}", self.lent)?;
+        writeln!(
+            f,
+            "each record holds what lies between its positions: {}",
+            self.held
         )
-    }
-
-    // Prints the text with a count for each %.
-    fn print_counts(self, rt: &impl Print, text: &[u8]) -> io::Result<()> {
-        let mut next = 0;
-        for i in 0..text.len() {
-            let byte = text[i];
-            if byte == b'%' {
-                rt.print(self.of(next))?;
-                next = behind(next, 1);
-            } else {
-                rt.write_all(&[byte])?;
-            }
-        }
-        Ok(())
     }
 }
 
-// No index is above 45, so the sum does not wrap.
-pub fn behind(i: usize, by: usize) -> usize {
-    std::num::wrapping_add_usize(i, by)
+impl fmt::Display for Report {
+    fn fmt<W: fmt::Write>(&self, f: &mut fmt::Formatter<W>) -> fmt::Result {
+        self.write_events(f)?;
+        self.write_promises(f)
+    }
 }

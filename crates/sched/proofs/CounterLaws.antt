@@ -11,9 +11,9 @@ below_64 : (x l : ℕ) → l ≤ 2 ^ 63 → x < 2 * l → x < 2 ^ 64
 below_64 x l fits h = omega arith
 
 -- ---- a difference: a is w - r, wrapped
-module _ (l w r a : ℕ) (h : Sized l) (hw : w < 2 * l) (hr : r < 2 * l) (ha : a < 2 ^ 64) (e : (a + r) % 2 ^ 64 ≡ w) where
+module _ (l w r a : ℕ) (h : Sized l) (hw : w < 2 * l) (hr : r < 2 * l) (e : a ≡ (w + (2 ^ 64 - r)) % 2 ^ 64) where
   wrapped : a ≡ sub_mod (2 ^ 64) w r
-  wrapped = wrapped_sub (2 ^ 64) w r a (below_64 w l h.fits hw) (below_64 r l h.fits hr) ha e
+  wrapped = e ∙ wrapped_sub (2 ^ 64) w r (below_64 w l h.fits hw) (below_64 r l h.fits hr)
 
   pub not_below : r ≤ w → a ≡ sub_mod (2 * l) w r
   not_below le =
@@ -40,11 +40,11 @@ module _ (l : ℕ) (c : Counter) (n s : ℕ) (h : Sized l) (hc : c.0 < 2 * l) (h
   up_to_last lt = ap counter_at (e ∙ mod-eq_of_lt (omega (arith, h.fits)) ∙ sym (add_is (2 * l) c.0 n ∙ mod-eq_of_lt lt))
 
   -- less 2L, where it is that or above
-  pub beyond_last : (d x : ℕ) → 2 * l ≤ c.0 + n → d ≡ (2 * l) % 2 ^ 64 → x < 2 ^ 64 → (x + d) % 2 ^ 64 ≡ s → counter_at x ≡ later_of l c n
-  beyond_last d x le ed hx ex =
+  pub beyond_last : (d x : ℕ) → 2 * l ≤ c.0 + n → d ≡ (2 * l) % 2 ^ 64 → x ≡ (s + (2 ^ 64 - d)) % 2 ^ 64 → counter_at x ≡ later_of l c n
+  beyond_last d x le ed ex =
       let hs : s < 2 ^ 64 = rw e (mod-lt (c.0 + n) (omega arith)) in
       let hd : d < 2 ^ 64 = rw ed (mod-lt (2 * l) (omega arith)) in
       let rest = over (2 * l) c.0 n hc hn le in
       let f : (d + (c.0 + n - 2 * l)) % 2 ^ 64 ≡ s % 2 ^ 64 = rw (ed, mod-add-mod, ← rest.1, e, mod-mod) in
-      let g : x ≡ c.0 + n - 2 * l = wrapped_sub (2 ^ 64) s d x hs hd hx ex ∙ sub_unique (2 ^ 64) s d (c.0 + n - 2 * l) (omega arith) (below_64 (c.0 + n - 2 * l) l h.fits rest.0) f in
+      let g : x ≡ c.0 + n - 2 * l = ex ∙ wrapped_sub (2 ^ 64) s d hs hd ∙ sub_unique (2 ^ 64) s d (c.0 + n - 2 * l) (omega arith) (below_64 (c.0 + n - 2 * l) l h.fits rest.0) f in
       ap counter_at (g ∙ sym (add_is (2 * l) c.0 n ∙ once (2 * l) (c.0 + n) (c.0 + n - 2 * l) rest.0 rest.1))

@@ -1,5 +1,5 @@
 -- Laws of the layout: where the data of a sound scheduler lies, and the block of its next operation.
-use Rattle.std.proofs.Common.{◌≡◌, ℕ, ◌+◌, ◌-◌, ◌*◌, ◌%◌, ◌<◌, ◌≤◌, min, max, Bool, true, false, cond, eqb, ltb, ◌⊎◌, sym, refl, ap, ◌∙◌, inl, inr, ⊎_elim, mod-eq_of_lt, arith, ltb-false, ltb-true, le-ltb, lt-ltb, eq-eqb, ne_eqb, eqb-true}
+use Rattle.std.proofs.Common.{◌≡◌, ℕ, ◌+◌, ◌-◌, ◌*◌, ◌%◌, ◌<◌, ◌≤◌, min, Bool, true, false, cond, eqb, ltb, ◌⊎◌, sym, refl, ap, ◌∙◌, inl, inr, ⊎_elim, mod-eq_of_lt, arith, ltb-false, ltb-true, le-ltb, lt-ltb, eq-eqb, ne_eqb, eqb-true}
 use borrow.Author.Tests.{eqb-false}
 use native.Mathlib.Nat.{mod-add-mod, mod-mod_of_dvd, dvd-mul_left}
 use Rattle.modular.proofs.Laws.{sub_back, once, lt_or_le}
@@ -104,17 +104,3 @@ module _ (s : RingBufferScheduler) (r w : Offset) (er : r ≡ offset_in s Read) 
 
   pub layout_full : w.0 ≤ r.0 → r.0 ≤ w.0 → (data_in s ≡ 0 → ⊥) → DataFreeData ≡ layout_in s
   layout_full g h z = rw (ne_eqb (data_in s) 0 z) at (layout_equal g h)
-
--- ---- two offsets that are compared: which is the smaller and which the larger
-module _ (x y a b : Offset) (p : x ≡ a) (q : y ≡ b) where
-  pub low_first : x.0 ≤ y.0 → x.0 ≡ min a.0 b.0
-  low_first l = rw (← p, ← q) (omega arith)
-
-  pub low_second : y.0 < x.0 → y.0 ≡ min a.0 b.0
-  low_second l = rw (← p, ← q) (omega arith)
-
-  pub high_first : x.0 ≤ y.0 → y.0 ≡ max a.0 b.0
-  high_first l = rw (← p, ← q) (omega arith)
-
-  pub high_second : y.0 < x.0 → x.0 ≡ max a.0 b.0
-  high_second l = rw (← p, ← q) (omega arith)

@@ -16,3 +16,4 @@ pub mod PromisedMoves
 pub mod Parts
 pub mod PromisedParts
 pub mod PromisedFill
+pub mod PromisedSound

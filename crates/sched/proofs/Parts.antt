@@ -84,7 +84,7 @@ module _ (s : RingBufferScheduler) (h : IsSound s) where
   place n = record { 0 = n }
 
   free_data : Free ≡ Data → ⊥
-  free_data p = let z : ◌≡◌ {A = ℕ} 0 1 = cc in omega arith
+  free_data p = cc
 
   pub blocks_are : BlocksOf s (blocks_in s)
   blocks_are =

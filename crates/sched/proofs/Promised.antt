@@ -1,22 +1,13 @@
 -- What the paper (docs/PAPER.md, "The scheduler") promises, of the calls: every outcome that an attached contract allows keeps it.
-use Rattle.std.proofs.Common.{◌≡◌, ℕ, ◌+◌, ◌≤◌, min, sym, refl, ap, ◌∙◌, arith}
+use Rattle.std.proofs.Common.{◌≡◌, ℕ, ◌+◌, ◌≤◌, min, sym, refl, ap, ◌∙◌, arith, Result, Ok, Some, None}
+use Rattle.operations.proofs.Answered.{ok_same}
 use Rattle.modular.proofs.Saying.{Allows, Keeps}
-use Rattle.operations.specs.declared.counter.AmountAnswer.{AmountAnswer}
-use Rattle.operations.specs.declared.counter.AmountAnswer.TheVariants as amount
-use Rattle.operations.specs.declared.list.ScheduledOperations.TheVariants as list
+use Rattle.operations.specs.declared.list.AtMostTwo.TheVariants as list
 use Rattle.sched.specs.declared.schedule.Next.{Next}
-use Rattle.sched.specs.declared.schedule.NextOperation.TheVariants as next
-use Rattle.sched.specs.declared.schedule.NextOperationAnswer.{NextOperationAnswer}
-use Rattle.sched.specs.declared.schedule.NextOperationAnswer.TheVariants as nexts
 use Rattle.sched.specs.declared.schedule.Scheduled.{Scheduled}
-use Rattle.sched.specs.declared.schedule.ScheduledAnswer.{ScheduledAnswer}
-use Rattle.sched.specs.declared.schedule.ScheduledAnswer.TheVariants as schedules
 use Rattle.operations.specs.declared.operation.OperationType.{OperationType}
 use Rattle.operations.specs.declared.operation.OperationType.TheVariants.{Read, Write}
 use Rattle.operations.specs.declared.operation.ScheduledOperation.{ScheduledOperation}
-use Rattle.sched.specs.declared.scheduler.Checked.TheVariants as checked
-use Rattle.sched.specs.declared.register.Registered.{Registered}
-use Rattle.sched.specs.declared.register.Registered.TheVariants as registered
 use Rattle.sched.specs.declared.scheduler.RingBufferScheduler.{RingBufferScheduler}
 use Rattle.sched.specs.Promise.{Schedules, Asks, Moves, NextPromise, Between, Taken, WrittenBy, MovedBy, MovedByList}
 use Rattle.sched.specs.Scheduler.{IsSound, sound_of, data_in, space_in, greatest_in, next_in, both_of, joined, by_blocks, schedule_in, advanced_in, next_of, schedule_of, register_of, register_list_of}
@@ -56,23 +47,15 @@ use Rattle.sched.proofs.scheduler.RingBufferScheduler.try_register_operation.Kin
 use Rattle.sched.proofs.scheduler.RingBufferScheduler.try_register_operation.Reads as try_register_operation
 use Rattle.sched.proofs.scheduler.RingBufferScheduler.try_register_operations.Kinds as try_register_operations_kinds
 use Rattle.sched.proofs.scheduler.RingBufferScheduler.try_register_operations.Reads as try_register_operations
+use Rattle.operations.specs.declared.refusal.Refusal.{Refusal}
 
-same_amount : (d e : ℕ) → amount.Of d ≡ amount.Of e → d ≡ e
-same_amount d e p = cc
-
-same_scheduled : (o p : Scheduled) → schedules.Of o ≡ schedules.Of p → o ≡ p
-same_scheduled o p q = cc
-
-same_next : (o p : Next) → nexts.Of o ≡ nexts.Of p → o ≡ p
-same_next o p q = cc
-
-advanced_by : (s : RingBufferScheduler) → IsSound s → (t : OperationType) (f : ScheduledOperation) (u : RingBufferScheduler) → f.typ ≡ t → f.len ≤ greatest_in s t → register_of s f.typ f.len ≡ registered.Advanced u → u ≡ advanced_in s t f.len
-advanced_by s h t f u e l p = let q : registered.Advanced u ≡ registered.Advanced (advanced_in s t f.len) = sym p ∙ ap (λ (x : OperationType). register_of s x f.len) e ∙ registers s h t f.len l in cc
+advanced_by : (s : RingBufferScheduler) → IsSound s → (t : OperationType) (f : ScheduledOperation) (u : RingBufferScheduler) → f.typ ≡ t → f.len ≤ greatest_in s t → register_of s f.typ f.len ≡ Ok u → u ≡ advanced_in s t f.len
+advanced_by s h t f u e l p = let q : Ok u ≡ Ok (advanced_in s t f.len) = sym p ∙ ap (λ (x : OperationType). register_of s x f.len) e ∙ registers s h t f.len l in cc
 
 -- ---- what is taken: counters with the held fill between them, at most L
 pub taken_exactly :
     Keeps 0 demand_soundness_kinds.ps demand_soundness_kinds.r demand_soundness.Learnt
-    (λ κs a z. (Taken a.0 → z ≡ checked.Sound a.0) × ((s : RingBufferScheduler) → z ≡ checked.Sound s → (s ≡ a.0) × Taken a.0))
+    (λ κs a z. (Taken a.0 → z ≡ Ok a.0) × ((s : RingBufferScheduler) → z ≡ Ok s → (s ≡ a.0) × Taken a.0))
 taken_exactly κs a z q = (
   λ t. said ∙ sym (sound_is a.0 (taken_sound a.0 t)),
   λ s e. let b : IsSound a.0 × (s ≡ a.0) = sound_both s a.0 (sym e ∙ said) in (b.1, sound_taken a.0 b.0),
@@ -83,35 +66,35 @@ taken_exactly κs a z q = (
 
 -- ---- data and space
 -- an outcome that a call allows on a record
-abbrev pub DataAvail : RingBufferScheduler → AmountAnswer → Type 0
+abbrev pub DataAvail : RingBufferScheduler → Result ℕ Refusal → Type 0
 DataAvail s z = Allows 0 data_avail_kinds.ps data_avail_kinds.r data_avail.Learnt tt (s, tt) z
 
-abbrev pub SpaceAvail : RingBufferScheduler → AmountAnswer → Type 0
+abbrev pub SpaceAvail : RingBufferScheduler → Result ℕ Refusal → Type 0
 SpaceAvail s z = Allows 0 space_avail_kinds.ps space_avail_kinds.r space_avail.Learnt tt (s, tt) z
 
-abbrev pub MaxOperationLen : RingBufferScheduler → OperationType → AmountAnswer → Type 0
+abbrev pub MaxOperationLen : RingBufferScheduler → OperationType → Result ℕ Refusal → Type 0
 MaxOperationLen s t z = Allows 0 max_operation_len_kinds.ps max_operation_len_kinds.r max_operation_len.Learnt tt (s, (t, tt)) z
 
 module _ (s : RingBufferScheduler) (h : IsSound s) where
-  pub data_is : (z : AmountAnswer) → DataAvail s z → z ≡ amount.Of (data_in s)
+  pub data_is : (z : Result ℕ Refusal) → DataAvail s z → z ≡ Ok (data_in s)
   data_is z q = rw (data_avail_says tt (s, tt) z q.0 q.1, ← sound_is s h)
 
-  pub space_is : (z : AmountAnswer) → SpaceAvail s z → z ≡ amount.Of (space_in s)
+  pub space_is : (z : Result ℕ Refusal) → SpaceAvail s z → z ≡ Ok (space_in s)
   space_is z q = rw (space_avail_says tt (s, tt) z q.0 q.1, ← sound_is s h)
 
-  pub greatest_is : (t : OperationType) (z : AmountAnswer) → MaxOperationLen s t z → z ≡ amount.Of (greatest_in s t)
+  pub greatest_is : (t : OperationType) (z : Result ℕ Refusal) → MaxOperationLen s t z → z ≡ Ok (greatest_in s t)
   greatest_is t z q = rw (max_operation_len_says tt (s, (t, tt)) z q.0 q.1, ← sound_is s h)
 
-  pub data_between : (z : AmountAnswer) → DataAvail s z → (d : ℕ) × (z ≡ amount.Of d) × Between s d
+  pub data_between : (z : Result ℕ Refusal) → DataAvail s z → (d : ℕ) × (z ≡ Ok d) × Between s d
   data_between z q = (data_in s, data_is z q, between s h)
 
-  pub data_and_space : (y z : AmountAnswer) → DataAvail s y → SpaceAvail s z → (d e : ℕ) × (y ≡ amount.Of d) × (z ≡ amount.Of e) × (d + e ≡ s.buf_len)
+  pub data_and_space : (y z : Result ℕ Refusal) → DataAvail s y → SpaceAvail s z → (d e : ℕ) × (y ≡ Ok d) × (z ≡ Ok e) × (d + e ≡ s.buf_len)
   data_and_space y z p q = (data_in s, space_in s, data_is y p, space_is z q, omega arith)
 
-  pub greatest_of_read : (y z : AmountAnswer) → DataAvail s y → MaxOperationLen s Read z → y ≡ z
+  pub greatest_of_read : (y z : Result ℕ Refusal) → DataAvail s y → MaxOperationLen s Read z → y ≡ z
   greatest_of_read y z p q = data_avail_says tt (s, tt) y p.0 p.1 ∙ sym (max_operation_len_says tt (s, (Read, tt)) z q.0 q.1)
 
-  pub greatest_of_write : (y z : AmountAnswer) → SpaceAvail s y → MaxOperationLen s Write z → y ≡ z
+  pub greatest_of_write : (y z : Result ℕ Refusal) → SpaceAvail s y → MaxOperationLen s Write z → y ≡ z
   greatest_of_write y z p q = space_avail_says tt (s, tt) y p.0 p.1 ∙ sym (max_operation_len_says tt (s, (Write, tt)) z q.0 q.1)
 
 -- ---- registering
@@ -129,21 +112,21 @@ operation_registered κs a z q u e = registered_moved a.0 a.1.0.typ a.1.0.len u 
 
 pub operations_registered :
     Keeps 0 try_register_operations_kinds.ps try_register_operations_kinds.r try_register_operations.Learnt
-    (λ κs a z. (u : RingBufferScheduler) → z ≡ registered.Advanced u → IsSound a.0 × MovedByList a.0 a.1.0 u)
+    (λ κs a z. (u : RingBufferScheduler) → z ≡ Ok u → IsSound a.0 × MovedByList a.0 a.1.0 u)
 operations_registered κs a z q u e = list_moved a.0 a.1.0 u (sym (try_register_operations_says κs a z q.0 q.1) ∙ e)
 
 -- so what `data_avail` answers is n more after a write of n
-abbrev pub TryRegisterWrite : RingBufferScheduler → ℕ → Registered → Type 0
+abbrev pub TryRegisterWrite : RingBufferScheduler → ℕ → Result RingBufferScheduler Refusal → Type 0
 TryRegisterWrite s n z = Allows 0 try_register_write_kinds.ps try_register_write_kinds.r try_register_write.Learnt tt (s, (n, tt)) z
 
-pub data_after_write : (s u : RingBufferScheduler) (n d : ℕ) (z : AmountAnswer) → TryRegisterWrite s n (registered.Advanced u) → DataAvail s (amount.Of d) → DataAvail u z → z ≡ amount.Of (d + n)
+pub data_after_write : (s u : RingBufferScheduler) (n d : ℕ) (z : Result ℕ Refusal) → TryRegisterWrite s n (Ok u) → DataAvail s (Ok d) → DataAvail u z → z ≡ Ok (d + n)
 data_after_write s u n d z p q r =
-    let m : IsSound s × WrittenBy s n u = write_registered tt (s, (n, tt)) (registered.Advanced u) p u refl in
-    let e : d ≡ data_in s = same_amount d (data_in s) (data_is s m.0 (amount.Of d) q) in
-    data_is u m.1.sound z r ∙ ap amount.Of (m.1.more ∙ ap (λ (x : ℕ). x + n) (sym e))
+    let m : IsSound s × WrittenBy s n u = write_registered tt (s, (n, tt)) (Ok u) p u refl in
+    let e : d ≡ data_in s = ok_same d (data_in s) (data_is s m.0 (Ok d) q) in
+    data_is u m.1.sound z r ∙ ap Ok (m.1.more ∙ ap (λ (x : ℕ). x + n) (sym e))
 
 -- ---- scheduling
-scheduled_all : (s : RingBufferScheduler) (t : OperationType) (m : ℕ) (z : ScheduledAnswer) → z ≡ schedule_of s t m → Schedules s t m z
+scheduled_all : (s : RingBufferScheduler) (t : OperationType) (m : ℕ) (z : Result Scheduled Refusal) → z ≡ schedule_of s t m → Schedules s t m z
 scheduled_all s t m z e h = (schedule_in s t m, rw (e, ← sound_is s h), scheduling s h t m, list_leaves s h t m)
 
 pub schedule_promised : Keeps 0 schedule_contiguous_operations_kinds.ps schedule_contiguous_operations_kinds.r schedule_contiguous_operations.Learnt (λ κs a z. Schedules a.0 a.1.0 a.1.1.0 z)
@@ -156,7 +139,7 @@ pub writes_promised : Keeps 0 schedule_writes_kinds.ps schedule_writes_kinds.r s
 writes_promised κs a z q = scheduled_all a.0 Write a.1.0 z (schedule_writes_says κs a z q.0 q.1)
 
 -- the next operation alone
-asks : (s : RingBufferScheduler) (t : OperationType) (m : ℕ) (z : NextOperationAnswer) → z ≡ next_of s t m → Asks s t m z
+asks : (s : RingBufferScheduler) (t : OperationType) (m : ℕ) (z : Result Next Refusal) → z ≡ next_of s t m → Asks s t m z
 asks s t m z e h = (next_in s t m, rw (e, ← sound_is s h), next_promised s h t m (next_in s t m).operation refl, next_leaves s t m)
 
 pub next_operation_promised : Keeps 0 schedule_next_contiguous_operation_kinds.ps schedule_next_contiguous_operation_kinds.r schedule_next_contiguous_operation.Learnt (λ κs a z. Asks a.0 a.1.0 a.1.1.0 z)
@@ -170,51 +153,51 @@ next_write_promised κs a z q = asks a.0 Write a.1.0 z (schedule_next_write_says
 
 -- ---- the list is what asking block after block gives, as the Rust does: the next operation, and the next of the scheduler after it,
 -- asked for what it left over
-abbrev pub Schedule : RingBufferScheduler → OperationType → ℕ → ScheduledAnswer → Type 0
+abbrev pub Schedule : RingBufferScheduler → OperationType → ℕ → Result Scheduled Refusal → Type 0
 Schedule s t m z = Allows 0 schedule_contiguous_operations_kinds.ps schedule_contiguous_operations_kinds.r schedule_contiguous_operations.Learnt tt (s, (t, (m, tt))) z
 
-abbrev pub NextOne : RingBufferScheduler → OperationType → ℕ → NextOperationAnswer → Type 0
+abbrev pub NextOne : RingBufferScheduler → OperationType → ℕ → Result Next Refusal → Type 0
 NextOne s t m z = Allows 0 schedule_next_contiguous_operation_kinds.ps schedule_next_contiguous_operation_kinds.r schedule_next_contiguous_operation.Learnt tt (s, (t, (m, tt))) z
 
-abbrev pub TryRegister : RingBufferScheduler → ScheduledOperation → Registered → Type 0
+abbrev pub TryRegister : RingBufferScheduler → ScheduledOperation → Result RingBufferScheduler Refusal → Type 0
 TryRegister s f z = Allows 0 try_register_operation_kinds.ps try_register_operation_kinds.r try_register_operation.Learnt tt (s, (f, tt)) z
 
 module _ (s : RingBufferScheduler) (h : IsSound s) (t : OperationType) (m : ℕ) where
-  next_of_lem : (o : Next) → NextOne s t m (nexts.Of o) → o ≡ next_in s t m
-  next_of_lem o q = same_next o (next_in s t m) (rw (← sound_is s h) at (schedule_next_contiguous_operation_says tt (s, (t, (m, tt))) (nexts.Of o) q.0 q.1))
+  next_of_lem : (o : Next) → NextOne s t m (Ok o) → o ≡ next_in s t m
+  next_of_lem o q = ok_same o (next_in s t m) (rw (← sound_is s h) at (schedule_next_contiguous_operation_says tt (s, (t, (m, tt))) (Ok o) q.0 q.1))
 
-  pub scheduled : (z : ScheduledAnswer) → Schedule s t m z → z ≡ schedules.Of (schedule_in s t m)
+  pub scheduled : (z : Result Scheduled Refusal) → Schedule s t m z → z ≡ Ok (schedule_in s t m)
   scheduled z q = rw (schedule_contiguous_operations_says tt (s, (t, (m, tt))) z q.0 q.1, ← sound_is s h)
 
-  pub schedule_of_lem : (r : Scheduled) → Schedule s t m (schedules.Of r) → r ≡ schedule_in s t m
-  schedule_of_lem r q = same_scheduled r (schedule_in s t m) (scheduled (schedules.Of r) q)
+  pub schedule_of_lem : (r : Scheduled) → Schedule s t m (Ok r) → r ≡ schedule_in s t m
+  schedule_of_lem r q = ok_same r (schedule_in s t m) (scheduled (Ok r) q)
 
-module _ (s : RingBufferScheduler) (h : IsSound s) (t : OperationType) (m : ℕ) (z : ScheduledAnswer) (q : Schedule s t m z) where
-  by_blocks_is : (o : Next) → o ≡ next_in s t m → z ≡ schedules.Of (by_blocks s t o.operation o.remainder)
+module _ (s : RingBufferScheduler) (h : IsSound s) (t : OperationType) (m : ℕ) (z : Result Scheduled Refusal) (q : Schedule s t m z) where
+  by_blocks_is : (o : Next) → o ≡ next_in s t m → z ≡ Ok (by_blocks s t o.operation o.remainder)
   unfolding schedule_in
-  by_blocks_is o e = scheduled s h t m z q ∙ ap (λ (x : Next). schedules.Of (by_blocks s t x.operation x.remainder)) (sym e)
+  by_blocks_is o e = scheduled s h t m z q ∙ ap (λ (x : Next). Ok (by_blocks s t x.operation x.remainder)) (sym e)
 
-  pub block_after_none : (k : ℕ) → NextOne s t m (nexts.Of (record { operation = next.None; remainder = k })) → z ≡ schedules.Of (record { operations = list.None; remainder = k })
-  block_after_none k p = by_blocks_is (record { operation = next.None; remainder = k }) (next_of_lem s h t m (record { operation = next.None; remainder = k }) p)
+  pub block_after_none : (k : ℕ) → NextOne s t m (Ok (record { operation = None; remainder = k })) → z ≡ Ok (record { operations = list.None; remainder = k })
+  block_after_none k p = by_blocks_is (record { operation = None; remainder = k }) (next_of_lem s h t m (record { operation = None; remainder = k }) p)
 
   pub block_after_block :
-      (f : ScheduledOperation) (k : ℕ) → NextOne s t m (nexts.Of (record { operation = next.Some f; remainder = k })) →
-      (u : RingBufferScheduler) → TryRegister s f (registered.Advanced u) →
-      (o : Next) → NextOne u t k (nexts.Of o) → z ≡ schedules.Of (record { operations = both_of (next.Some f) o.operation; remainder = o.remainder })
+      (f : ScheduledOperation) (k : ℕ) → NextOne s t m (Ok (record { operation = Some f; remainder = k })) →
+      (u : RingBufferScheduler) → TryRegister s f (Ok u) →
+      (o : Next) → NextOne u t k (Ok o) → z ≡ Ok (record { operations = both_of (Some f) o.operation; remainder = o.remainder })
   block_after_block f k p u r o v =
-      let e : record { operation = next.Some f; remainder = k } ≡ next_in s t m = next_of_lem s h t m (record { operation = next.Some f; remainder = k }) p in
-      let n : NextPromise s t m f = next_promised s h t m (next.Some f) (ap (λ (x : Next). x.operation) (sym e)) in
-      let g : register_of s f.typ f.len ≡ registered.Advanced u = sym (try_register_operation_says tt (s, (f, tt)) (registered.Advanced u) r.0 r.1) in
+      let e : record { operation = Some f; remainder = k } ≡ next_in s t m = next_of_lem s h t m (record { operation = Some f; remainder = k }) p in
+      let n : NextPromise s t m f = next_promised s h t m (Some f) (ap (λ (x : Next). x.operation) (sym e)) in
+      let g : register_of s f.typ f.len ≡ Ok u = sym (try_register_operation_says tt (s, (f, tt)) (Ok u) r.0 r.1) in
       let l : f.len ≤ greatest_in s t = omega (arith, n.runs) in
       let a : u ≡ advanced_in s t f.len = advanced_by s h t f u n.typed l g in
       let w : o ≡ next_in (advanced_in s t f.len) t k = next_of_lem u (rw a (advanced_sound s h f.len t l)) t k o v ∙ ap (λ (x : RingBufferScheduler). next_in x t k) a in
-      by_blocks_is (record { operation = next.Some f; remainder = k }) e ∙ ap (λ (x : Next). schedules.Of (joined f x)) (sym w)
+      by_blocks_is (record { operation = Some f; remainder = k }) e ∙ ap (λ (x : Next). Ok (joined f x)) (sym w)
 
 -- ---- what is scheduled is taken by registering, and moves all of it
 pub schedule_registers :
-    (s : RingBufferScheduler) → IsSound s → (t : OperationType) (m : ℕ) (r : Scheduled) → Schedule s t m (schedules.Of r) →
-    (z : Registered) → Allows 0 try_register_operations_kinds.ps try_register_operations_kinds.r try_register_operations.Learnt tt (s, (r.operations, tt)) z →
-    (u : RingBufferScheduler) × (z ≡ registered.Advanced u) × MovedBy s t (min m (greatest_in s t)) u
+    (s : RingBufferScheduler) → IsSound s → (t : OperationType) (m : ℕ) (r : Scheduled) → Schedule s t m (Ok r) →
+    (z : Result RingBufferScheduler Refusal) → Allows 0 try_register_operations_kinds.ps try_register_operations_kinds.r try_register_operations.Learnt tt (s, (r.operations, tt)) z →
+    (u : RingBufferScheduler) × (z ≡ Ok u) × MovedBy s t (min m (greatest_in s t)) u
 schedule_registers s h t m r q z p = (
   advanced_in s t (min m (greatest_in s t)),
   try_register_operations_says tt (s, (r.operations, tt)) z p.0 p.1 ∙ ap (λ (x : Scheduled). register_list_of s x.operations) (schedule_of_lem s h t m r q) ∙ (scheduling s h t m).registers,

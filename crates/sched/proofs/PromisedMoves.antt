@@ -1,19 +1,13 @@
 -- Of the call that schedules and registers at once: every outcome that its attached contract allows is what the two calls that it
 -- stands for answer, and what `MovePromise` of specs/ says in other words than the definition.
-use Rattle.std.proofs.Common.{◌≡◌, ℕ, min, ◌⊎◌, sym, refl, ap, ◌∙◌, inl, inr, ⊎_elim, arith}
+use Rattle.std.proofs.Common.{◌≡◌, ℕ, min, ◌⊎◌, sym, refl, ap, ◌∙◌, inl, inr, ⊎_elim, arith, Result, Ok, Err}
 use Rattle.modular.proofs.Laws.{lt_or_le}
 use Rattle.modular.proofs.Saying.{Allows, Keeps}
 use Rattle.operations.proofs.PortionLaws.{left_over}
 use Rattle.operations.specs.declared.operation.OperationType.{OperationType}
 use Rattle.operations.specs.declared.refusal.Refusal.{Refusal}
 use Rattle.sched.specs.declared.register.Move.{Move}
-use Rattle.sched.specs.declared.register.MoveAnswer.{MoveAnswer}
-use Rattle.sched.specs.declared.register.MoveAnswer.TheVariants as moves
-use Rattle.sched.specs.declared.register.Registered.{Registered}
-use Rattle.sched.specs.declared.register.Registered.TheVariants as registered
 use Rattle.sched.specs.declared.schedule.Scheduled.{Scheduled}
-use Rattle.sched.specs.declared.schedule.ScheduledAnswer.{ScheduledAnswer}
-use Rattle.sched.specs.declared.schedule.ScheduledAnswer.TheVariants as schedules
 use Rattle.sched.specs.declared.scheduler.RingBufferScheduler.{RingBufferScheduler}
 use Rattle.sched.specs.Promise.{cut_of, MovePromise, MovesAtOnce}
 use Rattle.sched.specs.Scheduler.{IsSound, greatest_in, scheduled_of, register_list_of, move_in}
@@ -28,7 +22,7 @@ use Rattle.sched.proofs.scheduler.RingBufferScheduler.schedule_and_register.Read
 use Rattle.sched.proofs.scheduler.RingBufferScheduler.try_register_operations.Kinds as try_register_operations_kinds
 use Rattle.sched.proofs.scheduler.RingBufferScheduler.try_register_operations.Reads as try_register_operations
 
-abbrev pub ScheduleAndRegister : RingBufferScheduler → OperationType → ℕ → MoveAnswer → Type 0
+abbrev pub ScheduleAndRegister : RingBufferScheduler → OperationType → ℕ → Result Move Refusal → Type 0
 ScheduleAndRegister s t m z = Allows 0 schedule_and_register_kinds.ps schedule_and_register_kinds.r schedule_and_register.Learnt tt (s, (t, (m, tt))) z
 
 -- ---- in other words
@@ -55,24 +49,24 @@ move_promised κs a z q h = (
 
 -- ---- of the two calls that it stands for
 module _ (s : RingBufferScheduler) (t : OperationType) (m : ℕ) where
-  module _ (v : Move) (p : ScheduleAndRegister s t m (moves.Of v)) where
+  module _ (v : Move) (p : ScheduleAndRegister s t m (Ok v)) where
     is : IsSound s × (v ≡ move_in s t m)
-    is = move_of_lem s t m v (schedule_and_register_says tt (s, (t, (m, tt))) (moves.Of v) p.0 p.1)
+    is = move_of_lem s t m v (schedule_and_register_says tt (s, (t, (m, tt))) (Ok v) p.0 p.1)
 
     -- cut where the buffer ends it is the list that is scheduled, with what is left over
-    pub move_cut : (z : ScheduledAnswer) → Schedule s t m z → z ≡ schedules.Of (record { operations = cut_of t s.buf_len v.off v.portion.len; remainder = v.portion.remainder })
-    move_cut z q = scheduled s is.0 t m z q ∙ ap schedules.Of (schedule_is s is.0 t m) ∙ ap (λ (x : Move). schedules.Of (scheduled_of (cut_of t s.buf_len x.off x.portion.len) x.portion.remainder)) (sym is.1)
+    pub move_cut : (z : Result Scheduled Refusal) → Schedule s t m z → z ≡ Ok (record { operations = cut_of t s.buf_len v.off v.portion.len; remainder = v.portion.remainder })
+    move_cut z q = scheduled s is.0 t m z q ∙ ap Ok (schedule_is s is.0 t m) ∙ ap (λ (x : Move). Ok (scheduled_of (cut_of t s.buf_len x.off x.portion.len) x.portion.remainder)) (sym is.1)
 
     -- and registering that list answers its scheduler
     pub move_registers :
-        (r : Scheduled) → Schedule s t m (schedules.Of r) →
-        (z : Registered) → Allows 0 try_register_operations_kinds.ps try_register_operations_kinds.r try_register_operations.Learnt tt (s, (r.operations, tt)) z →
-        z ≡ registered.Advanced v.scheduler
+        (r : Scheduled) → Schedule s t m (Ok r) →
+        (z : Result RingBufferScheduler Refusal) → Allows 0 try_register_operations_kinds.ps try_register_operations_kinds.r try_register_operations.Learnt tt (s, (r.operations, tt)) z →
+        z ≡ Ok v.scheduler
     move_registers r q z p =
         try_register_operations_says tt (s, (r.operations, tt)) z p.0 p.1 ∙ ap (λ (x : Scheduled). register_list_of s x.operations) (schedule_of_lem s is.0 t m r q) ∙ (scheduling s is.0 t m).registers
-        ∙ ap (λ (x : Move). registered.Advanced x.scheduler) (sym is.1)
+        ∙ ap (λ (x : Move). Ok x.scheduler) (sym is.1)
 
   -- it is refused as scheduling is
-  pub move_refused_too : (e : Refusal) → ScheduleAndRegister s t m (moves.Refused e) → (z : ScheduledAnswer) → Schedule s t m z → z ≡ schedules.Refused e
+  pub move_refused_too : (e : Refusal) → ScheduleAndRegister s t m (Err e) → (z : Result Scheduled Refusal) → Schedule s t m z → z ≡ Err e
   move_refused_too e p z q =
-      rw (schedule_contiguous_operations_says tt (s, (t, (m, tt))) z q.0 q.1, move_refused s t m e (schedule_and_register_says tt (s, (t, (m, tt))) (moves.Refused e) p.0 p.1))
+      rw (schedule_contiguous_operations_says tt (s, (t, (m, tt))) z q.0 q.1, move_refused s t m e (schedule_and_register_says tt (s, (t, (m, tt))) (Err e) p.0 p.1))

@@ -1,15 +1,14 @@
 -- What the paper (docs/PAPER.md, "The scheduler") promises, over the definitions; `Promised` states it of the calls.
-use Rattle.std.proofs.Common.{◌≡◌, ℕ, zero, suc, ◌+◌, ◌-◌, ◌^◌, ◌<◌, ◌≤◌, min, true, ◌⊎◌, List, ◌∷◌, ◌++◌, sym, refl, ap, ◌∙◌, inl, inr, ⊎_elim, add-zero, mod-eq_of_lt, eq-zero-or-pos, add_comm, zero-add, arith, le-ltb, lt-ltb, eq-eqb, ne_eqb}
+use Rattle.std.proofs.Common.{◌≡◌, ℕ, zero, suc, ◌+◌, ◌-◌, ◌^◌, ◌<◌, ◌≤◌, min, true, ◌⊎◌, List, ◌∷◌, ◌++◌, sym, refl, ap, ◌∙◌, inl, inr, ⊎_elim, add-zero, mod-eq_of_lt, eq-zero-or-pos, add_comm, zero-add, arith, le-ltb, lt-ltb, eq-eqb, ne_eqb, Ok, Err}
 use native.Mathlib.Nat.{add-mod_right}
 use Rattle.modular.proofs.Laws.{lt_or_le}
 use Rattle.operations.proofs.ListLaws.{list_taken}
 use Rattle.sched.specs.declared.block.BufferFillState.TheVariants.{Empty, Partial, Full}
-use Rattle.operations.specs.declared.list.ScheduledOperations.TheVariants as list
+use Rattle.operations.specs.declared.list.AtMostTwo.TheVariants as list
 use Rattle.operations.specs.declared.operation.OperationType.{OperationType}
 use Rattle.operations.specs.declared.operation.OperationType.TheVariants.{Read, Write}
 use Rattle.operations.specs.declared.operation.ScheduledOperation.{ScheduledOperation}
 use Rattle.operations.specs.declared.refusal.Refusal.TheVariants.{OperationTooLarge}
-use Rattle.sched.specs.declared.register.Registered.TheVariants as registered
 use Rattle.sched.specs.declared.scheduler.RingBufferScheduler.{RingBufferScheduler}
 use Rattle.operations.specs.Operation.{operation_of}
 use Rattle.sched.specs.Promise.{Promise, up_from, round_from, cut_of}
@@ -23,17 +22,17 @@ use Rattle.sched.proofs.ScheduleLaws.{min_min, cut_none, cut_one, cut_two, sched
 abbrev L : RingBufferScheduler → ℕ
 L s = s.buf_len
 
-advances : (s : RingBufferScheduler) (t : OperationType) (n : ℕ) → n ≤ greatest_in s t → register_in s t n ≡ registered.Advanced (advanced_in s t n)
+advances : (s : RingBufferScheduler) (t : OperationType) (n : ℕ) → n ≤ greatest_in s t → register_in s t n ≡ Ok (advanced_in s t n)
 unfolding register_in
 advances s t n l = rw (le-ltb _ _ l)
 
 -- ---- 6 where a registered length is above the greatest; else the scheduler advances by it
 module _ (s : RingBufferScheduler) (h : IsSound s) (t : OperationType) (n : ℕ) where
-  pub too_large : greatest_in s t < n → register_of s t n ≡ registered.Refused (OperationTooLarge t n (greatest_in s t))
+  pub too_large : greatest_in s t < n → register_of s t n ≡ Err (OperationTooLarge t n (greatest_in s t))
   unfolding register_in
   too_large l = rw (← sound_is s h, lt-ltb _ _ l)
 
-  pub registers : n ≤ greatest_in s t → register_of s t n ≡ registered.Advanced (advanced_in s t n)
+  pub registers : n ≤ greatest_in s t → register_of s t n ≡ Ok (advanced_in s t n)
   registers l = rw (← sound_is s h) (advances s t n l)
 
 -- ---- what the Rust panics at cannot happen
@@ -166,7 +165,7 @@ module _ (s : RingBufferScheduler) (h : IsSound s) (t : OperationType) (m : ℕ)
           sym (ap (round_from (L s) at) sum) ∙ round_append (L s) (L s - at) (all - (L s - at)) at ∙
           rw (round_ahead (L s) (L s - at) at (omega (arith, offset_lt s h t)), end, round_turn (L s) (all - (L s - at)) 0, round_ahead (L s) (all - (L s - at)) 0 (omega (arith, all_most)))
 
-      registered_both : register_list_of s (list.Two (operation_of t (offset_in s t) (L s - at)) (operation_of t (record { 0 = 0 }) (all - (L s - at)))) ≡ registered.Advanced (advanced_in s t all)
+      registered_both : register_list_of s (list.Two (operation_of t (offset_in s t) (L s - at)) (operation_of t (record { 0 = 0 }) (all - (L s - at)))) ≡ Ok (advanced_in s t all)
       registered_both =
           rw (← sound_is s h, list_taken one two short (same_type t), advances s t (L s - at) (omega arith)) second
         where
@@ -185,8 +184,8 @@ module _ (s : RingBufferScheduler) (h : IsSound s) (t : OperationType) (m : ℕ)
           left : all - (L s - at) ≤ greatest_in after t
           left = rw (advanced_greatest s h (L s - at) t (omega arith)) (omega arith)
 
-          second : register_in after t (all - (L s - at)) ≡ registered.Advanced (advanced_in s t all)
-          second = advances after t (all - (L s - at)) left ∙ ap registered.Advanced (advanced_twice s (L s - at) (all - (L s - at)) t ∙ ap (advanced_in s t) sum)
+          second : register_in after t (all - (L s - at)) ≡ Ok (advanced_in s t all)
+          second = advances after t (all - (L s - at)) left ∙ ap Ok (advanced_twice s (L s - at) (all - (L s - at)) t ∙ ap (advanced_in s t) sum)
 
 -- all that is asked and there, cut where the buffer ends
 cut_promised : (s : RingBufferScheduler) → IsSound s → (t : OperationType) (m : ℕ) → Promise s t m (cut_of t s.buf_len (offset_in s t) (min m (greatest_in s t)))

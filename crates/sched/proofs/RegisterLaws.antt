@@ -1,5 +1,5 @@
 -- Laws of registering: what a scheduler is after an operation, and a move.
-use Rattle.std.proofs.Common.{◌≡◌, ℕ, ◌+◌, ◌-◌, ◌*◌, ◌%◌, ◌^◌, ◌<◌, ◌≤◌, Bool, true, false, cond, ltb, sym, refl, ap, ◌∙◌, arith, ltb-false}
+use Rattle.std.proofs.Common.{◌≡◌, ℕ, ◌+◌, ◌-◌, ◌*◌, ◌%◌, ◌≤◌, Bool, true, false, cond, ltb, sym, refl, ap, ◌∙◌, arith, ltb-false, Result, Ok, Err}
 use Rattle.modular.specs.Modulus.{add_mod}
 use Rattle.modular.proofs.Laws.{add_is, add_lt, sub_of_sum, sub_to_sum, add_halved, add_add, add_nothing}
 use Rattle.operations.specs.declared.counter.Counter.{Counter}
@@ -7,16 +7,12 @@ use Rattle.operations.specs.declared.operation.OperationType.{OperationType}
 use Rattle.operations.specs.declared.operation.OperationType.TheVariants.{Read, Write}
 use Rattle.operations.specs.declared.refusal.Refusal.{Refusal}
 use Rattle.operations.specs.declared.refusal.Refusal.TheVariants.{OperationTooLarge}
-use Rattle.sched.specs.declared.scheduler.Checked.{Checked}
-use Rattle.sched.specs.declared.scheduler.Checked.TheVariants as checked
 use Rattle.sched.specs.declared.scheduler.RingBufferScheduler.{RingBufferScheduler}
 use Rattle.sched.specs.declared.register.Move.{Move}
-use Rattle.sched.specs.declared.register.MoveAnswer.TheVariants as moves
-use Rattle.sched.specs.declared.register.Registered.TheVariants as registered
 use Rattle.sched.specs.Promise.{MovedBy}
 use Rattle.sched.specs.Counter.{data_of}
 use Rattle.sched.specs.Scheduler.{record_of, IsSound, sound_of, data_in, offset_in, greatest_in, advanced_in, register_in, move_in, move_of}
-use Rattle.sched.proofs.Laws.{held_is, greatest_most, sound_both, sound_is}
+use Rattle.sched.proofs.Laws.{held_is, sound_both, sound_is}
 
 -- ---- what registering does
 module _ (s : RingBufferScheduler) (h : IsSound s) (n : ℕ) where
@@ -50,17 +46,8 @@ module _ (s : RingBufferScheduler) (h : IsSound s) (n : ℕ) where
 
 -- ---- the fill: n less after a read, n more after a write
 module _ (s : RingBufferScheduler) (h : IsSound s) (n : ℕ) (t : OperationType) (l : n ≤ greatest_in s t) where
-  pub below_round : n < 2 * s.buf_len
-  below_round = omega (arith, greatest_most s h t)
-
-  pub read_takes : t ≡ Read → n ≤ s.fill
-  read_takes e = rw h.held (rw e at l)
-
   pub read_fill : t ≡ Read → s.fill - n ≡ data_in (advanced_in s Read n)
   read_fill e = rw h.held (sym (advanced_greatest s h n Read (rw e at l)))
-
-  pub write_fits : t ≡ Write → s.fill + n < 2 ^ 64
-  write_fits e = let k : n ≤ greatest_in s Write = rw e at l in omega (arith, h.held, k, h.within, h.sized.fits)
 
   pub write_fill : t ≡ Write → s.fill + n ≡ data_in (advanced_in s Write n)
   write_fill e = let k : n ≤ greatest_in s Write = rw e at l in rw h.held (sym (sub_of_sum (2 * s.buf_len) s.items_written.0 s.items_read.0 n (omega arith) (omega arith)))
@@ -116,40 +103,40 @@ moved_is s u Write n m =
     λ i. record_of (m.length i) (q i) (m.read i) (f i)
 
 -- a scheduler that registering hands back is sound
-pub registered_sound : (s : RingBufferScheduler) → IsSound s → (t : OperationType) (n : ℕ) (u : RingBufferScheduler) → registered.Advanced u ≡ register_in s t n → IsSound u
+pub registered_sound : (s : RingBufferScheduler) → IsSound s → (t : OperationType) (n : ℕ) (u : RingBufferScheduler) → Ok u ≡ register_in s t n → IsSound u
 unfolding register_in
 registered_sound s h t n u p = go (ltb (greatest_in s t) n) refl p
   where
-    go : (b : Bool) → ltb (greatest_in s t) n ≡ b → registered.Advanced u ≡ cond b (registered.Refused (OperationTooLarge t n (greatest_in s t))) (registered.Advanced (advanced_in s t n)) → IsSound u
-    go true q p = let z : ◌≡◌ {A = ℕ} 0 1 = cc in absurd (omega arith)
+    go : (b : Bool) → ltb (greatest_in s t) n ≡ b → Ok u ≡ cond b (Err (OperationTooLarge t n (greatest_in s t))) (Ok (advanced_in s t n)) → IsSound u
+    go true q p = cc
     go false q p =
         let e : u ≡ advanced_in s t n = cc in
         rw e (advanced_sound s h n t (ltb-false _ _ q))
 
 -- ---- a move is of a sound record, or refused as the tests refuse
 module _ (s : RingBufferScheduler) (t : OperationType) (m : ℕ) where
-  pub move_of_lem : (v : Move) → moves.Of v ≡ move_of s t m → IsSound s × (v ≡ move_in s t m)
+  pub move_of_lem : (v : Move) → Ok v ≡ move_of s t m → IsSound s × (v ≡ move_in s t m)
   move_of_lem v p = go (sound_of s) refl
     where
-      go : (c : Checked) → sound_of s ≡ c → IsSound s × (v ≡ move_in s t m)
-      go (checked.Sound u) q =
+      go : (c : Result RingBufferScheduler Refusal) → sound_of s ≡ c → IsSound s × (v ≡ move_in s t m)
+      go (Ok u) q =
           let h : IsSound s = (sound_both u s (sym q)).0 in
-          let e : moves.Of v ≡ moves.Of (move_in s t m) = rw (← sound_is s h) at p in
+          let e : Ok v ≡ Ok (move_in s t m) = rw (← sound_is s h) at p in
           (h, cc)
-      go (checked.Refused e) q =
-          let f : moves.Of v ≡ moves.Refused e = rw q at p in
+      go (Err e) q =
+          let f : Ok v ≡ Err e = rw q at p in
           let z : ◌≡◌ {A = ℕ} 0 1 = cc in
           absurd (omega arith)
 
-  pub move_refused : (e : Refusal) → moves.Refused e ≡ move_of s t m → sound_of s ≡ checked.Refused e
+  pub move_refused : (e : Refusal) → Err e ≡ move_of s t m → sound_of s ≡ Err e
   move_refused e p = go (sound_of s) refl
     where
-      go : (c : Checked) → sound_of s ≡ c → sound_of s ≡ checked.Refused e
-      go (checked.Sound u) q =
-          let f : moves.Refused e ≡ moves.Of (move_in s t m) = rw (← sound_is s (sound_both u s (sym q)).0) at p in
+      go : (c : Result RingBufferScheduler Refusal) → sound_of s ≡ c → sound_of s ≡ Err e
+      go (Ok u) q =
+          let f : Err e ≡ Ok (move_in s t m) = rw (← sound_is s (sound_both u s (sym q)).0) at p in
           let z : ◌≡◌ {A = ℕ} 0 1 = cc in
           absurd (omega arith)
-      go (checked.Refused r) q =
-          let f : moves.Refused e ≡ moves.Refused r = rw q at p in
+      go (Err r) q =
+          let f : Err e ≡ Err r = rw q at p in
           let d : e ≡ r = cc in
-          q ∙ ap checked.Refused (sym d)
+          q ∙ ap Err (sym d)

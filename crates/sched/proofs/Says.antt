@@ -1,10 +1,10 @@
 -- What each public call says, in the order of the paper: whatever its attached contract allows is this definition of its
 -- arguments. With specs/ these lines are what a reader must believe of this crate.
-use Rattle.std.proofs.Common.{refl}
+use Rattle.std.proofs.Common.{refl, min}
 use Rattle.modular.proofs.Saying.{Says, Decides, says_decides}
 use Rattle.operations.specs.declared.operation.OperationType.TheVariants.{Read, Write}
 use Rattle.sched.specs.Block.{block_of}
-use Rattle.sched.specs.Scheduler.{record_of, scheduler_of, sound_of, with_counter_of, buf_len_of, counter_answer_of, offset_answer_of, greatest_of, is_zero_from, is_positive_from, fill_state_of, layout_of, blocks_of, block0_from, block1_from, block2_from, off_from, len_from, next_block_of, next_of, schedule_of, register_of, register_list_of, move_of}
+use Rattle.sched.specs.Scheduler.{record_of, scheduler_of, sound_of, with_counter_of, buf_len_of, counter_answer_of, offset_answer_of, greatest_of, is_zero_from, is_positive_from, fill_state_of, layout_of, blocks_of, block0_from, block1_from, block2_from, off_from, len_from, next_block_of, next_of, schedule_of, register_of, register_list_of, move_of, greatest_in, offset_in, advanced_in}
 use Rattle.sched.proofs.scheduler.RingBufferScheduler.try_new.Kinds as try_new_kinds
 use Rattle.sched.proofs.scheduler.RingBufferScheduler.try_new.Reads as try_new
 use Rattle.sched.proofs.scheduler.RingBufferScheduler.try_from_counters.Kinds as try_from_counters_kinds
@@ -101,6 +101,12 @@ use Rattle.sched.proofs.scheduler.RingBufferScheduler.try_register_operations.Ki
 use Rattle.sched.proofs.scheduler.RingBufferScheduler.try_register_operations.Reads as try_register_operations
 use Rattle.sched.proofs.scheduler.RingBufferScheduler.schedule_and_register.Kinds as schedule_and_register_kinds
 use Rattle.sched.proofs.scheduler.RingBufferScheduler.schedule_and_register.Reads as schedule_and_register
+use Rattle.sched.proofs.sound.Sound.greatest.Kinds as greatest_kinds
+use Rattle.sched.proofs.sound.Sound.greatest.Reads as greatest
+use Rattle.sched.proofs.sound.Sound.offset.Kinds as offset_kinds
+use Rattle.sched.proofs.sound.Sound.offset.Reads as offset
+use Rattle.sched.proofs.sound.Sound.moved.Kinds as moved_kinds
+use Rattle.sched.proofs.sound.Sound.moved.Reads as moved
 use Rattle.sched.specs.Chunk.{body_fits}
 use Rattle.sched.proofs.chunk.body_fits.Kinds as body_fits_kinds
 use Rattle.sched.proofs.chunk.body_fits.Reads as body_fits_lem
@@ -257,6 +263,16 @@ schedule_and_register_says κs a z ws p = p
 -- ---- so each contract decides the outcome: any two that it allows are equal. Here for one of them
 schedule_reads_decided : Decides 0 schedule_reads_kinds.ps schedule_reads_kinds.r schedule_reads.Learnt
 schedule_reads_decided = says_decides 0 schedule_reads_kinds.ps schedule_reads_kinds.r schedule_reads.Learnt _ (λ κs a ws ws'. refl) schedule_reads_says
+
+-- ---- of a sound scheduler, which is not tested again
+pub greatest_says : Says 0 greatest_kinds.ps greatest_kinds.r greatest.Learnt (λ κs a. greatest_in a.0 a.1.0)
+greatest_says κs a z ws p = p.0
+
+pub offset_says : Says 0 offset_kinds.ps offset_kinds.r offset.Learnt (λ κs a. offset_in a.0 a.1.0)
+offset_says κs a z ws p = p
+
+pub moved_says : Says 0 moved_kinds.ps moved_kinds.r moved.Learnt (λ κs a. advanced_in a.0 a.1.0 (min a.1.1.0 (greatest_in a.0 a.1.0)))
+moved_says κs a z ws p = p
 
 -- ---- the bound of a body
 pub body_fits_says : Says 0 body_fits_kinds.ps body_fits_kinds.r body_fits_lem.Learnt (λ κs a. body_fits a.0 a.1.0)

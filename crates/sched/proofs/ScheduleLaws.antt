@@ -1,5 +1,5 @@
 -- Laws of scheduling: an operation, a list cut at the buffer's end, and that asking block after block gives that list and what is left.
-use Rattle.std.proofs.Common.{◌≡◌, ℕ, zero, suc, ◌+◌, ◌-◌, ◌%◌, ◌<◌, ◌≤◌, min, Bool, true, false, cond, eqb, ◌⊎◌, sym, refl, ap, ◌∙◌, inl, inr, ⊎_elim, add-zero, eq-zero-or-pos, arith, eq-eqb, ne_eqb, eqb-true, le-leb}
+use Rattle.std.proofs.Common.{◌≡◌, ℕ, ◌+◌, ◌-◌, ◌%◌, ◌<◌, ◌≤◌, min, Bool, true, false, cond, eqb, ◌⊎◌, sym, refl, ap, ◌∙◌, inl, inr, ⊎_elim, add-zero, eq-zero-or-pos, arith, eq-eqb, ne_eqb, eqb-true, le-leb, Option, Some, None}
 use borrow.Author.Tests.{eqb-false, lt-leb}
 use native.Mathlib.Nat.{mod_self}
 use Rattle.modular.proofs.Laws.{lt_or_le}
@@ -9,10 +9,8 @@ use Rattle.sched.specs.declared.scheduler.RingBufferScheduler.{RingBufferSchedul
 use Rattle.operations.specs.declared.operation.ScheduledOperation.{ScheduledOperation}
 use Rattle.operations.specs.declared.portion.Portion.{Portion}
 use Rattle.sched.specs.declared.schedule.Next.{Next}
-use Rattle.sched.specs.declared.schedule.NextOperation.{NextOperation}
-use Rattle.sched.specs.declared.schedule.NextOperation.TheVariants as next
-use Rattle.operations.specs.declared.list.ScheduledOperations.{ScheduledOperations}
-use Rattle.operations.specs.declared.list.ScheduledOperations.TheVariants as list
+use Rattle.operations.specs.Lists.{ScheduledOperations}
+use Rattle.operations.specs.declared.list.AtMostTwo.TheVariants as list
 use Rattle.operations.specs.Operation.{operation_of}
 use Rattle.operations.specs.Portion.{portion_of}
 use Rattle.sched.specs.Promise.{cut_of, next_len}
@@ -53,10 +51,6 @@ nothing_left f k n e q = omega arith
 both_shares : (m g b : ℕ) → b ≤ g → min m b + min (m - min m b) (g - b) ≡ min m g
 both_shares m g b l = omega arith
 
-pub positive : (n : ℕ) → (n ≡ 0 → ⊥) → 0 < n
-positive zero f = absurd (f refl)
-positive (suc n) f = omega arith
-
 -- n items of which f go before the end, r items on, and s after it
 module _ (n f r : ℕ) where
   run_out : f ≡ min n r → 0 < n - f → f ≡ r
@@ -76,27 +70,27 @@ module _ (n a l : ℕ) (h : a < l) where
   passes f s e q p = omega arith
 
 module _ (t : OperationType) (a : Offset) (n : ℕ) where
-  pub some_none : next.None ≡ some_of t a n → n ≡ 0
+  pub some_none : None ≡ some_of t a n → n ≡ 0
   unfolding some_of
   some_none p = go (eqb n 0) refl p
     where
-      go : (b : Bool) → eqb n 0 ≡ b → next.None ≡ cond b next.None (next.Some (operation_of t a n)) → n ≡ 0
+      go : (b : Bool) → eqb n 0 ≡ b → None ≡ cond b None (Some (operation_of t a n)) → n ≡ 0
       go true q p = eqb-true n 0 q
-      go false q p = let z : ◌≡◌ {A = ℕ} 0 1 = cc in absurd (omega arith)
+      go false q p = cc
 
-  pub some_some : (f : ScheduledOperation) → next.Some f ≡ some_of t a n → (f ≡ operation_of t a n) × (0 < n)
+  pub some_some : (f : ScheduledOperation) → Some f ≡ some_of t a n → (f ≡ operation_of t a n) × (0 < n)
   unfolding some_of
   some_some f p = go (eqb n 0) refl p
     where
-      go : (b : Bool) → eqb n 0 ≡ b → next.Some f ≡ cond b next.None (next.Some (operation_of t a n)) → (f ≡ operation_of t a n) × (0 < n)
-      go true q p = let z : ◌≡◌ {A = ℕ} 0 1 = cc in absurd (omega arith)
+      go : (b : Bool) → eqb n 0 ≡ b → Some f ≡ cond b None (Some (operation_of t a n)) → (f ≡ operation_of t a n) × (0 < n)
+      go true q p = cc
       go false q p = (cc, omega (arith, eqb-false n 0 q))
 
-  pub some_of_none : n ≡ 0 → some_of t a n ≡ next.None
+  pub some_of_none : n ≡ 0 → some_of t a n ≡ None
   unfolding some_of
   some_of_none z = rw (eq-eqb n 0 z)
 
-  pub some_of_some : 0 < n → some_of t a n ≡ next.Some (operation_of t a n)
+  pub some_of_some : 0 < n → some_of t a n ≡ Some (operation_of t a n)
   unfolding some_of
   some_of_some p = rw (ne_eqb n 0 (λ z. omega arith))
 
@@ -176,13 +170,13 @@ module _ (s : RingBufferScheduler) (h : IsSound s) (t : OperationType) (m : ℕ)
   abbrev cut : ScheduledOperations
   cut = cut_of t s.buf_len (offset_in s t) all
 
-  blocks_none : next.None ≡ (next_in s t m).operation → scheduled_of list.None (next_in s t m).remainder ≡ scheduled_of cut (m - all)
+  blocks_none : None ≡ (next_in s t m).operation → scheduled_of list.None (next_in s t m).remainder ≡ scheduled_of cut (m - all)
   blocks_none p =
       let z : first_len ≡ 0 = some_none _ _ _ (p ∙ ap (λ (x : Next). x.operation) (next_is s h t m)) in
       let e : m - first_len ≡ m - all = omega (arith, offset_lt s h t) in
       rw (← cut_none t s.buf_len (offset_in s t) all (omega (arith, offset_lt s h t)), ap (λ (x : Next). x.remainder) (next_is s h t m), e)
 
-  module _ (f : ScheduledOperation) (p : next.Some f ≡ (next_in s t m).operation) where
+  module _ (f : ScheduledOperation) (p : Some f ≡ (next_in s t m).operation) where
     first_is : (f ≡ operation_of t (offset_in s t) first_len) × (0 < first_len)
     first_is = some_some _ _ _ f (p ∙ ap (λ (x : Next). x.operation) (next_is s h t m))
 
@@ -247,7 +241,7 @@ module _ (s : RingBufferScheduler) (h : IsSound s) (t : OperationType) (m : ℕ)
         second_left : (next_in u t k).remainder ≡ m - all
         second_left = ap (λ (x : Next). x.remainder) second_is ∙ less_both m f.len second_len all (sym both)
 
-        one_left : next.None ≡ (next_in u t k).operation → list.One f ≡ cut
+        one_left : None ≡ (next_in u t k).operation → list.One f ≡ cut
         one_left q =
             let z : second_len ≡ 0 = some_none _ _ _ (q ∙ ap (λ (x : Next). x.operation) second_is) in
             let e : all ≡ f.len = both ∙ rw (z, add-zero) in
@@ -255,7 +249,7 @@ module _ (s : RingBufferScheduler) (h : IsSound s) (t : OperationType) (m : ℕ)
             ap list.One (first_is.0 ∙ ap (operation_of t (offset_in s t)) n) ∙
             cut_one t s.buf_len (offset_in s t) all (rw n at first_is.1) (fits all (offset_in s t).0 s.buf_len (offset_lt s h t) f.len first_len_lem e)
 
-        two_left : (g : ScheduledOperation) → next.Some g ≡ (next_in u t k).operation → list.Two f g ≡ cut
+        two_left : (g : ScheduledOperation) → Some g ≡ (next_in u t k).operation → list.Two f g ≡ cut
         two_left g q = rw (one, two) (cut_two t s.buf_len (offset_in s t) all (some_moved both) (passes all (offset_in s t).0 s.buf_len (offset_lt s h t) f.len second_len out both second.1))
           where
             second : (g ≡ operation_of t (offset_in u t) second_len) × (0 < second_len)
@@ -273,18 +267,18 @@ module _ (s : RingBufferScheduler) (h : IsSound s) (t : OperationType) (m : ℕ)
             two : g ≡ operation_of t (record { 0 = 0 }) (all - room)
             two = second.0 ∙ same_operation t (offset_in u t) _ _ (turned second.1).0 (rest all f.len room second_len both out)
 
-        second_joins : (x : NextOperation) → x ≡ (next_in u t k).operation → both_of (next.Some f) x ≡ cut
-        second_joins next.None q = one_left q
-        second_joins (next.Some g) q = two_left g q
+        second_joins : (x : Option ScheduledOperation) → x ≡ (next_in u t k).operation → both_of (Some f) x ≡ cut
+        second_joins None q = one_left q
+        second_joins (Some g) q = two_left g q
 
         blocks_some : joined f (next_in u t k) ≡ scheduled_of cut (m - all)
         blocks_some = rw (second_joins (next_in u t k).operation refl, second_left)
 
 -- asking block after block gives all that is asked and there, cut where the buffer ends, and leaves the rest of m
 module _ (s : RingBufferScheduler) (h : IsSound s) (t : OperationType) (m : ℕ) where
-  by_blocks_lem : (x : NextOperation) → x ≡ (next_in s t m).operation → by_blocks s t x (next_in s t m).remainder ≡ scheduled_of (cut s h t m) (m - all s h t m)
-  by_blocks_lem next.None p = blocks_none s h t m p
-  by_blocks_lem (next.Some f) p = blocks_some s h t m f p (advanced_in s t f.len) refl (next_in s t m).remainder left
+  by_blocks_lem : (x : Option ScheduledOperation) → x ≡ (next_in s t m).operation → by_blocks s t x (next_in s t m).remainder ≡ scheduled_of (cut s h t m) (m - all s h t m)
+  by_blocks_lem None p = blocks_none s h t m p
+  by_blocks_lem (Some f) p = blocks_some s h t m f p (advanced_in s t f.len) refl (next_in s t m).remainder left
     where
       left : (next_in s t m).remainder ≡ m - f.len
       left = ap (λ (x : Next). x.remainder) (next_is s h t m) ∙ ap (λ (x : ScheduledOperation). m - x.len) (sym (first_is s h t m f p).0)

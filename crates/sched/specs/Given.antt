@@ -1,35 +1,11 @@
 -- The paper's table of the numbers that refuse, 1 to 8 and 20: when each is given, and with which values. docs/PAPER.md, "The numbers".
 use Rattle.std.specs.Prelude.{◌≡◌, ℕ, ◌*◌, ◌^◌, ◌<◌, ◌≤◌, List, [], ◌∷◌, ◌≢◌}
-use Rattle.operations.specs.Given.{Verdict, accepted, refused, TypeNumber, GivenList}
-use Rattle.sched.specs.declared.block.BlockAnswer.{BlockAnswer}
-use Rattle.sched.specs.declared.block.BlockAnswer.TheVariants as block
-use Rattle.sched.specs.declared.block.BlocksAnswer.{BlocksAnswer}
-use Rattle.sched.specs.declared.block.BlocksAnswer.TheVariants as blocks
-use Rattle.sched.specs.declared.block.FillStateAnswer.{FillStateAnswer}
-use Rattle.sched.specs.declared.block.FillStateAnswer.TheVariants as fill
-use Rattle.sched.specs.declared.block.LayoutAnswer.{LayoutAnswer}
-use Rattle.sched.specs.declared.block.LayoutAnswer.TheVariants as layout
-use Rattle.operations.specs.declared.counter.BoolAnswer.{BoolAnswer}
-use Rattle.operations.specs.declared.counter.BoolAnswer.TheVariants as bool
+use Rattle.operations.specs.Given.{TypeNumber, GivenList}
 use Rattle.operations.specs.declared.counter.Counter.{Counter}
-use Rattle.operations.specs.declared.counter.CounterAnswer.{CounterAnswer}
-use Rattle.operations.specs.declared.counter.CounterAnswer.TheVariants as counter
-use Rattle.operations.specs.declared.counter.OffsetAnswer.{OffsetAnswer}
-use Rattle.operations.specs.declared.counter.OffsetAnswer.TheVariants as offset
-use Rattle.operations.specs.declared.list.ScheduledOperations.{ScheduledOperations}
-use Rattle.operations.specs.declared.list.ScheduledOperations.TheVariants as list
-use Rattle.sched.specs.declared.schedule.NextOperationAnswer.{NextOperationAnswer}
-use Rattle.sched.specs.declared.schedule.NextOperationAnswer.TheVariants as nexts
-use Rattle.sched.specs.declared.schedule.ScheduledAnswer.{ScheduledAnswer}
-use Rattle.sched.specs.declared.schedule.ScheduledAnswer.TheVariants as schedules
+use Rattle.operations.specs.Lists.{ScheduledOperations}
+use Rattle.operations.specs.declared.list.AtMostTwo.TheVariants as list
 use Rattle.operations.specs.declared.operation.OperationType.{OperationType}
 use Rattle.operations.specs.declared.operation.ScheduledOperation.{ScheduledOperation}
-use Rattle.sched.specs.declared.scheduler.Checked.{Checked}
-use Rattle.sched.specs.declared.scheduler.Checked.TheVariants as checked
-use Rattle.sched.specs.declared.register.MoveAnswer.{MoveAnswer}
-use Rattle.sched.specs.declared.register.MoveAnswer.TheVariants as moves
-use Rattle.sched.specs.declared.register.Registered.{Registered}
-use Rattle.sched.specs.declared.register.Registered.TheVariants as registered
 use Rattle.sched.specs.declared.scheduler.RingBufferScheduler.{RingBufferScheduler}
 use Rattle.sched.specs.Counter.{data_of}
 use Rattle.sched.specs.Promise.{Taken, written_with, read_with, MovedBy}
@@ -87,52 +63,3 @@ module _ (s : RingBufferScheduler) where
     alone : {a : ScheduledOperation} {k : ℕ} {vs : List ℕ} → IsSound s → GivenRegister s a.typ a.len k vs → GivenOperations (list.One a) k vs
     at_first : {a b : ScheduledOperation} {k : ℕ} {vs : List ℕ} → IsSound s → GivenList (list.Two a b) 0 [] → 0 < k → GivenRegister s a.typ a.len k vs → GivenOperations (list.Two a b) k vs
     at_second : {a b : ScheduledOperation} {k : ℕ} {vs : List ℕ} → IsSound s → GivenList (list.Two a b) 0 [] → a.len ≤ greatest_in s a.typ → (u : RingBufferScheduler) → MovedBy s a.typ a.len u → GivenRegister u b.typ b.len k vs → GivenOperations (list.Two a b) k vs
-
--- ---- the verdict in each kind of answer
-abbrev pub of_checked : Checked → Verdict
-of_checked (checked.Sound s) = accepted
-of_checked (checked.Refused e) = refused e
-
-abbrev pub of_registered : Registered → Verdict
-of_registered (registered.Advanced s) = accepted
-of_registered (registered.Refused e) = refused e
-
-abbrev pub of_move : MoveAnswer → Verdict
-of_move (moves.Of v) = accepted
-of_move (moves.Refused e) = refused e
-
-abbrev pub of_bool : BoolAnswer → Verdict
-of_bool (bool.Of b) = accepted
-of_bool (bool.Refused e) = refused e
-
-abbrev pub of_counter : CounterAnswer → Verdict
-of_counter (counter.Of c) = accepted
-of_counter (counter.Refused e) = refused e
-
-abbrev pub of_offset : OffsetAnswer → Verdict
-of_offset (offset.Of a) = accepted
-of_offset (offset.Refused e) = refused e
-
-abbrev pub of_fill_state : FillStateAnswer → Verdict
-of_fill_state (fill.Of f) = accepted
-of_fill_state (fill.Refused e) = refused e
-
-abbrev pub of_layout : LayoutAnswer → Verdict
-of_layout (layout.Of l) = accepted
-of_layout (layout.Refused e) = refused e
-
-abbrev pub of_block : BlockAnswer → Verdict
-of_block (block.Of b) = accepted
-of_block (block.Refused e) = refused e
-
-abbrev pub of_blocks : BlocksAnswer → Verdict
-of_blocks (blocks.Of b) = accepted
-of_blocks (blocks.Refused e) = refused e
-
-abbrev pub of_next : NextOperationAnswer → Verdict
-of_next (nexts.Of o) = accepted
-of_next (nexts.Refused e) = refused e
-
-abbrev pub of_scheduled : ScheduledAnswer → Verdict
-of_scheduled (schedules.Of r) = accepted
-of_scheduled (schedules.Refused e) = refused e

@@ -1,30 +1,21 @@
 -- What the paper promises of scheduling and registering, as it is told there: docs/PAPER.md, "Scheduling", "Registering".
-use Rattle.std.specs.Prelude.{◌≡◌, ℕ, zero, suc, ◌+◌, ◌-◌, ◌*◌, ◌%◌, ◌<◌, ◌≤◌, min, cond, ◌⊎◌, List, [], ◌∷◌, ◌++◌, ◌==◌, nat_le}
+use Rattle.std.specs.Prelude.{◌≡◌, ℕ, zero, suc, ◌+◌, ◌-◌, ◌*◌, ◌%◌, ◌<◌, ◌≤◌, min, cond, ◌⊎◌, List, [], ◌∷◌, ◌++◌, ◌==◌, nat_le, Result, Ok, Option, Some, None}
 use Rattle.operations.specs.declared.counter.Counter.{Counter}
 use Rattle.operations.specs.declared.counter.Offset.{Offset}
-use Rattle.operations.specs.declared.list.ScheduledOperations.{ScheduledOperations}
-use Rattle.operations.specs.declared.list.ScheduledOperations.TheVariants as list
+use Rattle.operations.specs.Lists.{ScheduledOperations}
+use Rattle.operations.specs.declared.list.AtMostTwo.TheVariants as list
 use Rattle.sched.specs.declared.schedule.Next.{Next}
-use Rattle.sched.specs.declared.schedule.NextOperation.{NextOperation}
-use Rattle.sched.specs.declared.schedule.NextOperation.TheVariants as next
-use Rattle.sched.specs.declared.schedule.NextOperationAnswer.{NextOperationAnswer}
-use Rattle.sched.specs.declared.schedule.NextOperationAnswer.TheVariants as nexts
 use Rattle.sched.specs.declared.schedule.Scheduled.{Scheduled}
-use Rattle.sched.specs.declared.schedule.ScheduledAnswer.{ScheduledAnswer}
-use Rattle.sched.specs.declared.schedule.ScheduledAnswer.TheVariants as schedules
 use Rattle.operations.specs.declared.operation.OperationType.{OperationType}
 use Rattle.operations.specs.declared.operation.OperationType.TheVariants.{Read, Write}
 use Rattle.operations.specs.declared.operation.ScheduledOperation.{ScheduledOperation}
 use Rattle.sched.specs.declared.register.Move.{Move}
-use Rattle.sched.specs.declared.register.MoveAnswer.{MoveAnswer}
-use Rattle.sched.specs.declared.register.MoveAnswer.TheVariants as moves
-use Rattle.sched.specs.declared.register.Registered.{Registered}
-use Rattle.sched.specs.declared.register.Registered.TheVariants as registered
 use Rattle.sched.specs.declared.scheduler.RingBufferScheduler.{RingBufferScheduler}
 use Rattle.operations.specs.List.{total_in}
 use Rattle.operations.specs.Operation.{operation_of}
 use Rattle.operations.specs.Promise.{LeftOver}
 use Rattle.sched.specs.Scheduler.{Sized, IsSound, data_in, offset_in, greatest_in, next_block_in, advanced_in, register_list_of}
+use Rattle.operations.specs.declared.refusal.Refusal.{Refusal}
 
 -- what holds of each operation of a list
 abbrev pub Each : (ScheduledOperation → Type 0) → ScheduledOperations → Type 0
@@ -68,7 +59,7 @@ pub record Promise (s : RingBufferScheduler) (t : OperationType) (m : ℕ) (ops 
   pub total : total_in ops ≡ min m (greatest_in s t)
   pub places : places_of ops ≡ round_from s.buf_len (offset_in s t).0 (min m (greatest_in s t))
   pub first : first_len ops ≡ min m (next_block_in s t).len
-  pub registers : register_list_of s ops ≡ registered.Advanced (advanced_in s t (min m (greatest_in s t)))
+  pub registers : register_list_of s ops ≡ Ok (advanced_in s t (min m (greatest_in s t)))
 
 -- the next operation alone: none where nothing is to be moved; else it starts at the offset and runs to m, to the end of what
 -- there is, or to the buffer's
@@ -78,9 +69,9 @@ pub record NextPromise (s : RingBufferScheduler) (t : OperationType) (m : ℕ) (
   pub starts : f.off ≡ offset_in s t
   pub runs : f.len ≡ min m (min (greatest_in s t) (s.buf_len - f.off.0))
 
-abbrev pub NextIs : RingBufferScheduler → OperationType → ℕ → NextOperation → Type 0
-NextIs s t m next.None = min m (greatest_in s t) ≡ 0
-NextIs s t m (next.Some f) = NextPromise s t m f
+abbrev pub NextIs : RingBufferScheduler → OperationType → ℕ → Option ScheduledOperation → Type 0
+NextIs s t m None = min m (greatest_in s t) ≡ 0
+NextIs s t m (Some f) = NextPromise s t m f
 
 -- n items from the offset a in at most two operations, cut where the buffer of l items ends
 unfoldable pub cut_of : OperationType → ℕ → Offset → ℕ → ScheduledOperations
@@ -91,9 +82,9 @@ cut_of t l a n =
 
 -- ---- how much was not scheduled
 -- the length of the next operation, 0 for none
-abbrev pub next_len : NextOperation → ℕ
-next_len next.None = 0
-next_len (next.Some f) = f.len
+abbrev pub next_len : Option ScheduledOperation → ℕ
+next_len None = 0
+next_len (Some f) = f.len
 
 -- of m items the next operation takes its length and leaves the others over, some exactly when m is above its block; a list takes its
 -- sum, and leaves some over exactly when m is above the data of a read, the space of a write
@@ -104,17 +95,22 @@ abbrev pub ListLeaves : RingBufferScheduler → OperationType → ℕ → Schedu
 ListLeaves s t m r = LeftOver m (greatest_in s t) (total_in r.operations) r.remainder
 
 -- so of an answer: a sound scheduler is scheduled
-abbrev pub Schedules : RingBufferScheduler → OperationType → ℕ → ScheduledAnswer → Type 0
-Schedules s t m z = IsSound s → (r : Scheduled) × (z ≡ schedules.Of r) × Promise s t m r.operations × ListLeaves s t m r
+abbrev pub Schedules : RingBufferScheduler → OperationType → ℕ → Result Scheduled Refusal → Type 0
+Schedules s t m z = IsSound s → (r : Scheduled) × (z ≡ Ok r) × Promise s t m r.operations × ListLeaves s t m r
 
-abbrev pub Asks : RingBufferScheduler → OperationType → ℕ → NextOperationAnswer → Type 0
-Asks s t m z = IsSound s → (o : Next) × (z ≡ nexts.Of o) × NextIs s t m o.operation × NextLeaves s t m o
+abbrev pub Asks : RingBufferScheduler → OperationType → ℕ → Result Next Refusal → Type 0
+Asks s t m z = IsSound s → (o : Next) × (z ≡ Ok o) × NextIs s t m o.operation × NextLeaves s t m o
 
 -- ---- the record, in words that do not subtract
 -- d items lie between the counters, round 2L
 pub record Between (s : RingBufferScheduler) (d : ℕ) : Type 0 where
   pub at_most : d ≤ s.buf_len
   pub ahead : (s.items_read.0 + d) % (2 * s.buf_len) ≡ s.items_written.0
+
+-- the greatest length of an operation: what lies between the counters, and what is free beside it
+abbrev pub Greatest : RingBufferScheduler → OperationType → ℕ → Type 0
+Greatest s Read n = Between s n
+Greatest s Write n = (d : ℕ) × Between s d × (d + n ≡ s.buf_len)
 
 -- what is taken: a length, and counters with as many items between them as are held
 pub record Taken (s : RingBufferScheduler) : Type 0 where
@@ -162,8 +158,8 @@ MovedBy s Read n u = ReadBy s n u
 MovedBy s Write n u = WrittenBy s n u
 
 -- so of an answer: an advanced scheduler comes of a sound one
-abbrev pub Moves : RingBufferScheduler → OperationType → ℕ → Registered → Type 0
-Moves s t n z = (u : RingBufferScheduler) → z ≡ registered.Advanced u → IsSound s × MovedBy s t n u
+abbrev pub Moves : RingBufferScheduler → OperationType → ℕ → Result RingBufferScheduler Refusal → Type 0
+Moves s t n z = (u : RingBufferScheduler) → z ≡ Ok u → IsSound s × MovedBy s t n u
 
 -- a list registered: operation by operation
 pub data MovedByList (s : RingBufferScheduler) : ScheduledOperations → RingBufferScheduler → Type 0 where
@@ -182,5 +178,5 @@ pub record MovePromise (s : RingBufferScheduler) (t : OperationType) (m : ℕ) (
   pub leaves : LeftOver m (greatest_in s t) v.portion.len v.portion.remainder
   pub registered : MovedBy s t v.portion.len v.scheduler
 
-abbrev pub MovesAtOnce : RingBufferScheduler → OperationType → ℕ → MoveAnswer → Type 0
-MovesAtOnce s t m z = IsSound s → (v : Move) × (z ≡ moves.Of v) × MovePromise s t m v
+abbrev pub MovesAtOnce : RingBufferScheduler → OperationType → ℕ → Result Move Refusal → Type 0
+MovesAtOnce s t m z = IsSound s → (v : Move) × (z ≡ Ok v) × MovePromise s t m v

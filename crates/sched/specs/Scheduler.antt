@@ -1,54 +1,26 @@
 -- The scheduler: its tests, data and space, blocks, layout, scheduling and registering, over whole numbers. Write L for
 -- `buf_len`. A name that ends in `In` is of a sound scheduler; one that ends in `Of` tests the record first.
-use Rattle.std.specs.Prelude.{◌≡◌, ℕ, ◌-◌, ◌*◌, ◌^◌, ◌<◌, ◌≤◌, min, max, cond, ◌==◌, nat_le, nat_lt}
+use Rattle.std.specs.Prelude.{◌≡◌, ℕ, ◌-◌, ◌*◌, ◌^◌, ◌<◌, ◌≤◌, min, max, cond, ◌==◌, nat_le, nat_lt, Result, Ok, Err, Option, Some, None, Bool}
 use Rattle.operations.specs.declared.counter.Counter.{Counter}
 use Rattle.operations.specs.declared.counter.Offset.{Offset}
-use Rattle.operations.specs.declared.counter.AmountAnswer.{AmountAnswer}
-use Rattle.operations.specs.declared.counter.AmountAnswer.TheVariants as amount
-use Rattle.operations.specs.declared.counter.BoolAnswer.{BoolAnswer}
-use Rattle.operations.specs.declared.counter.BoolAnswer.TheVariants as bool
-use Rattle.operations.specs.declared.counter.CounterAnswer.{CounterAnswer}
-use Rattle.operations.specs.declared.counter.CounterAnswer.TheVariants as counter
-use Rattle.operations.specs.declared.counter.OffsetAnswer.{OffsetAnswer}
-use Rattle.operations.specs.declared.counter.OffsetAnswer.TheVariants as offset
 use Rattle.sched.specs.declared.block.Bit.TheVariants.{Zero, One}
 use Rattle.sched.specs.declared.block.Block.{Block}
-use Rattle.sched.specs.declared.block.BlockAnswer.{BlockAnswer}
-use Rattle.sched.specs.declared.block.BlockAnswer.TheVariants as block
 use Rattle.sched.specs.declared.block.Blocks.{Blocks}
-use Rattle.sched.specs.declared.block.BlocksAnswer.{BlocksAnswer}
-use Rattle.sched.specs.declared.block.BlocksAnswer.TheVariants as blocks
 use Rattle.sched.specs.declared.block.BufferFillState.{BufferFillState}
 use Rattle.sched.specs.declared.block.BufferFillState.TheVariants.{Empty, Partial, Full}
 use Rattle.sched.specs.declared.block.BufferLayout.{BufferLayout}
 use Rattle.sched.specs.declared.block.BufferLayout.TheVariants.{DataFreeData, FreeDataFree}
-use Rattle.sched.specs.declared.block.FillStateAnswer.{FillStateAnswer}
-use Rattle.sched.specs.declared.block.FillStateAnswer.TheVariants as fill
-use Rattle.sched.specs.declared.block.LayoutAnswer.{LayoutAnswer}
-use Rattle.sched.specs.declared.block.LayoutAnswer.TheVariants as layout
-use Rattle.operations.specs.declared.list.ScheduledOperations.{ScheduledOperations}
-use Rattle.operations.specs.declared.list.ScheduledOperations.TheVariants as list
+use Rattle.operations.specs.Lists.{ScheduledOperations}
+use Rattle.operations.specs.declared.list.AtMostTwo.TheVariants as list
 use Rattle.operations.specs.declared.portion.Portion.{Portion}
 use Rattle.sched.specs.declared.schedule.Next.{Next}
-use Rattle.sched.specs.declared.schedule.NextOperation.{NextOperation}
-use Rattle.sched.specs.declared.schedule.NextOperation.TheVariants as next
-use Rattle.sched.specs.declared.schedule.NextOperationAnswer.{NextOperationAnswer}
-use Rattle.sched.specs.declared.schedule.NextOperationAnswer.TheVariants as nexts
 use Rattle.sched.specs.declared.schedule.Scheduled.{Scheduled}
-use Rattle.sched.specs.declared.schedule.ScheduledAnswer.{ScheduledAnswer}
-use Rattle.sched.specs.declared.schedule.ScheduledAnswer.TheVariants as schedules
 use Rattle.operations.specs.declared.operation.OperationType.{OperationType}
 use Rattle.operations.specs.declared.operation.OperationType.TheVariants.{Read, Write}
 use Rattle.operations.specs.declared.operation.ScheduledOperation.{ScheduledOperation}
 use Rattle.operations.specs.declared.refusal.Refusal.{Refusal}
 use Rattle.operations.specs.declared.refusal.Refusal.TheVariants.{ZeroBufferLength, BufferTooLarge, ItemsWrittenOutOfBounds, ItemsReadOutofBounds, DataAvailOutOfBounds, OperationTooLarge, HeldFillWrong}
-use Rattle.sched.specs.declared.scheduler.Checked.{Checked}
-use Rattle.sched.specs.declared.scheduler.Checked.TheVariants as checked
 use Rattle.sched.specs.declared.register.Move.{Move}
-use Rattle.sched.specs.declared.register.MoveAnswer.{MoveAnswer}
-use Rattle.sched.specs.declared.register.MoveAnswer.TheVariants as moves
-use Rattle.sched.specs.declared.register.Registered.{Registered}
-use Rattle.sched.specs.declared.register.Registered.TheVariants as registered
 use Rattle.sched.specs.declared.scheduler.RingBufferScheduler.{RingBufferScheduler}
 use Rattle.sched.specs.Counter.{offset_of, data_of, later_of}
 use Rattle.operations.specs.Operation.{operation_of}
@@ -87,21 +59,21 @@ pub record IsSound (s : RingBufferScheduler) : Type 0 where
   pub held : s.fill ≡ data_in s
 
 -- the first of the refusals 1 to 5, or the data
-unfoldable pub counted_of : ℕ → Counter → Counter → AmountAnswer
+unfoldable pub counted_of : ℕ → Counter → Counter → Result ℕ Refusal
 counted_of l w r =
-    cond (l == 0) (amount.Refused ZeroBufferLength)
-    (cond (nat_lt (2 ^ 63) l) (amount.Refused (BufferTooLarge l))
-    (cond (nat_le (2 * l) w.0) (amount.Refused (ItemsWrittenOutOfBounds l w))
-    (cond (nat_le (2 * l) r.0) (amount.Refused (ItemsReadOutofBounds l r))
-    (cond (nat_lt l (data_of l w r)) (amount.Refused (DataAvailOutOfBounds l w r))
-    (amount.Of (data_of l w r))))))
+    cond (l == 0) (Err ZeroBufferLength)
+    (cond (nat_lt (2 ^ 63) l) (Err (BufferTooLarge l))
+    (cond (nat_le (2 * l) w.0) (Err (ItemsWrittenOutOfBounds l w))
+    (cond (nat_le (2 * l) r.0) (Err (ItemsReadOutofBounds l r))
+    (cond (nat_lt l (data_of l w r)) (Err (DataAvailOutOfBounds l w r))
+    (Ok (data_of l w r))))))
 
 -- then 20, where another fill is held, or the scheduler
-abbrev pub held_of : RingBufferScheduler → AmountAnswer → Checked
-held_of s (amount.Of d) = cond (s.fill == d) (checked.Sound s) (checked.Refused HeldFillWrong)
-held_of s (amount.Refused e) = checked.Refused e
+abbrev pub held_of : RingBufferScheduler → Result ℕ Refusal → Result RingBufferScheduler Refusal
+held_of s (Ok d) = cond (s.fill == d) (Ok s) (Err HeldFillWrong)
+held_of s (Err e) = Err e
 
-unfoldable pub sound_of : RingBufferScheduler → Checked
+unfoldable pub sound_of : RingBufferScheduler → Result RingBufferScheduler Refusal
 sound_of s = held_of s (counted_of s.buf_len s.items_written s.items_read)
 
 -- ---- counters, offsets, data and space
@@ -166,8 +138,8 @@ next_block_in s t = next_block_at (layout_in s) t (blocks_in s)
 
 -- ---- scheduling
 -- one operation of n items; none of 0
-unfoldable pub some_of : OperationType → Offset → ℕ → NextOperation
-some_of t a n = cond (n == 0) next.None (next.Some (operation_of t a n))
+unfoldable pub some_of : OperationType → Offset → ℕ → Option ScheduledOperation
+some_of t a n = cond (n == 0) None (Some (operation_of t a n))
 
 -- an operation of what is taken, and what is left over
 abbrev pub portioned : OperationType → Offset → Portion → Next
@@ -178,38 +150,38 @@ abbrev pub next_in : RingBufferScheduler → OperationType → ℕ → Next
 next_in s t m = portioned t (next_block_in s t).off (portion_of m (next_block_in s t).len)
 
 -- in a list there is no second without a first
-abbrev pub both_of : NextOperation → NextOperation → ScheduledOperations
-both_of next.None b = list.None
-both_of (next.Some f) next.None = list.One f
-both_of (next.Some f) (next.Some g) = list.Two f g
+abbrev pub both_of : Option ScheduledOperation → Option ScheduledOperation → ScheduledOperations
+both_of None b = list.None
+both_of (Some f) None = list.One f
+both_of (Some f) (Some g) = list.Two f g
 
 abbrev pub scheduled_of : ScheduledOperations → ℕ → Scheduled
 scheduled_of ops k = record { operations = ops; remainder = k }
 
 abbrev pub joined : ScheduledOperation → Next → Scheduled
-joined f n = scheduled_of (both_of (next.Some f) n.operation) n.remainder
+joined f n = scheduled_of (both_of (Some f) n.operation) n.remainder
 
 -- block after block: the second operation is asked of the scheduler after the first, for the k items that the first left over
-abbrev pub by_blocks : RingBufferScheduler → OperationType → NextOperation → ℕ → Scheduled
-by_blocks s t next.None k = scheduled_of list.None k
-by_blocks s t (next.Some f) k = joined f (next_in (advanced_in s t f.len) t k)
+abbrev pub by_blocks : RingBufferScheduler → OperationType → Option ScheduledOperation → ℕ → Scheduled
+by_blocks s t None k = scheduled_of list.None k
+by_blocks s t (Some f) k = joined f (next_in (advanced_in s t f.len) t k)
 
 unfoldable pub schedule_in : RingBufferScheduler → OperationType → ℕ → Scheduled
 schedule_in s t m = by_blocks s t (next_in s t m).operation (next_in s t m).remainder
 
 -- ---- registering
 -- 6 where the length is above the greatest
-unfoldable pub register_in : RingBufferScheduler → OperationType → ℕ → Registered
+unfoldable pub register_in : RingBufferScheduler → OperationType → ℕ → Result RingBufferScheduler Refusal
 register_in s t n =
-    cond (nat_lt (greatest_in s t) n) (registered.Refused (OperationTooLarge t n (greatest_in s t))) (registered.Advanced (advanced_in s t n))
+    cond (nat_lt (greatest_in s t) n) (Err (OperationTooLarge t n (greatest_in s t))) (Ok (advanced_in s t n))
 
-abbrev pub then_register : Registered → ScheduledOperation → Registered
-then_register (registered.Advanced s) a = register_in s a.typ a.len
-then_register (registered.Refused e) a = registered.Refused e
+abbrev pub then_register : Result RingBufferScheduler Refusal → ScheduledOperation → Result RingBufferScheduler Refusal
+then_register (Ok s) a = register_in s a.typ a.len
+then_register (Err e) a = Err e
 
 -- operation by operation, so that a refusal at the second names the greatest length after the first
-abbrev pub register_list_in : RingBufferScheduler → ScheduledOperations → Registered
-register_list_in s list.None = registered.Advanced s
+abbrev pub register_list_in : RingBufferScheduler → ScheduledOperations → Result RingBufferScheduler Refusal
+register_list_in s list.None = Ok s
 register_list_in s (list.One a) = register_in s a.typ a.len
 register_list_in s (list.Two a b) = then_register (register_in s a.typ a.len) b
 
@@ -218,78 +190,78 @@ abbrev pub move_in : RingBufferScheduler → OperationType → ℕ → Move
 move_in s t m = record { off = offset_in s t; portion = portion_of m (greatest_in s t); scheduler = advanced_in s t (portion_of m (greatest_in s t)).len }
 
 -- ---- what the calls answer: of a record that the tests take the above, else the tests' refusal
-abbrev pub tested : {A : Type 0} → Checked → (RingBufferScheduler → A) → (Refusal → A) → A
-tested (checked.Sound s) f g = f s
-tested (checked.Refused e) f g = g e
+abbrev pub tested : {A : Type 0} → Result RingBufferScheduler Refusal → (RingBufferScheduler → A) → (Refusal → A) → A
+tested (Ok s) f g = f s
+tested (Err e) f g = g e
 
 -- the record, and then the one with the other counter
-abbrev pub with_counter_of : RingBufferScheduler → OperationType → Counter → Checked
-with_counter_of s t c = tested (sound_of s) (λ u. sound_of (with_counter u t c)) checked.Refused
+abbrev pub with_counter_of : RingBufferScheduler → OperationType → Counter → Result RingBufferScheduler Refusal
+with_counter_of s t c = tested (sound_of s) (λ u. sound_of (with_counter u t c)) Err
 
-abbrev pub buf_len_of : RingBufferScheduler → AmountAnswer
-buf_len_of s = tested (sound_of s) (λ u. amount.Of u.buf_len) amount.Refused
+abbrev pub buf_len_of : RingBufferScheduler → Result ℕ Refusal
+buf_len_of s = tested (sound_of s) (λ u. Ok u.buf_len) Err
 
-abbrev pub counter_answer_of : RingBufferScheduler → OperationType → CounterAnswer
-counter_answer_of s t = tested (sound_of s) (λ u. counter.Of (counter_in u t)) counter.Refused
+abbrev pub counter_answer_of : RingBufferScheduler → OperationType → Result Counter Refusal
+counter_answer_of s t = tested (sound_of s) (λ u. Ok (counter_in u t)) Err
 
-abbrev pub offset_answer_of : RingBufferScheduler → OperationType → OffsetAnswer
-offset_answer_of s t = tested (sound_of s) (λ u. offset.Of (offset_in u t)) offset.Refused
+abbrev pub offset_answer_of : RingBufferScheduler → OperationType → Result Offset Refusal
+offset_answer_of s t = tested (sound_of s) (λ u. Ok (offset_in u t)) Err
 
-abbrev pub greatest_of : RingBufferScheduler → OperationType → AmountAnswer
-greatest_of s t = tested (sound_of s) (λ u. amount.Of (greatest_in u t)) amount.Refused
+abbrev pub greatest_of : RingBufferScheduler → OperationType → Result ℕ Refusal
+greatest_of s t = tested (sound_of s) (λ u. Ok (greatest_in u t)) Err
 
-abbrev pub is_zero_from : AmountAnswer → BoolAnswer
-is_zero_from (amount.Of n) = bool.Of (n == 0)
-is_zero_from (amount.Refused e) = bool.Refused e
+abbrev pub is_zero_from : Result ℕ Refusal → Result Bool Refusal
+is_zero_from (Ok n) = Ok (n == 0)
+is_zero_from (Err e) = Err e
 
-abbrev pub is_positive_from : AmountAnswer → BoolAnswer
-is_positive_from (amount.Of n) = bool.Of (nat_lt 0 n)
-is_positive_from (amount.Refused e) = bool.Refused e
+abbrev pub is_positive_from : Result ℕ Refusal → Result Bool Refusal
+is_positive_from (Ok n) = Ok (nat_lt 0 n)
+is_positive_from (Err e) = Err e
 
-abbrev pub fill_state_of : RingBufferScheduler → FillStateAnswer
-fill_state_of s = tested (sound_of s) (λ u. fill.Of (fill_state_in u)) fill.Refused
+abbrev pub fill_state_of : RingBufferScheduler → Result BufferFillState Refusal
+fill_state_of s = tested (sound_of s) (λ u. Ok (fill_state_in u)) Err
 
-abbrev pub layout_of : RingBufferScheduler → LayoutAnswer
-layout_of s = tested (sound_of s) (λ u. layout.Of (layout_in u)) layout.Refused
+abbrev pub layout_of : RingBufferScheduler → Result BufferLayout Refusal
+layout_of s = tested (sound_of s) (λ u. Ok (layout_in u)) Err
 
-abbrev pub blocks_of : RingBufferScheduler → BlocksAnswer
-blocks_of s = tested (sound_of s) (λ u. blocks.Of (blocks_in u)) blocks.Refused
+abbrev pub blocks_of : RingBufferScheduler → Result Blocks Refusal
+blocks_of s = tested (sound_of s) (λ u. Ok (blocks_in u)) Err
 
-abbrev pub block0_from : BlocksAnswer → BlockAnswer
-block0_from (blocks.Of b) = block.Of b.0
-block0_from (blocks.Refused e) = block.Refused e
+abbrev pub block0_from : Result Blocks Refusal → Result Block Refusal
+block0_from (Ok b) = Ok b.0
+block0_from (Err e) = Err e
 
-abbrev pub block1_from : BlocksAnswer → BlockAnswer
-block1_from (blocks.Of b) = block.Of b.1
-block1_from (blocks.Refused e) = block.Refused e
+abbrev pub block1_from : Result Blocks Refusal → Result Block Refusal
+block1_from (Ok b) = Ok b.1
+block1_from (Err e) = Err e
 
-abbrev pub block2_from : BlocksAnswer → BlockAnswer
-block2_from (blocks.Of b) = block.Of b.2
-block2_from (blocks.Refused e) = block.Refused e
+abbrev pub block2_from : Result Blocks Refusal → Result Block Refusal
+block2_from (Ok b) = Ok b.2
+block2_from (Err e) = Err e
 
-abbrev pub off_from : BlockAnswer → OffsetAnswer
-off_from (block.Of b) = offset.Of b.off
-off_from (block.Refused e) = offset.Refused e
+abbrev pub off_from : Result Block Refusal → Result Offset Refusal
+off_from (Ok b) = Ok b.off
+off_from (Err e) = Err e
 
-abbrev pub len_from : BlockAnswer → AmountAnswer
-len_from (block.Of b) = amount.Of b.len
-len_from (block.Refused e) = amount.Refused e
+abbrev pub len_from : Result Block Refusal → Result ℕ Refusal
+len_from (Ok b) = Ok b.len
+len_from (Err e) = Err e
 
-abbrev pub next_block_of : RingBufferScheduler → OperationType → BlockAnswer
-next_block_of s t = tested (sound_of s) (λ u. block.Of (next_block_in u t)) block.Refused
+abbrev pub next_block_of : RingBufferScheduler → OperationType → Result Block Refusal
+next_block_of s t = tested (sound_of s) (λ u. Ok (next_block_in u t)) Err
 
-abbrev pub next_of : RingBufferScheduler → OperationType → ℕ → NextOperationAnswer
-next_of s t m = tested (sound_of s) (λ u. nexts.Of (next_in u t m)) nexts.Refused
+abbrev pub next_of : RingBufferScheduler → OperationType → ℕ → Result Next Refusal
+next_of s t m = tested (sound_of s) (λ u. Ok (next_in u t m)) Err
 
-abbrev pub schedule_of : RingBufferScheduler → OperationType → ℕ → ScheduledAnswer
-schedule_of s t m = tested (sound_of s) (λ u. schedules.Of (schedule_in u t m)) schedules.Refused
+abbrev pub schedule_of : RingBufferScheduler → OperationType → ℕ → Result Scheduled Refusal
+schedule_of s t m = tested (sound_of s) (λ u. Ok (schedule_in u t m)) Err
 
-abbrev pub register_of : RingBufferScheduler → OperationType → ℕ → Registered
-register_of s t n = tested (sound_of s) (λ u. register_in u t n) registered.Refused
+abbrev pub register_of : RingBufferScheduler → OperationType → ℕ → Result RingBufferScheduler Refusal
+register_of s t n = tested (sound_of s) (λ u. register_in u t n) Err
 
 -- the scheduler's tests, then the list's, 7 and 8, and then 6
-abbrev pub register_list_of : RingBufferScheduler → ScheduledOperations → Registered
-register_list_of s ops = tested (sound_of s) (λ u. listed (sound_list_of ops) (register_list_in u) registered.Refused) registered.Refused
+abbrev pub register_list_of : RingBufferScheduler → ScheduledOperations → Result RingBufferScheduler Refusal
+register_list_of s ops = tested (sound_of s) (λ u. listed (sound_list_of ops) (register_list_in u) Err) Err
 
-abbrev pub move_of : RingBufferScheduler → OperationType → ℕ → MoveAnswer
-move_of s t m = tested (sound_of s) (λ u. moves.Of (move_in u t m)) moves.Refused
+abbrev pub move_of : RingBufferScheduler → OperationType → ℕ → Result Move Refusal
+move_of s t m = tested (sound_of s) (λ u. Ok (move_in u t m)) Err

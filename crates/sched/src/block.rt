@@ -33,6 +33,7 @@ impl Block {
     }
 }
 
+// Three fields and no array, as in the Rust: each has an export of its own.
 #[derive(Clone, Copy)]
 pub struct Blocks(pub Block, pub Block, pub Block);
 
@@ -47,28 +48,4 @@ pub enum BufferFillState {
     Empty,
     Partial,
     Full,
-}
-
-#[derive(Clone, Copy)]
-pub enum BlockAnswer {
-    Of(Block),
-    Refused(Refusal),
-}
-
-#[derive(Clone, Copy)]
-pub enum BlocksAnswer {
-    Of(Blocks),
-    Refused(Refusal),
-}
-
-#[derive(Clone, Copy)]
-pub enum LayoutAnswer {
-    Of(BufferLayout),
-    Refused(Refusal),
-}
-
-#[derive(Clone, Copy)]
-pub enum FillStateAnswer {
-    Of(BufferFillState),
-    Refused(Refusal),
 }

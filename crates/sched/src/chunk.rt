@@ -8,8 +8,5 @@ pub const HEADER_LEN: u64 = 8;
 pub fn body_fits(buf_len: u64, n: u64) -> bool
     ensures { result ≡ body_fits buf_len n }
 {
-    if buf_len < HEADER_LEN {
-        return false;
-    }
-    n <= buf_len - HEADER_LEN
+    HEADER_LEN <= buf_len && n <= buf_len - HEADER_LEN
 }

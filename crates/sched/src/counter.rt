@@ -1,5 +1,6 @@
 // What is done with counters, each below 2L, and offsets, each below L: compares, sums and differences, and no remainder. At a length of
 // 2^63 the counters are all of 64 bits: 2L is 0 there, and sums and differences wrap where counters do.
+// Each says its bounds itself, which are less than a sound record's: the tests of a record ask for its data before it is known to be sound.
 ghost use Rattle.std.specs.Prelude.{◌≡◌, ◌+◌, ◌*◌, ◌%◌, ◌^◌, ◌<◌};
 ghost use Rattle.sched.specs.Counter.{offset_of, data_of, later_of};
 ghost use Rattle.sched.specs.Scheduler.{Sized};
@@ -18,7 +19,7 @@ pub(crate) fn last_counter(buf_len: u64) -> u64
 fn doubled(buf_len: u64) -> u64
     ensures { result ≡ (2 * buf_len) % 2 ^ 64 }
 {
-    std::num::wrapping_add_u64(buf_len, buf_len)
+    buf_len.wrapping_add(buf_len)
 }
 
 // The only way from a counter to an offset.
@@ -39,11 +40,11 @@ pub(crate) fn data_of(items_written: Counter, items_read: Counter, buf_len: u64)
 {
     let written = items_written.0;
     let read = items_read.0;
-    let ahead = std::num::wrapping_sub_u64(written, read);
+    let ahead = written.wrapping_sub(read);
     if read <= written {
         return ahead;
     }
-    std::num::wrapping_add_u64(ahead, doubled(buf_len))
+    ahead.wrapping_add(doubled(buf_len))
 }
 
 // The counter n items on. How many are left up to the last counter is compared with n, and not with the sum, which may pass 64 bits.
@@ -52,9 +53,9 @@ pub(crate) fn later_of(counter: Counter, buf_len: u64, n: u64) -> Counter
     ensures { result ≡ later_of buf_len counter n }
 {
     let left = last_counter(buf_len) - counter.0;
-    let sum = std::num::wrapping_add_u64(counter.0, n);
+    let sum = counter.0.wrapping_add(n);
     if n <= left {
         return Counter(sum);
     }
-    Counter(std::num::wrapping_sub_u64(sum, doubled(buf_len)))
+    Counter(sum.wrapping_sub(doubled(buf_len)))
 }

@@ -8,18 +8,16 @@ mod layout;
 mod register;
 mod schedule;
 mod scheduler;
+mod sound;
 
-pub use block::{
-    Bit, Block, BlockAnswer, BlockType, Blocks, BlocksAnswer, BufferFillState, BufferLayout,
-    FillStateAnswer, LayoutAnswer,
-};
+pub use block::{Bit, Block, BlockType, Blocks, BufferFillState, BufferLayout};
 pub use chunk::{HEADER_LEN, body_fits};
 pub use operations::{
-    AmountAnswer, BoolAnswer, Counter, CounterAnswer, CumulativeOffset, CumulativeOffsets,
-    CumulativeOffsetsAnswer, Diff, Offset, OffsetAnswer, OperationType, OperationsAnswer,
-    OutsideRange, OutsideRanges, OutsideRangesAnswer, Portion, Refusal, ScheduledOperation,
-    ScheduledOperations, Values, portion_of,
+    AtMostTwo, Counter, CumulativeOffset, CumulativeOffsets, Diff, Offset, OperationType,
+    OutsideRange, OutsideRanges, Portion, Refusal, ScheduledOperation, ScheduledOperations, Values,
+    portion_of,
 };
-pub use register::{Move, MoveAnswer, Registered};
-pub use schedule::{Next, NextOperation, NextOperationAnswer, Scheduled, ScheduledAnswer};
-pub use scheduler::{Checked, RingBufferScheduler};
+pub use register::Move;
+pub use schedule::{Next, Scheduled};
+pub use scheduler::RingBufferScheduler;
+pub use sound::Sound;

@@ -1,30 +1,20 @@
-// Which items may be moved next: one operation, or all in at most two. Nothing is counted.
+// Which items may be moved next: one operation, or all in at most two. Nothing is counted. A type and a length stay two parameters: the
+// exports and the Rust have them so.
 ghost use Rattle.std.specs.Prelude.{◌≡◌};
-ghost use Rattle.sched.specs.Scheduler.{IsSound, portioned, both_of, next_in, schedule_in, next_of, schedule_of};
+ghost use Rattle.sched.specs.Scheduler.{portioned, both_of, next_in, schedule_in, next_of, schedule_of};
 
-use crate::scheduler::{Checked, RingBufferScheduler};
+use crate::scheduler::RingBufferScheduler;
+use crate::sound::Sound;
 use operations::{
-    Offset, OperationType, Portion, Refusal, ScheduledOperation, ScheduledOperations, portion_of,
+    AtMostTwo, Offset, OperationType, Portion, Refusal, ScheduledOperation, ScheduledOperations,
+    portion_of,
 };
-
-// The next operation; none where nothing can be moved.
-#[derive(Clone, Copy)]
-pub enum NextOperation {
-    Some(ScheduledOperation),
-    None,
-}
 
 // The next operation, and how many of the items asked are left over after it.
 #[derive(Clone, Copy)]
 pub struct Next {
-    pub operation: NextOperation,
+    pub operation: Option<ScheduledOperation>,
     pub remainder: u64,
-}
-
-#[derive(Clone, Copy)]
-pub enum NextOperationAnswer {
-    Of(Next),
-    Refused(Refusal),
 }
 
 // All operations, and how many of the items asked are left over after them.
@@ -34,63 +24,56 @@ pub struct Scheduled {
     pub remainder: u64,
 }
 
-#[derive(Clone, Copy)]
-pub enum ScheduledAnswer {
-    Of(Scheduled),
-    Refused(Refusal),
-}
-
 impl RingBufferScheduler {
     pub fn schedule_next_contiguous_operation(
         self,
         op: OperationType,
         max_len: u64,
-    ) -> NextOperationAnswer
+    ) -> Result<Next, Refusal>
         ensures { result ≡ next_of self op max_len }
     {
-        match self.demand_soundness() {
-            Checked::Sound(s) => NextOperationAnswer::Of(s.next_in(op, max_len)),
-            Checked::Refused(e) => NextOperationAnswer::Refused(e),
-        }
+        Ok(self.sound()?.next_in(op, max_len))
     }
 
-    pub fn schedule_next_read(self, dst_len: u64) -> NextOperationAnswer
+    pub fn schedule_next_read(self, dst_len: u64) -> Result<Next, Refusal>
         ensures { result ≡ next_of self OperationType.Read dst_len }
     {
         self.schedule_next_contiguous_operation(OperationType::Read, dst_len)
     }
 
-    pub fn schedule_next_write(self, src_len: u64) -> NextOperationAnswer
+    pub fn schedule_next_write(self, src_len: u64) -> Result<Next, Refusal>
         ensures { result ≡ next_of self OperationType.Write src_len }
     {
         self.schedule_next_contiguous_operation(OperationType::Write, src_len)
     }
 
-    pub fn schedule_contiguous_operations(self, op: OperationType, max_len: u64) -> ScheduledAnswer
+    pub fn schedule_contiguous_operations(
+        self,
+        op: OperationType,
+        max_len: u64,
+    ) -> Result<Scheduled, Refusal>
         ensures { result ≡ schedule_of self op max_len }
     {
-        match self.demand_soundness() {
-            Checked::Sound(s) => ScheduledAnswer::Of(s.schedule_in(op, max_len)),
-            Checked::Refused(e) => ScheduledAnswer::Refused(e),
-        }
+        Ok(self.sound()?.schedule_in(op, max_len))
     }
 
-    pub fn schedule_reads(self, dst_len: u64) -> ScheduledAnswer
+    pub fn schedule_reads(self, dst_len: u64) -> Result<Scheduled, Refusal>
         ensures { result ≡ schedule_of self OperationType.Read dst_len }
     {
         self.schedule_contiguous_operations(OperationType::Read, dst_len)
     }
 
-    pub fn schedule_writes(self, src_len: u64) -> ScheduledAnswer
+    pub fn schedule_writes(self, src_len: u64) -> Result<Scheduled, Refusal>
         ensures { result ≡ schedule_of self OperationType.Write src_len }
     {
         self.schedule_contiguous_operations(OperationType::Write, src_len)
     }
+}
 
-    // ---- of a sound scheduler
+// ---- of a sound scheduler
 
+impl Sound {
     fn next_in(self, op: OperationType, max_len: u64) -> Next
-        requires { IsSound self }
         ensures { result ≡ next_in self op max_len }
     {
         let block = self.next_block_in(op);
@@ -100,17 +83,14 @@ impl RingBufferScheduler {
     // What there is lies before the buffer's end and behind it. The second operation is asked for what the first left over. That asking
     // block after block gives the same is a law.
     fn schedule_in(self, op: OperationType, max_len: u64) -> Scheduled
-        requires { IsSound self }
         ensures { result ≡ schedule_in self op max_len }
     {
-        let off = self.offset_in(op);
-        let there = portion_of(self.greatest_in(op), self.buf_len - off.0);
+        let off = self.offset(op);
+        let there = portion_of(self.greatest(op), self.scheduler.buf_len - off.0);
         let first = next_of(op, off, portion_of(max_len, there.len));
         let second = next_of(op, Offset(0), portion_of(first.remainder, there.remainder));
-        let a = first.operation;
-        let b = second.operation;
         Scheduled {
-            operations: both_of(a, b),
+            operations: both_of(first.operation, second.operation),
             remainder: second.remainder,
         }
     }
@@ -122,25 +102,26 @@ fn next_of(typ: OperationType, off: Offset, portion: Portion) -> Next
 {
     if portion.len == 0 {
         return Next {
-            operation: NextOperation::None,
+            operation: None,
             remainder: portion.remainder,
         };
     }
     Next {
-        operation: NextOperation::Some(ScheduledOperation::new(typ, off, portion.len)),
+        operation: Some(ScheduledOperation::new(typ, off, portion.len)),
         remainder: portion.remainder,
     }
 }
 
 // There is no second without a first.
-fn both_of(first: NextOperation, second: NextOperation) -> ScheduledOperations
+fn both_of(
+    first: Option<ScheduledOperation>,
+    second: Option<ScheduledOperation>,
+) -> ScheduledOperations
     ensures { result ≡ both_of first second }
 {
-    match first {
-        NextOperation::Some(a) => match second {
-            NextOperation::Some(b) => ScheduledOperations::Two(a, b),
-            NextOperation::None => ScheduledOperations::One(a),
-        },
-        NextOperation::None => ScheduledOperations::None,
+    match (first, second) {
+        (Some(a), Some(b)) => AtMostTwo::Two(a, b),
+        (Some(a), None) => AtMostTwo::One(a),
+        (None, _) => AtMostTwo::None,
     }
 }

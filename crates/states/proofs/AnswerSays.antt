@@ -26,7 +26,7 @@ unfolding fits_errno
 errno_fits e = by (eqb e 0) refl
   where
     by : (b : Bool) → eqb e 0 ≡ b → cond b false (leb e 4095) ≡ true → Errno e
-    by true q h = let z : ◌≡◌ {A = ℕ} 0 1 = cc in absurd (omega arith)
+    by true q h = cc
     by false q h = (omega (arith, eqb-false e 0 q), leb-true e 4095 h)
 
 pub fits_errno_lem : (e : ℕ) → Errno e → fits_errno e ≡ true
@@ -34,15 +34,15 @@ unfolding fits_errno
 fits_errno_lem e h = rw (ne_eqb e 0 (λ z. omega (arith, z, h.0)), le-leb e 4095 h.1)
 
 no_errno : (e : ℕ) → fits_errno e ≡ false → Errno e → ⊥
-no_errno e f h = let k = fits_errno_lem e h in let z : ◌≡◌ {A = ℕ} 0 1 = cc in omega arith
+no_errno e f h = let k = fits_errno_lem e h in cc
 
 pub failure_fits : (f : Failure) (b : Bool) → fits_failure f ≡ b → (b ≡ true → FailureFits f) × (b ≡ false → FailureFits f → ⊥)
 failure_fits (Io e) b h = ((λ t. errno_fits e (h ∙ t)), (λ t k. no_errno e (h ∙ t) k))
-failure_fits (Protocol v) b h = ((λ t. tt), (λ t k. let z : ◌≡◌ {A = ℕ} 0 1 = cc in omega arith))
+failure_fits (Protocol v) b h = ((λ t. tt), (λ t k. cc))
 
 -- the test of a state is that what it stores fits
 pub state_fits : (s : OperationalState) (b : Bool) → fits_state s ≡ b → (b ≡ true → Stored s) × (b ≡ false → Stored s → ⊥)
-state_fits Normal b h = ((λ t. tt), (λ t k. let z : ◌≡◌ {A = ℕ} 0 1 = cc in omega arith))
+state_fits Normal b h = ((λ t. tt), (λ t k. cc))
 state_fits (Draining f) b h = failure_fits f b h
 state_fits (Terminated f) b h = failure_fits f b h
 
@@ -118,4 +118,4 @@ module _ (a : Answer) where
     where
       by : (b : Bool) → eqb a.kind 2 ≡ b → cond b (eqb a.value 4) false ≡ true → (a.kind ≡ 2) × (a.value ≡ 4)
       by true p h = (eqb-true _ _ p, eqb-true _ _ h)
-      by false p h = let z : ◌≡◌ {A = ℕ} 0 1 = cc in absurd (omega arith)
+      by false p h = cc

@@ -1,4 +1,3 @@
-pub mod StateLaws
 pub mod AnswerSays
 pub mod Rules
 pub mod Says

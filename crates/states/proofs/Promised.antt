@@ -1,4 +1,5 @@
 -- Answers at their place, and advancing a state: whatever an attached contract allows keeps the promises of specs/Promise.antt.
+use Rattle.std.proofs.Common.{Ok, Err}
 use mathlib.Core.Path.{◌≡◌, refl, sym, subst, ◌∙◌}
 use mathlib.Core.Bool.{Bool, true, false}
 use mathlib.Core.Logic.{◌≢◌}
@@ -11,7 +12,6 @@ use Rattle.states.specs.Promise.{Batch, Stored, Advanced, SaysReceived, SaysSent
 use Rattle.states.specs.State.{fits_state, advance_in, tested_state}
 use Rattle.states.specs.declared.refusal.Refusal.TheVariants.{Misfit}
 use Rattle.states.specs.declared.state.OperationalState.{OperationalState}
-use Rattle.states.specs.declared.state.StateAnswer.TheVariants as state
 use Rattle.states.proofs.answer.Answer.is_interruption.Kinds as is_interruption_kinds
 use Rattle.states.proofs.answer.Answer.is_interruption.Reads as is_interruption
 use Rattle.states.proofs.answer.Answer.received.Kinds as received_kinds
@@ -46,14 +46,14 @@ interruption_promised κs a z p =
 -- ---- states: 12 with place 0 exactly where one that is handed in does not fit, and else the rule
 module _ (s to : OperationalState) where
   advances : (b c : Bool) → fits_state s ≡ b → fits_state to ≡ c →
-      (Stored s → Stored to → (x : OperationalState) × (tested_state b (tested_state c (state.Of (advance_in s to))) ≡ state.Of x) × Advanced s to x) ×
-      ((Stored s × Stored to → ⊥) → tested_state b (tested_state c (state.Of (advance_in s to))) ≡ state.Refused (Misfit 0))
+      (Stored s → Stored to → (x : OperationalState) × (tested_state b (tested_state c (Ok (advance_in s to))) ≡ Ok x) × Advanced s to x) ×
+      ((Stored s × Stored to → ⊥) → tested_state b (tested_state c (Ok (advance_in s to))) ≡ Err (Misfit 0))
   advances true true e f = ((λ h k. (advance_in s to, refl, advance_rule s to)), (λ no. absurd (no ((state_fits s true e).0 refl, (state_fits to true f).0 refl))))
   advances true false e f = ((λ h k. absurd ((state_fits to false f).1 refl k)), (λ no. refl))
   advances false c e f = ((λ h k. absurd ((state_fits s false e).1 refl h)), (λ no. refl))
 
 pub advance_promised : Keeps 0 advance_kinds.ps advance_kinds.r advance.Learnt
-    (λ κs a z. (Stored a.0 → Stored a.1.0 → (x : OperationalState) × (z ≡ state.Of x) × Advanced a.0 a.1.0 x) × ((Stored a.0 × Stored a.1.0 → ⊥) → z ≡ state.Refused (Misfit 0)))
+    (λ κs a z. (Stored a.0 → Stored a.1.0 → (x : OperationalState) × (z ≡ Ok x) × Advanced a.0 a.1.0 x) × ((Stored a.0 × Stored a.1.0 → ⊥) → z ≡ Err (Misfit 0)))
 advance_promised κs a z p =
     let e = advance_state_towards_termination_says κs a z p.0 p.1 in
     let k = advances a.0 a.1.0 (fits_state a.0) (fits_state a.1.0) refl refl in

@@ -29,11 +29,11 @@ batch_rule p z = by (leb 128 p) refl
 -- ---- reasons
 is_errno_lem : (f : Failure) (k : ℕ) → is_errno f k ≡ true → f ≡ Io k
 is_errno_lem (Io e) k h = ap Io (eqb-true e k h)
-is_errno_lem (Protocol v) k h = let z : ◌≡◌ {A = ℕ} 0 1 = cc in absurd (omega arith)
+is_errno_lem (Protocol v) k h = cc
 
 is_other : (f : Failure) (k : ℕ) → is_errno f k ≡ false → f ≢ Io k
 is_other (Io e) k h p = let z : e ≡ k = cc in eqb-false e k h z
-is_other (Protocol v) k h p = let z : ◌≡◌ {A = ℕ} 0 1 = cc in omega arith
+is_other (Protocol v) k h p = cc
 
 pub reason_rule : (c e : Failure) → Reason c e (towards_error_in c e)
 unfolding towards_error_in

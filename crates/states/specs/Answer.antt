@@ -1,7 +1,9 @@
 -- The socket's answers, and what each says at its place. An answer that its place cannot have is a misfit.
-use Rattle.std.specs.Prelude.{ℕ, min, Bool, cond, false, eqb, leb}
+use Rattle.std.specs.Prelude.{ℕ, min, Bool, cond, false, eqb, leb, Option, Some, None}
 use Rattle.states.specs.State.{fits_errno}
 use Rattle.states.specs.declared.answer.Answer.{Answer}
+use Rattle.states.specs.declared.answer.Kind.{Kind}
+use Rattle.states.specs.declared.answer.Kind.TheVariants as kind
 use Rattle.states.specs.declared.answer.Received.{Received}
 use Rattle.states.specs.declared.answer.Received.TheVariants as received
 use Rattle.states.specs.declared.answer.Sent.{Sent}
@@ -24,6 +26,15 @@ is_sent a = eqb a.kind 3
 
 abbrev pub is_done : Answer → Bool
 is_done a = eqb a.kind 4
+
+-- which kind, if any
+unfoldable pub kind_of : Answer → Option Kind
+kind_of a =
+    cond (is_byte a) (Some kind.Byte)
+    (cond (is_closed a) (Some kind.Closed)
+    (cond (is_failed a) (Some kind.Failed)
+    (cond (is_sent a) (Some kind.Sent)
+    (cond (is_done a) (Some kind.Done) None))))
 
 -- errno 4 is an interruption
 unfoldable pub interrupted_of : Answer → Bool

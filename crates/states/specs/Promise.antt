@@ -1,6 +1,6 @@
 -- What the states, the failures and the answers promise, told again by cases and in other words than those of their rules, so that a
 -- rule that is changed in its place is seen.
-use Rattle.std.specs.Prelude.{ℕ, ◌+◌, ◌<◌, ◌≤◌, ◌≡◌, ◌≢◌}
+use Rattle.std.specs.Prelude.{ℕ, ◌+◌, ◌<◌, ◌≤◌, ◌≡◌, ◌≢◌, Option, Some, None}
 use Rattle.states.specs.declared.answer.Answer.{Answer}
 use Rattle.states.specs.declared.answer.Received.{Received}
 use Rattle.states.specs.declared.answer.Received.TheVariants as received
@@ -12,8 +12,6 @@ use Rattle.states.specs.declared.state.Failure.{Failure}
 use Rattle.states.specs.declared.state.Failure.TheVariants.{Io, Protocol}
 use Rattle.states.specs.declared.state.OperationalState.{OperationalState}
 use Rattle.states.specs.declared.state.OperationalState.TheVariants.{Normal, Draining, Terminated}
-use Rattle.states.specs.declared.state.PotentialFailure.{PotentialFailure}
-use Rattle.states.specs.declared.state.PotentialFailure.TheVariants.{Some, None}
 use Rattle.states.specs.declared.state.Overflow.{Overflow}
 use Rattle.states.specs.declared.state.Violation.{Violation}
 use Rattle.states.specs.declared.state.Violation.TheVariants.{InvalidChunkAnnouncement, HeaderOverflow, UnknownHeader, InvalidChunkLength, BodyOverflow}
@@ -57,7 +55,7 @@ pub data Normalized : OperationalState → OperationalState → Type 0 where
   ends : (f : Failure) → f ≢ Io 11 → Normalized (Terminated f) (Terminated f)
 
 -- the failure that a state holds, and the state with another one
-pub data Holds : OperationalState → PotentialFailure → Type 0 where
+pub data Holds : OperationalState → Option Failure → Type 0 where
   holds_none : Holds Normal None
   draining_holds : {f : Failure} → Holds (Draining f) (Some f)
   terminated_holds : {f : Failure} → Holds (Terminated f) (Some f)

@@ -1,22 +1,15 @@
 -- The rules of the states: docs/PAPER.md, "States" to "The reason rule". A name that ends in `In` is of states whose errnos fit; one
 -- that ends in `Of` tests them first ("Stored errnos"): 12 with place 0, the state's own before the argument's.
-use Rattle.std.specs.Prelude.{ℕ, ◌-◌, Bool, cond, true, false, eqb, leb}
+use Rattle.std.specs.Prelude.{ℕ, ◌-◌, Bool, cond, true, false, eqb, leb, Result, Ok, Err, Option, Some, None}
 use Rattle.states.specs.declared.refusal.Refusal.TheVariants.{Misfit}
 use Rattle.states.specs.declared.state.Overflow.{Overflow}
 use Rattle.states.specs.declared.state.Violation.{Violation}
 use Rattle.states.specs.declared.state.Violation.TheVariants.{InvalidChunkAnnouncement, HeaderOverflow, UnknownHeader, InvalidChunkLength, BodyOverflow}
 use Rattle.states.specs.declared.state.Failure.{Failure}
 use Rattle.states.specs.declared.state.Failure.TheVariants.{Io, Protocol}
-use Rattle.states.specs.declared.state.FailureAnswer.{FailureAnswer}
-use Rattle.states.specs.declared.state.FailureAnswer.TheVariants as failure
 use Rattle.states.specs.declared.state.OperationalState.{OperationalState}
 use Rattle.states.specs.declared.state.OperationalState.TheVariants.{Normal, Draining, Terminated}
-use Rattle.states.specs.declared.state.PotentialFailure.{PotentialFailure}
-use Rattle.states.specs.declared.state.PotentialFailure.TheVariants.{Some, None}
-use Rattle.states.specs.declared.state.PotentialFailureAnswer.{PotentialFailureAnswer}
-use Rattle.states.specs.declared.state.PotentialFailureAnswer.TheVariants as potential
-use Rattle.states.specs.declared.state.StateAnswer.{StateAnswer}
-use Rattle.states.specs.declared.state.StateAnswer.TheVariants as state
+use Rattle.states.specs.declared.refusal.Refusal.{Refusal}
 
 -- the paper's number of a violation
 abbrev pub violation_number : Violation → ℕ
@@ -72,7 +65,7 @@ abbrev pub is_errno : Failure → ℕ → Bool
 is_errno (Io e) k = eqb e k
 is_errno (Protocol v) k = false
 
-abbrev pub failure_in : OperationalState → PotentialFailure
+abbrev pub failure_in : OperationalState → Option Failure
 failure_in Normal = None
 failure_in (Draining f) = Some f
 failure_in (Terminated f) = Some f
@@ -105,39 +98,39 @@ abbrev pub advance_in : OperationalState → OperationalState → OperationalSta
 advance_in s to = advance_normal (normalize_in s) (normalize_in to)
 
 -- ---- what the calls answer
-abbrev pub tested_failure : Bool → FailureAnswer → FailureAnswer
+abbrev pub tested_failure : Bool → Result Failure Refusal → Result Failure Refusal
 tested_failure true a = a
-tested_failure false a = failure.Refused (Misfit 0)
+tested_failure false a = Err (Misfit 0)
 
-abbrev pub tested_state : Bool → StateAnswer → StateAnswer
+abbrev pub tested_state : Bool → Result OperationalState Refusal → Result OperationalState Refusal
 tested_state true a = a
-tested_state false a = state.Refused (Misfit 0)
+tested_state false a = Err (Misfit 0)
 
-abbrev pub tested_potential : Bool → PotentialFailureAnswer → PotentialFailureAnswer
+abbrev pub tested_potential : Bool → Result (Option Failure) Refusal → Result (Option Failure) Refusal
 tested_potential true a = a
-tested_potential false a = potential.Refused (Misfit 0)
+tested_potential false a = Err (Misfit 0)
 
-abbrev pub normalize_failure_of : Failure → FailureAnswer
-normalize_failure_of f = tested_failure (fits_failure f) (failure.Of f)
+abbrev pub normalize_failure_of : Failure → Result Failure Refusal
+normalize_failure_of f = tested_failure (fits_failure f) (Ok f)
 
-abbrev pub towards_error_of : Failure → Failure → FailureAnswer
-towards_error_of c e = tested_failure (fits_failure c) (tested_failure (fits_failure e) (failure.Of (towards_error_in c e)))
+abbrev pub towards_error_of : Failure → Failure → Result Failure Refusal
+towards_error_of c e = tested_failure (fits_failure c) (tested_failure (fits_failure e) (Ok (towards_error_in c e)))
 
-abbrev pub failure_of : OperationalState → PotentialFailureAnswer
-failure_of s = tested_potential (fits_state s) (potential.Of (failure_in s))
+abbrev pub failure_of : OperationalState → Result (Option Failure) Refusal
+failure_of s = tested_potential (fits_state s) (Ok (failure_in s))
 
-abbrev pub with_failure_of : OperationalState → Failure → StateAnswer
-with_failure_of s f = tested_state (fits_state s) (tested_state (fits_failure f) (state.Of (with_failure_in s f)))
+abbrev pub with_failure_of : OperationalState → Failure → Result OperationalState Refusal
+with_failure_of s f = tested_state (fits_state s) (tested_state (fits_failure f) (Ok (with_failure_in s f)))
 
-abbrev pub with_potential_from : OperationalState → PotentialFailure → StateAnswer
+abbrev pub with_potential_from : OperationalState → Option Failure → Result OperationalState Refusal
 with_potential_from s (Some f) = with_failure_of s f
-with_potential_from s None = state.Of Normal
+with_potential_from s None = Ok Normal
 
-abbrev pub with_potential_failure_of : OperationalState → PotentialFailure → StateAnswer
+abbrev pub with_potential_failure_of : OperationalState → Option Failure → Result OperationalState Refusal
 with_potential_failure_of s p = tested_state (fits_state s) (with_potential_from s p)
 
-abbrev pub normalize_of : OperationalState → StateAnswer
-normalize_of s = tested_state (fits_state s) (state.Of (normalize_in s))
+abbrev pub normalize_of : OperationalState → Result OperationalState Refusal
+normalize_of s = tested_state (fits_state s) (Ok (normalize_in s))
 
-abbrev pub advance_of : OperationalState → OperationalState → StateAnswer
-advance_of s to = tested_state (fits_state s) (tested_state (fits_state to) (state.Of (advance_in s to)))
+abbrev pub advance_of : OperationalState → OperationalState → Result OperationalState Refusal
+advance_of s to = tested_state (fits_state s) (tested_state (fits_state to) (Ok (advance_in s to)))

@@ -7,7 +7,4 @@ mod state;
 
 pub use answer::{Answer, Received, Sent, Shut, batch_of};
 pub use refusal::Refusal;
-pub use state::{
-    Failure, FailureAnswer, OperationalState, Overflow, PotentialFailure, PotentialFailureAnswer,
-    StateAnswer, Violation,
-};
+pub use state::{Failure, OperationalState, Overflow, Violation};

@@ -1,7 +1,9 @@
 // Why a call of the receiver refuses: what the scheduler and the copies refuse, or 11 to 13. A failure is another kind of outcome.
 ghost use Rattle.std.specs.Prelude.{◌≡◌};
 ghost use Rattle.operations.specs.Refusal.{packed};
+ghost use Rattle.copies.specs.declared.refusal.Refusal.TheVariants.{Scheduler};
 ghost use Rattle.states.specs.Refusal.{number_of, values_of};
+ghost use Rattle.states.specs.declared.refusal.Refusal.TheVariants.{Copy};
 
 use sched::Values;
 
@@ -17,6 +19,7 @@ pub enum Refusal {
 }
 
 impl Refusal {
+    // A method and no `From`, which would not say of a number that it is the paper's.
     pub fn number(self) -> u64
         ensures { result ≡ number_of self }
     {
@@ -33,9 +36,25 @@ impl Refusal {
     {
         match self {
             Refusal::Copy(e) => e.values(),
-            Refusal::AnswerMissing => Values::none(),
             Refusal::Misfit { place } => Values::one(place),
-            Refusal::PendingFull => Values::none(),
+            Refusal::AnswerMissing | Refusal::PendingFull => Values::none(),
         }
+    }
+}
+
+impl From<copies::Refusal> for Refusal {
+    ghost from_gives = { λ inner e. e ≡ Copy inner };
+
+    fn from(inner: copies::Refusal) -> Refusal {
+        Refusal::Copy(inner)
+    }
+}
+
+// What the scheduler refuses, a copy refuses with it.
+impl From<sched::Refusal> for Refusal {
+    ghost from_gives = { λ inner e. e ≡ Copy (Scheduler inner) };
+
+    fn from(inner: sched::Refusal) -> Refusal {
+        Refusal::Copy(copies::Refusal::Scheduler(inner))
     }
 }

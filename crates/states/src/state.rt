@@ -1,26 +1,16 @@
 // The states of the receiver, and the failures in them. Every state and failure that is handed in is tested: an errno is a number
 // from 1 to 4095.
 ghost use Rattle.std.specs.Prelude.{◌≡◌};
-ghost use Rattle.states.specs.State.{behind_header, header_overflow, body_overflow, violation_number, overflow_in, violation_at, fits_failure, fits_state, failure_in, with_failure_in, is_errno, normalize_in, towards_error_in, advance_in, failure_of, with_failure_of, with_potential_failure_of, normalize_of, advance_of, normalize_failure_of, towards_error_of};
+ghost use Rattle.states.specs.State.{header_overflow, body_overflow, violation_number, overflow_in, violation_at, fits_errno, fits_failure, fits_state, tested_state, failure_in, with_failure_in, is_errno, normalize_in, towards_error_in, advance_in, failure_of, with_failure_of, with_potential_failure_of, normalize_of, advance_of, normalize_failure_of, towards_error_of};
 
 use crate::refusal::Refusal;
 use sched::HEADER_LEN;
 
 // How many bytes were needed, and the room for them.
-#[derive(Clone, Copy)]
+#[derive(Clone, Copy, Default)]
 pub struct Overflow {
     pub needed: u64,
     pub room: u64,
-}
-
-// What a header leaves of a ring; nothing of one that is shorter.
-fn behind_header(buf_len: u64) -> u64
-    ensures { result ≡ behind_header buf_len }
-{
-    if buf_len < HEADER_LEN {
-        return 0;
-    }
-    buf_len - HEADER_LEN
 }
 
 // The other process has broken the protocol. The two overflows are one in the Rust, `ControlOverflow`.
@@ -44,16 +34,18 @@ impl Violation {
         })
     }
 
-    // A body of so many bytes does not fit behind the header.
+    // A body of so many bytes does not fit behind the header, which leaves nothing of a ring that is shorter.
+    #[tactic(auto, unfolding(crate::specs::State::behind_header))]
     pub fn of_body(buf_len: u64, len: u64) -> Violation
         ensures { result ≡ body_overflow buf_len len }
     {
         Violation::BodyOverflow(Overflow {
             needed: len,
-            room: behind_header(buf_len),
+            room: buf_len.saturating_sub(HEADER_LEN),
         })
     }
 
+    // A method and no `From`, which would not say of a number that it is the paper's.
     pub fn number(self) -> u64
         ensures { result ≡ violation_number self }
     {
@@ -66,20 +58,18 @@ impl Violation {
         }
     }
 
-    // Zeros where nothing overflowed.
+    // Zeros where nothing overflowed, and no Option: its theorem `overflow_promised` and the C interface have both numbers of any violation.
     pub fn overflow(self) -> Overflow
         ensures { result ≡ overflow_in self }
     {
         match self {
-            Violation::InvalidChunkAnnouncement => Overflow { needed: 0, room: 0 },
-            Violation::HeaderOverflow(o) => o,
-            Violation::UnknownHeader => Overflow { needed: 0, room: 0 },
-            Violation::InvalidChunkLength => Overflow { needed: 0, room: 0 },
-            Violation::BodyOverflow(o) => o,
+            Violation::HeaderOverflow(o) | Violation::BodyOverflow(o) => o,
+            _ => Overflow::default(),
         }
     }
 
-    // A number that no violation has is the fourth.
+    // No `TryFrom`: a host's number that no violation has is the fourth.
+    #[tactic(auto, unfolding(crate::specs::State::violation_at))]
     pub fn of_number(number: u64, o: Overflow) -> Violation
         ensures { result ≡ violation_at number o }
     {
@@ -107,37 +97,20 @@ pub enum OperationalState {
     Terminated(Failure),
 }
 
-#[derive(Clone, Copy)]
-pub enum PotentialFailure {
-    Some(Failure),
-    None,
-}
+// An errno is a number from 1 to this one.
+const GREATEST_ERRNO: u64 = 4095;
 
-#[derive(Clone, Copy)]
-pub enum FailureAnswer {
-    Of(Failure),
-    Refused(Refusal),
-}
-
-#[derive(Clone, Copy)]
-pub enum PotentialFailureAnswer {
-    Of(PotentialFailure),
-    Refused(Refusal),
-}
-
-#[derive(Clone, Copy)]
-pub enum StateAnswer {
-    Of(OperationalState),
-    Refused(Refusal),
-}
-
-// The stored errno that does not fit: 12 with place 0.
-fn stored_misfit() -> Refusal
-    ensures { result ≡ Refusal.Misfit 0 }
+#[tactic(auto, unfolding(crate::specs::State::fits_errno))]
+pub(crate) fn fits_errno(e: u64) -> bool
+    ensures { result ≡ fits_errno e }
 {
-    Refusal::Misfit { place: 0 }
+    (1..=GREATEST_ERRNO).contains(&e)
 }
 
+// A stored errno that does not fit: 12 with place 0.
+const MISFIT: Refusal = Refusal::Misfit { place: 0 };
+
+// Errnos by their Linux numbers, and no enum: they come from the host and go to it (the C interface), any that fits.
 impl Failure {
     pub const INTERRUPTED: u64 = 4;
 
@@ -147,41 +120,32 @@ impl Failure {
 
     pub const SHUTDOWN: u64 = 32;
 
-    const GREATEST: u64 = 4095;
-
     // WOULDBLOCK and EAGAIN are one number on Linux, so a failure is normal as it is.
-    pub fn normalize(self) -> FailureAnswer
+    pub fn normalize(self) -> Result<Failure, Refusal>
         ensures { result ≡ normalize_failure_of self }
     {
-        if self.fits() {
-            return FailureAnswer::Of(self);
-        }
-        FailureAnswer::Refused(stored_misfit())
+        self.demand()
     }
 
     // The end of the stream gives way to a real error, and nothing else does.
-    pub fn advance_failure_towards_error(self, error: Failure) -> FailureAnswer
+    pub fn advance_failure_towards_error(self, error: Failure) -> Result<Failure, Refusal>
         ensures { result ≡ towards_error_of self error }
     {
-        if !self.fits() {
-            return FailureAnswer::Refused(stored_misfit());
-        }
-        if !error.fits() {
-            return FailureAnswer::Refused(stored_misfit());
-        }
-        FailureAnswer::Of(self.towards_error(error))
+        Ok(self.demand()?.towards_error(error.demand()?))
     }
 
+    fn demand(self) -> Result<Failure, Refusal>
+        ensures { result ≡ normalize_failure_of self }
+    {
+        self.fits().then_some(self).ok_or(MISFIT)
+    }
+
+    // A `match` and no `matches!`: of an errno the number is tested, of a violation nothing.
     fn fits(self) -> bool
         ensures { result ≡ fits_failure self }
     {
         match self {
-            Failure::Io(e) => {
-                if e == 0 {
-                    return false;
-                }
-                e <= Failure::GREATEST
-            }
+            Failure::Io(e) => fits_errno(e),
             Failure::Protocol(_) => true,
         }
     }
@@ -189,96 +153,82 @@ impl Failure {
     pub fn is_errno(self, errno: u64) -> bool
         ensures { result ≡ is_errno self errno }
     {
-        match self {
-            Failure::Io(e) => e == errno,
-            Failure::Protocol(_) => false,
-        }
+        matches!(self, Failure::Io(e) if e == errno)
     }
 
+    #[tactic(auto, unfolding(crate::specs::State::towards_error_in))]
     fn towards_error(self, error: Failure) -> Failure
         ensures { result ≡ towards_error_in self error }
     {
         if self.is_errno(Failure::SHUTDOWN) {
-            return error;
+            error
+        } else {
+            self
         }
-        self
     }
 }
 
 impl OperationalState {
-    pub fn failure(self) -> PotentialFailureAnswer
+    pub fn failure(self) -> Result<Option<Failure>, Refusal>
         ensures { result ≡ failure_of self }
     {
-        if self.fits() {
-            return PotentialFailureAnswer::Of(self.cached_failure());
-        }
-        PotentialFailureAnswer::Refused(stored_misfit())
+        Ok(self.demand()?.cached_failure())
     }
 
-    pub fn with_failure(self, reason: Failure) -> StateAnswer
+    pub fn with_failure(self, reason: Failure) -> Result<OperationalState, Refusal>
         ensures { result ≡ with_failure_of self reason }
     {
-        if !self.fits() {
-            return StateAnswer::Refused(stored_misfit());
-        }
-        if !reason.fits() {
-            return StateAnswer::Refused(stored_misfit());
-        }
-        StateAnswer::Of(self.carrying(reason))
+        Ok(self.demand()?.carrying(reason.demand()?))
     }
 
-    pub fn with_potential_failure(self, reason: PotentialFailure) -> StateAnswer
+    pub fn with_potential_failure(
+        self,
+        reason: Option<Failure>,
+    ) -> Result<OperationalState, Refusal>
         ensures { result ≡ with_potential_failure_of self reason }
     {
-        if !self.fits() {
-            return StateAnswer::Refused(stored_misfit());
-        }
+        let fitting = self.demand()?;
         match reason {
-            PotentialFailure::Some(f) => self.with_failure(f),
-            PotentialFailure::None => StateAnswer::Of(OperationalState::Normal),
+            Some(f) => fitting.with_failure(f),
+            None => Ok(OperationalState::Normal),
         }
     }
 
     // Turns WOULDBLOCK into Normal.
-    pub fn normalize(self) -> StateAnswer
+    pub fn normalize(self) -> Result<OperationalState, Refusal>
         ensures { result ≡ normalize_of self }
     {
-        if self.fits() {
-            return StateAnswer::Of(self.normal());
-        }
-        StateAnswer::Refused(stored_misfit())
+        Ok(self.demand()?.normal())
     }
 
     // Everything only gets more terminal here.
-    pub fn advance_state_towards_termination(self, advanced: OperationalState) -> StateAnswer
+    pub fn advance_state_towards_termination(
+        self,
+        advanced: OperationalState,
+    ) -> Result<OperationalState, Refusal>
         ensures { result ≡ advance_of self advanced }
     {
-        if !self.fits() {
-            return StateAnswer::Refused(stored_misfit());
-        }
-        if !advanced.fits() {
-            return StateAnswer::Refused(stored_misfit());
-        }
-        StateAnswer::Of(self.advance(advanced))
+        Ok(self.demand()?.advance(advanced.demand()?))
+    }
+
+    fn demand(self) -> Result<OperationalState, Refusal>
+        ensures { result ≡ tested_state (fits_state self) (Ok self) }
+    {
+        self.fits().then_some(self).ok_or(MISFIT)
     }
 
     pub fn fits(self) -> bool
         ensures { result ≡ fits_state self }
     {
-        match self {
-            OperationalState::Normal => true,
-            OperationalState::Draining(f) => f.fits(),
-            OperationalState::Terminated(f) => f.fits(),
-        }
+        self.cached_failure().is_none_or(Failure::fits)
     }
 
-    pub fn cached_failure(self) -> PotentialFailure
+    pub fn cached_failure(self) -> Option<Failure>
         ensures { result ≡ failure_in self }
     {
         match self {
-            OperationalState::Normal => PotentialFailure::None,
-            OperationalState::Draining(f) => PotentialFailure::Some(f),
-            OperationalState::Terminated(f) => PotentialFailure::Some(f),
+            OperationalState::Normal => None,
+            OperationalState::Draining(f) | OperationalState::Terminated(f) => Some(f),
         }
     }
 
@@ -293,17 +243,13 @@ impl OperationalState {
         }
     }
 
+    #[tactic(auto, unfolding(crate::specs::State::normalize_in))]
     fn normal(self) -> OperationalState
         ensures { result ≡ normalize_in self }
     {
         match self.cached_failure() {
-            PotentialFailure::Some(f) => {
-                if f.is_errno(Failure::WOULDBLOCK) {
-                    return OperationalState::Normal;
-                }
-                self
-            }
-            PotentialFailure::None => self,
+            Some(f) if f.is_errno(Failure::WOULDBLOCK) => OperationalState::Normal,
+            _ => self,
         }
     }
 
@@ -311,13 +257,10 @@ impl OperationalState {
         ensures { result ≡ advance_in self advanced }
     {
         let to = advanced.normal();
-        match self.normal() {
-            OperationalState::Normal => to,
-            OperationalState::Terminated(f) => OperationalState::Terminated(f),
-            OperationalState::Draining(c) => match to.cached_failure() {
-                PotentialFailure::Some(e) => to.carrying(c.towards_error(e)),
-                PotentialFailure::None => OperationalState::Draining(c),
-            },
+        match (self.normal(), to.cached_failure()) {
+            (OperationalState::Normal, _) => to,
+            (OperationalState::Draining(c), Some(e)) => to.carrying(c.towards_error(e)),
+            (stays, _) => stays,
         }
     }
 }

@@ -1,4 +1,5 @@
 -- "Given exactly when", of what a call over a run comes to: each answer by the table of an answer, and the answers one behind another.
+use Rattle.std.proofs.Common.{Result, Ok, Err}
 use Prim.Native.Nat.{ℕ, suc, ◌<◌}
 use mathlib.Core.Path.{◌≡◌, refl, sym, ap, subst, ◌∙◌}
 use mathlib.Core.Bool.{Bool, cond, true, false}
@@ -7,14 +8,12 @@ use native.Mathlib.Omega.{arith}
 use lib.ListN.{length}
 use Rattle.copies.specs.Given.{Verdict, verdict, Exactly}
 use Rattle.receiver.specs.Call.{answered_of, is_over, retries_in}
-use Rattle.receiver.specs.Given.{GivenAnswer, of_step}
+use Rattle.receiver.specs.Given.{GivenAnswer, of_receiver}
 use Rattle.states.specs.Refusal.{number_of, values_of}
 use Rattle.states.specs.declared.answer.Answer.{Answer}
 use Rattle.receiver.specs.declared.call.Call.{Call}
 use Rattle.receiver.specs.declared.call.Phase.{Phase}
 use Rattle.receiver.specs.declared.call.Phase.TheVariants as phase
-use Rattle.receiver.specs.declared.call.Step.{Step}
-use Rattle.receiver.specs.declared.call.Step.TheVariants as step
 use Rattle.states.specs.declared.refusal.Refusal.{Refusal}
 use Rattle.states.proofs.AnswerSays.{interrupted_says}
 use Rattle.states.proofs.PromisedValues.{number_of_lem}
@@ -25,7 +24,7 @@ use Rattle.stripring.specs.GivenRun.{Waits, WaitedOut, GivenLast, finished, give
 
 -- ---- the tests of the machine, in the table's words
 not_both : {X : Type 0} {b : Bool} → b ≡ true → b ≡ false → X
-not_both e f = let z : ◌≡◌ {A = ℕ} 0 1 = cc in absurd (omega arith)
+not_both e f = cc
 
 waits : (ph : Phase) → is_over ph ≡ false → Waits ph
 waits (phase.Receive w) e = tt
@@ -65,22 +64,22 @@ accepts (phase.Shutdown x) c i n = absurd (n tt)
 accepts (phase.Finished o) c i n = refl
 
 -- wherever the ring is lent
-answered_exactly : (c : Call) (ring : List ℕ) (a : Answer) (place : ℕ) → Exactly (GivenAnswer c (length ring) a place) (of_step (answered_of c ring a place))
+answered_exactly : (c : Call) (ring : List ℕ) (a : Answer) (place : ℕ) → Exactly (GivenAnswer c (length ring) a place) (of_receiver (answered_of c ring a place))
 answered_exactly c ring a place = answered_given ([], tt) (c, (record { ref_ptr = (0, 0); now = ring }, (a, (place, tt)))) (answered_of c ring a place) ((tt, (tt, (tt, (tt, tt)))), refl)
 
 -- a step is a call, that call, or a refusal
-same_call : (x : Step) (c d : Call) → x ≡ step.Of c → x ≡ step.Of d → d ≡ c
-same_call x c d e f = let z : step.Of c ≡ step.Of d = sym e ∙ f in cc
+same_call : (x : Result Call Refusal) (c d : Call) → x ≡ Ok c → x ≡ Ok d → d ≡ c
+same_call x c d e f = let z : Ok c ≡ Ok d = sym e ∙ f in cc
 
-no_call_lem : {X : Type 0} (x : Step) (r : Refusal) (c : Call) → x ≡ step.Refused r → x ≡ step.Of c → X
-no_call_lem x r c e f = let y : step.Refused r ≡ step.Of c = sym e ∙ f in let z : ◌≡◌ {A = ℕ} 0 1 = cc in absurd (omega arith)
+no_call_lem : {X : Type 0} (x : Result Call Refusal) (r : Refusal) (c : Call) → x ≡ Err r → x ≡ Ok c → X
+no_call_lem x r c e f = let y : Err r ≡ Ok c = sym e ∙ f in cc
 
-module _ {G : ℕ → List ℕ → Type 0} (x : Step) (e : Exactly G (of_step x)) where
-  passes : {X : Type 0} (c : Call) → x ≡ step.Of c → (k : ℕ) (vs : List ℕ) → 0 < k → G k vs → X
-  passes c h k vs l g = absurd (omega (arith, l, ap (λ (v : Verdict). v.number) (sym (ap of_step h) ∙ e.always k vs g)))
+module _ {G : ℕ → List ℕ → Type 0} (x : Result Call Refusal) (e : Exactly G (of_receiver x)) where
+  passes : {X : Type 0} (c : Call) → x ≡ Ok c → (k : ℕ) (vs : List ℕ) → 0 < k → G k vs → X
+  passes c h k vs l g = absurd (omega (arith, l, ap (λ (v : Verdict). v.number) (sym (ap of_receiver h) ∙ e.always k vs g)))
 
-  refused : (r : Refusal) → x ≡ step.Refused r → Exactly G (verdict (number_of r) (values_of r))
-  refused r h = subst (λ (y : Step). Exactly G (of_step y)) h e
+  refused : (r : Refusal) → x ≡ Err r → Exactly G (verdict (number_of r) (values_of r))
+  refused r h = subst (λ (y : Result Call Refusal). Exactly G (of_receiver y)) h e
 
 module _ (ring : List ℕ) where
   abbrev told : Driven → Verdict
@@ -101,11 +100,11 @@ module _ (ring : List ℕ) where
       so (behind_it d w h e g) = absurd (n w)
 
   -- a call that is over takes no answer, whatever is left
-  by_over : (answers : List Answer) (i : ℕ) (c : Call) → (Waits c.phase → Exactly (GivenFrom ring i answers c) (told (waited_of i (step.Of c) ring answers))) →
-      Exactly (GivenFrom ring i answers c) (told (driven_from i (step.Of c) ring answers))
+  by_over : (answers : List Answer) (i : ℕ) (c : Call) → (Waits c.phase → Exactly (GivenFrom ring i answers c) (told (waited_of i (Ok c) ring answers))) →
+      Exactly (GivenFrom ring i answers c) (told (driven_from i (Ok c) ring answers))
   by_over answers i c f = by (is_over c.phase) refl
     where
-      by : (b : Bool) → is_over c.phase ≡ b → Exactly (GivenFrom ring i answers c) (told (cond b (record { step = step.Of c; used = i }) (waited_of i (step.Of c) ring answers)))
+      by : (b : Bool) → is_over c.phase ≡ b → Exactly (GivenFrom ring i answers c) (told (cond b (record { step = Ok c; used = i }) (waited_of i (Ok c) ring answers)))
       by true e = let n = waits_not c.phase e in subst (Exactly (GivenFrom ring i answers c)) (accepts c.phase c i n) (over_exactly answers i c n)
       by false e = f (waits c.phase e)
 
@@ -122,16 +121,16 @@ module _ (ring : List ℕ) where
         so (at_the_answer u n l g) = absurd (n h)
         so (behind_it d u n q g) = absurd (n h)
 
-    by_answer : (WaitedOut c.phase a → ⊥) → ((d : Call) → Exactly (GivenFrom ring (suc i) rest d) (told (driven_from (suc i) (step.Of d) ring rest))) →
-        (x : Step) → answered_of c ring a (suc i) ≡ x → Exactly Next (told (driven_from (suc i) x ring rest))
-    by_answer n more (step.Of d) e = record { only = behind_it d w n e (more d).only; always = λ k vs g. so g }
+    by_answer : (WaitedOut c.phase a → ⊥) → ((d : Call) → Exactly (GivenFrom ring (suc i) rest d) (told (driven_from (suc i) (Ok d) ring rest))) →
+        (x : Result Call Refusal) → answered_of c ring a (suc i) ≡ x → Exactly Next (told (driven_from (suc i) x ring rest))
+    by_answer n more (Ok d) e = record { only = behind_it d w n e (more d).only; always = λ k vs g. so g }
       where
-        so : {k : ℕ} {vs : List ℕ} → Next k vs → told (driven_from (suc i) (step.Of d) ring rest) ≡ verdict k vs
+        so : {k : ℕ} {vs : List ℕ} → Next k vs → told (driven_from (suc i) (Ok d) ring rest) ≡ verdict k vs
         so (over m) = absurd (m w)
         so (waited_out u p g) = absurd (n p)
         so {k} {vs} (at_the_answer u p l g) = passes _ (answered_exactly c ring a (suc i)) d e k vs l g
         so {k} {vs} (behind_it d' u p q g) = (more d).always k vs (subst (λ (y : Call). GivenFrom ring (suc i) rest y k vs) (same_call _ d d' e q) g)
-    by_answer n more (step.Refused r) e = record { only = at_the_answer w n (number_of_lem r) here.only; always = λ k vs g. so g }
+    by_answer n more (Err r) e = record { only = at_the_answer w n (number_of_lem r) here.only; always = λ k vs g. so g }
       where
         here : Exactly (GivenAnswer c (length ring) a (suc i)) (verdict (number_of r) (values_of r))
         here = refused _ (answered_exactly c ring a (suc i)) r e
@@ -142,12 +141,12 @@ module _ (ring : List ℕ) where
         so {k} {vs} (at_the_answer u p l g) = here.always k vs g
         so (behind_it d u p q g) = no_call_lem _ r d e q
 
-    by_next : ((d : Call) → Waits d.phase → Exactly (GivenFrom ring (suc i) rest d) (told (waited_of (suc i) (step.Of d) ring rest))) →
-        (b : Bool) → retries_in c.phase a ≡ b → Exactly Next (told (cond b (waited_of (suc i) (step.Of c) ring rest) (driven_from (suc i) (answered_of c ring a (suc i)) ring rest)))
+    by_next : ((d : Call) → Waits d.phase → Exactly (GivenFrom ring (suc i) rest d) (told (waited_of (suc i) (Ok d) ring rest))) →
+        (b : Bool) → retries_in c.phase a ≡ b → Exactly Next (told (cond b (waited_of (suc i) (Ok c) ring rest) (driven_from (suc i) (answered_of c ring a (suc i)) ring rest)))
     by_next more true e = by_interruption (retried c.phase a e) _ (more c w)
     by_next more false e = by_answer (retried_not c.phase a e) (λ d. by_over rest (suc i) d (more d)) (answered_of c ring a (suc i)) refl
 
-  waiting : (answers : List Answer) (i : ℕ) (c : Call) → Waits c.phase → Exactly (GivenFrom ring i answers c) (told (waited_of i (step.Of c) ring answers))
+  waiting : (answers : List Answer) (i : ℕ) (c : Call) → Waits c.phase → Exactly (GivenFrom ring i answers c) (told (waited_of i (Ok c) ring answers))
   waiting [] i c w = subst (Exactly (GivenLast c)) (missing c.phase c i w) (record { only = given_11 w; always = λ k vs g. so g })
     where
       so : {k : ℕ} {vs : List ℕ} → GivenLast c k vs → verdict 11 [] ≡ verdict k vs
@@ -156,17 +155,17 @@ module _ (ring : List ℕ) where
   waiting (a ∷ rest) i c w = by_next a rest i c w (λ d. waiting rest (suc i) d) (retries_in c.phase a) refl
 
   -- ---- from the beginning
-  pub run_exactly : {G : ℕ → List ℕ → Type 0} (answers : List Answer) (x : Step) → Exactly G (of_step x) → Exactly (GivenRun G x ring answers) (told (driven_of x ring answers))
-  run_exactly {G} answers (step.Of c) e = record { only = over_the_run c refl from.only; always = λ k vs g. so g }
+  pub run_exactly : {G : ℕ → List ℕ → Type 0} (answers : List Answer) (x : Result Call Refusal) → Exactly G (of_receiver x) → Exactly (GivenRun G x ring answers) (told (driven_of x ring answers))
+  run_exactly {G} answers (Ok c) e = record { only = over_the_run c refl from.only; always = λ k vs g. so g }
     where
-      from : Exactly (GivenFrom ring 0 answers c) (told (driven_of (step.Of c) ring answers))
+      from : Exactly (GivenFrom ring 0 answers c) (told (driven_of (Ok c) ring answers))
       from = by_over answers 0 c (waiting answers 0 c)
 
-      so : {k : ℕ} {vs : List ℕ} → GivenRun G (step.Of c) ring answers k vs → told (driven_of (step.Of c) ring answers) ≡ verdict k vs
-      so {k} {vs} (at_the_beginning l g) = passes (step.Of c) e c refl k vs l g
-      so {k} {vs} (over_the_run d q g) = from.always k vs (subst (λ (y : Call). GivenFrom ring 0 answers y k vs) (same_call (step.Of c) c d refl q) g)
-  run_exactly {G} answers (step.Refused r) e = record { only = at_the_beginning (number_of_lem r) e.only; always = λ k vs g. so g }
+      so : {k : ℕ} {vs : List ℕ} → GivenRun G (Ok c) ring answers k vs → told (driven_of (Ok c) ring answers) ≡ verdict k vs
+      so {k} {vs} (at_the_beginning l g) = passes (Ok c) e c refl k vs l g
+      so {k} {vs} (over_the_run d q g) = from.always k vs (subst (λ (y : Call). GivenFrom ring 0 answers y k vs) (same_call (Ok c) c d refl q) g)
+  run_exactly {G} answers (Err r) e = record { only = at_the_beginning (number_of_lem r) e.only; always = λ k vs g. so g }
     where
-      so : {k : ℕ} {vs : List ℕ} → GivenRun G (step.Refused r) ring answers k vs → verdict (number_of r) (values_of r) ≡ verdict k vs
+      so : {k : ℕ} {vs : List ℕ} → GivenRun G (Err r) ring answers k vs → verdict (number_of r) (values_of r) ≡ verdict k vs
       so {k} {vs} (at_the_beginning l g) = e.always k vs g
-      so (over_the_run d q g) = no_call_lem (step.Refused r) r d refl q
+      so (over_the_run d q g) = no_call_lem (Err r) r d refl q

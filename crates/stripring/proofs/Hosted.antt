@@ -1,5 +1,6 @@
 -- The ends at the C face. Of any six functions whose outcomes the exports' attached contracts allow, each answer is the flat form of
 -- what the world of `ends` does, and a host that reads the answers back has demand 3. No definition of a call is named in the last.
+use Rattle.std.proofs.Common.{Result, Ok, Err}
 use Prim.Native.Nat.{ℕ}
 use mathlib.Core.Path.{◌≡◌, refl, sym, ap, subst, ◌∙◌}
 use mathlib.Core.List.{List, []}
@@ -19,22 +20,10 @@ use Rattle.ends.specs.Ends.{WroteLeft, wrote_left, GotLeft, got_left}
 use Rattle.ends.specs.Plain.{definitions, Demand3-of}
 use Rattle.ends.proofs.Plain.{demand3_plain}
 use Rattle.ends.proofs.PromisedValues.{number_some as end_refusal_some}
-use Rattle.ends.specs.declared.reading_end.Got.{Got}
-use Rattle.ends.specs.declared.reading_end.Got.TheVariants as got
-use Rattle.ends.specs.declared.reading_end.ReadCounterAnswer as ends_read_answer
-use Rattle.ends.specs.declared.reading_end.ReadCounterAnswer.TheVariants as read_counter
 use Rattle.ends.specs.declared.reading_end.ReadingEnd as ends_reading
-use Rattle.ends.specs.declared.reading_end.ReadingEndAnswer as ends_reading_answer
-use Rattle.ends.specs.declared.reading_end.ReadingEndAnswer.TheVariants as reading
 use Rattle.ends.specs.declared.refusal.Refusal as ends
 use Rattle.ends.specs.declared.refusal.Refusal.TheVariants.{Copy, RanBack}
 use Rattle.ends.specs.declared.writing_end.WritingEnd as ends_writing
-use Rattle.ends.specs.declared.writing_end.WritingEndAnswer as ends_writing_answer
-use Rattle.ends.specs.declared.writing_end.WritingEndAnswer.TheVariants as writing
-use Rattle.ends.specs.declared.writing_end.Wrote.{Wrote}
-use Rattle.ends.specs.declared.writing_end.Wrote.TheVariants as wrote
-use Rattle.ends.specs.declared.writing_end.WrittenCounterAnswer as ends_written_answer
-use Rattle.ends.specs.declared.writing_end.WrittenCounterAnswer.TheVariants as written_counter
 use Rattle.flat.specs.Flat.{flat_refusal, flat_end_refusal}
 use Rattle.stripring.specs.Hosted.{FlatCalls, end_refusal_at, by_number, wrote_at, got_at, wrote_left_at, got_left_at, written_at, read_at, writing_at, reading_at, written_in, read_in, hosted}
 use Rattle.flat.specs.ReadingEnd.{read_counter_at, reading_end_at, flat_reading_end, flat_reading_end_answer, flat_read_counter, flat_got, GotAnswerLeft, flat_got_left}
@@ -62,6 +51,10 @@ use Rattle.stripring.proofs.reading_end.stripring_reading_end_send.Kinds as send
 use Rattle.stripring.proofs.reading_end.stripring_reading_end_send.Reads as send_r
 use Rattle.stripring.proofs.reading_end.stripring_reading_end_take.Kinds as take_r_kinds
 use Rattle.stripring.proofs.reading_end.stripring_reading_end_take.Reads as take_r
+use Rattle.ends.specs.declared.reading_end.Got.{Got}
+use Rattle.ends.specs.declared.writing_end.Wrote.{Wrote}
+use Rattle.ends.specs.declared.writing_end.WrittenCounter as ends_writtencounter
+use Rattle.ends.specs.declared.reading_end.ReadCounter as ends_readcounter
 
 -- ---- six lines: what an export answers is the flat form of what the world's call does
 pub write_flat : Leaves 2 write_kinds.ps write_kinds.r write.Learnt
@@ -109,29 +102,29 @@ end_refusal_back RanBack = refl
 refused_back : {A : Type 0} (e : ends.Refusal) (x : A) (refused : ends.Refusal → A) → by_number (flat_end_refusal e) x refused ≡ refused e
 refused_back e x refused = rw (ne_eqb (number_of e) 0 (λ q. omega (arith, end_refusal_some e)), end_refusal_back e)
 
-wrote_back : (x : Wrote) → wrote_at (flat_wrote x) ≡ x
-wrote_back (wrote.Moved e p) = refl
-wrote_back (wrote.Refused e) = refused_back e _ wrote.Refused
+wrote_back : (x : Result Wrote ends.Refusal) → wrote_at (flat_wrote x) ≡ x
+wrote_back (Ok m) = refl
+wrote_back (Err e) = refused_back e _ Err
 
-got_back : (x : Got) → got_at (flat_got x) ≡ x
-got_back (got.Moved e p) = refl
-got_back (got.Refused e) = refused_back e _ got.Refused
+got_back : (x : Result Got ends.Refusal) → got_at (flat_got x) ≡ x
+got_back (Ok m) = refl
+got_back (Err e) = refused_back e _ Err
 
-written_back : (x : ends_written_answer.WrittenCounterAnswer) → written_at (flat_written_counter x) ≡ x
-written_back (written_counter.Of c) = refl
-written_back (written_counter.Refused e) = refused_back e _ written_counter.Refused
+written_back : (x : Result ends_writtencounter.WrittenCounter ends.Refusal) → written_at (flat_written_counter x) ≡ x
+written_back (Ok c) = refl
+written_back (Err e) = refused_back e _ Err
 
-read_back : (x : ends_read_answer.ReadCounterAnswer) → read_at (flat_read_counter x) ≡ x
-read_back (read_counter.Of c) = refl
-read_back (read_counter.Refused e) = refused_back e _ read_counter.Refused
+read_back : (x : Result ends_readcounter.ReadCounter ends.Refusal) → read_at (flat_read_counter x) ≡ x
+read_back (Ok c) = refl
+read_back (Err e) = refused_back e _ Err
 
-writing_back : (x : ends_writing_answer.WritingEndAnswer) → writing_at (flat_writing_end_answer x) ≡ x
-writing_back (writing.Of e) = refl
-writing_back (writing.Refused e) = refused_back e _ writing.Refused
+writing_back : (x : Result ends_writing.WritingEnd ends.Refusal) → writing_at (flat_writing_end_answer x) ≡ x
+writing_back (Ok e) = refl
+writing_back (Err e) = refused_back e _ Err
 
-reading_back : (x : ends_reading_answer.ReadingEndAnswer) → reading_at (flat_reading_end_answer x) ≡ x
-reading_back (reading.Of e) = refl
-reading_back (reading.Refused e) = refused_back e _ reading.Refused
+reading_back : (x : Result ends_reading.ReadingEnd ends.Refusal) → reading_at (flat_reading_end_answer x) ≡ x
+reading_back (Ok e) = refl
+reading_back (Err e) = refused_back e _ Err
 
 -- ---- the outcomes that the exports' contracts allow on these values, wherever the memory is that is lent
 abbrev Address : Type 0
@@ -182,13 +175,13 @@ pub record FlatAllowed (f : FlatCalls) : Type 0 where
 write_is : (e : ends_writing.WritingEnd) (ring src : List ℕ) (x : WroteAnswerLeft) → MayWrite (flat_writing_end e) ring src x → wrote_left_at x ≡ definitions.write e ring src
 write_is e ring src x (κs, p, q, may) =
     let y : WroteLeft = definitions.write e ring src in
-    let back : wrote_left_at (flat_wrote_left y) ≡ y = ap (λ (z : Wrote). wrote_left z y.memory) (wrote_back y.answer) in
+    let back : wrote_left_at (flat_wrote_left y) ≡ y = ap (λ (z : Result Wrote ends.Refusal). wrote_left z y.memory) (wrote_back y.answer) in
     ap wrote_left_at may ∙ back
 
 read_is : (e : ends_reading.ReadingEnd) (ring dst : List ℕ) (x : GotAnswerLeft) → MayRead (flat_reading_end e) ring dst x → got_left_at x ≡ definitions.read e ring dst
 read_is e ring dst x (κs, p, q, may) =
     let y : GotLeft = definitions.read e ring dst in
-    let back : got_left_at (flat_got_left y) ≡ y = ap (λ (z : Got). got_left z y.memory) (got_back y.answer) in
+    let back : got_left_at (flat_got_left y) ≡ y = ap (λ (z : Result Got ends.Refusal). got_left z y.memory) (got_back y.answer) in
     ap got_left_at may ∙ back
 
 hosted_are : (f : FlatCalls) → FlatAllowed f → definitions ≡ hosted f

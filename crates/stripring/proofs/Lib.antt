@@ -1,4 +1,3 @@
-mod InPlaceLaws
 pub mod SaysEnds
 pub mod PromisedInPlace
 pub mod SaysReceiver

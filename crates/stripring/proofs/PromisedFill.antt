@@ -1,31 +1,18 @@
 -- The held fill, of the exports: the record that one answers which does not refuse passes every test, 20 among them, by its own four
 -- fields. So who only hands on what was answered is never refused with 20.
+use Rattle.std.proofs.Common.{Result, Ok, Err}
 use mathlib.Core.Path.{◌≡◌, refl}
 use native.Mathlib.Omega.{arith}
 use Rattle.modular.proofs.Saying.{Keeps}
 use Rattle.operations.proofs.Given.{number_some}
-use Rattle.sched.specs.declared.register.Registered.{Registered}
-use Rattle.sched.specs.declared.register.Registered.TheVariants as registered
-use Rattle.sched.specs.declared.scheduler.Checked.{Checked}
-use Rattle.sched.specs.declared.scheduler.Checked.TheVariants as checked
 use Rattle.sched.specs.declared.scheduler.RingBufferScheduler.{RingBufferScheduler}
 use Rattle.sched.specs.Given.{Passes}
 use Rattle.sched.specs.Scheduler.{scheduler_of}
 use Rattle.sched.proofs.PromisedFill as sched
-use Rattle.copies.specs.declared.Copied.{Copied}
-use Rattle.copies.specs.declared.Copied.TheVariants as copied
 use Rattle.copies.specs.Copies.{write_of, read_of}
 use Rattle.copies.proofs.PromisedFill.{HoldingIn}
 use Rattle.copies.proofs.PromisedFill as copies
 use Rattle.copies.proofs.PromisedValues.{number_some as copy_some}
-use Rattle.ends.specs.declared.writing_end.WritingEndAnswer.{WritingEndAnswer}
-use Rattle.ends.specs.declared.writing_end.WritingEndAnswer.TheVariants as writing
-use Rattle.ends.specs.declared.writing_end.Wrote.{Wrote}
-use Rattle.ends.specs.declared.writing_end.Wrote.TheVariants as wrote
-use Rattle.ends.specs.declared.reading_end.ReadingEndAnswer.{ReadingEndAnswer}
-use Rattle.ends.specs.declared.reading_end.ReadingEndAnswer.TheVariants as reading
-use Rattle.ends.specs.declared.reading_end.Got.{Got}
-use Rattle.ends.specs.declared.reading_end.Got.TheVariants as got
 use Rattle.ends.specs.Ends.{writing_end_of, reading_end_of, wrote_of, got_of, take_read_of, take_written_of}
 use Rattle.ends.proofs.PromisedFill.{HoldingW, HoldingR, WroteHolding, GotHolding}
 use Rattle.ends.proofs.PromisedFill as ends
@@ -35,7 +22,7 @@ use Rattle.flat.specs.Copy.{flat_copied}
 use Rattle.flat.specs.List.{operations_at}
 use Rattle.flat.specs.Operation.{type_at, operation_at}
 use Rattle.flat.specs.ReadingEnd.{read_counter_at, reading_end_at, flat_reading_end_answer, flat_got}
-use Rattle.flat.specs.Scheduler.{scheduler_at, flat_checked, flat_registered}
+use Rattle.flat.specs.Scheduler.{scheduler_at, flat_checked}
 use Rattle.flat.specs.WritingEnd.{written_counter_at, writing_end_at, flat_writing_end_answer, flat_wrote}
 use Rattle.stripring.proofs.SaysScheduler.{try_new_says, try_from_counters_says, try_with_counter_says, demand_soundness_says, try_register_read_says, try_register_write_says, try_register_operation_manually_says, try_register_operation_says, try_register_operations_says}
 use Rattle.stripring.proofs.SaysEnds.{writing_end_new_says, writing_end_from_counters_says, writing_end_from_scheduler_says, writing_end_take_says, reading_end_new_says, reading_end_from_counters_says, reading_end_from_scheduler_says, reading_end_take_says, writing_end_write_says, reading_end_read_says, copies_write_says, copies_read_says}
@@ -81,38 +68,42 @@ use Rattle.stripring.proofs.copy.stripring_copies_write.Kinds as copies_write_ki
 use Rattle.stripring.proofs.copy.stripring_copies_write.Reads as copies_write
 use Rattle.stripring.proofs.copy.stripring_copies_read.Kinds as copies_read_kinds
 use Rattle.stripring.proofs.copy.stripring_copies_read.Reads as copies_read
+use Rattle.copies.specs.declared.Copied.{Copied}
+use Rattle.ends.specs.declared.reading_end.Got.{Got}
+use Rattle.ends.specs.declared.reading_end.ReadingEnd.{ReadingEnd}
+use Rattle.ends.specs.declared.writing_end.WritingEnd.{WritingEnd}
+use Rattle.ends.specs.declared.writing_end.Wrote.{Wrote}
+use Rattle.copies.specs.declared.refusal.Refusal as by_copies
+use Rattle.ends.specs.declared.refusal.Refusal as by_ends
+use Rattle.operations.specs.declared.refusal.Refusal.{Refusal}
 
 abbrev pub PassesAt : Scheduler → Type 0
 PassesAt f = Passes (record { buf_len = f.buf_len; items_written = record { 0 = f.items_written }; items_read = record { 0 = f.items_read }; fill = f.fill })
 
 -- ---- an answer that refuses has a number
-of_checked_lem : (c : Checked) → ((u : RingBufferScheduler) → c ≡ checked.Sound u → Passes u) → (flat_checked c).refusal.number ≡ 0 → PassesAt (flat_checked c).scheduler
-of_checked_lem (checked.Sound u) h q = h u refl
-of_checked_lem (checked.Refused e) h q = absurd (omega (arith, number_some e, q))
+of_checked_lem : (c : Result RingBufferScheduler Refusal) → ((u : RingBufferScheduler) → c ≡ Ok u → Passes u) → (flat_checked c).refusal.number ≡ 0 → PassesAt (flat_checked c).scheduler
+of_checked_lem (Ok u) h q = h u refl
+of_checked_lem (Err e) h q = absurd (omega (arith, number_some e, q))
 
-of_registered_lem : (c : Registered) → ((u : RingBufferScheduler) → c ≡ registered.Advanced u → Passes u) → (flat_registered c).refusal.number ≡ 0 → PassesAt (flat_registered c).scheduler
-of_registered_lem (registered.Advanced u) h q = h u refl
-of_registered_lem (registered.Refused e) h q = absurd (omega (arith, number_some e, q))
+of_copied_lem : (c : Result Copied by_copies.Refusal) → HoldingIn c → (flat_copied c).refusal.number ≡ 0 → PassesAt (flat_copied c).scheduler
+of_copied_lem (Ok m) h q = h
+of_copied_lem (Err e) h q = absurd (omega (arith, copy_some e, q))
 
-of_copied_lem : (c : Copied) → HoldingIn c → (flat_copied c).refusal.number ≡ 0 → PassesAt (flat_copied c).scheduler
-of_copied_lem (copied.Moved u p) h q = h
-of_copied_lem (copied.Refused e) h q = absurd (omega (arith, copy_some e, q))
+of_writing : (c : Result WritingEnd by_ends.Refusal) → HoldingW c → (flat_writing_end_answer c).refusal.number ≡ 0 → PassesAt (flat_writing_end_answer c).end.scheduler
+of_writing (Ok e) h q = h
+of_writing (Err r) h q = absurd (omega (arith, end_some r, q))
 
-of_writing : (c : WritingEndAnswer) → HoldingW c → (flat_writing_end_answer c).refusal.number ≡ 0 → PassesAt (flat_writing_end_answer c).end.scheduler
-of_writing (writing.Of e) h q = h
-of_writing (writing.Refused r) h q = absurd (omega (arith, end_some r, q))
+of_reading : (c : Result ReadingEnd by_ends.Refusal) → HoldingR c → (flat_reading_end_answer c).refusal.number ≡ 0 → PassesAt (flat_reading_end_answer c).end.scheduler
+of_reading (Ok e) h q = h
+of_reading (Err r) h q = absurd (omega (arith, end_some r, q))
 
-of_reading : (c : ReadingEndAnswer) → HoldingR c → (flat_reading_end_answer c).refusal.number ≡ 0 → PassesAt (flat_reading_end_answer c).end.scheduler
-of_reading (reading.Of e) h q = h
-of_reading (reading.Refused r) h q = absurd (omega (arith, end_some r, q))
+of_wrote_lem : (c : Result Wrote by_ends.Refusal) → WroteHolding c → (flat_wrote c).refusal.number ≡ 0 → PassesAt (flat_wrote c).end.scheduler
+of_wrote_lem (Ok m) h q = h
+of_wrote_lem (Err r) h q = absurd (omega (arith, end_some r, q))
 
-of_wrote_lem : (c : Wrote) → WroteHolding c → (flat_wrote c).refusal.number ≡ 0 → PassesAt (flat_wrote c).end.scheduler
-of_wrote_lem (wrote.Moved e p) h q = h
-of_wrote_lem (wrote.Refused r) h q = absurd (omega (arith, end_some r, q))
-
-of_got_lem : (c : Got) → GotHolding c → (flat_got c).refusal.number ≡ 0 → PassesAt (flat_got c).end.scheduler
-of_got_lem (got.Moved e p) h q = h
-of_got_lem (got.Refused r) h q = absurd (omega (arith, end_some r, q))
+of_got_lem : (c : Result Got by_ends.Refusal) → GotHolding c → (flat_got c).refusal.number ≡ 0 → PassesAt (flat_got c).end.scheduler
+of_got_lem (Ok m) h q = h
+of_got_lem (Err r) h q = absurd (omega (arith, end_some r, q))
 
 -- ---- the scheduler
 pub try_new_passes : Keeps 0 try_new_kinds.ps try_new_kinds.r try_new.Learnt (λ κs a z. z.refusal.number ≡ 0 → PassesAt z.scheduler)
@@ -128,19 +119,19 @@ pub demand_soundness_passes : Keeps 0 demand_soundness_kinds.ps demand_soundness
 demand_soundness_passes κs a z (ws, p) = rw (demand_soundness_says κs a z ws p) (of_checked_lem _ (sched.demand_soundness_passes tt (scheduler_at a.0, tt) _ ((tt, tt), refl)))
 
 pub try_register_read_passes : Keeps 0 try_register_read_kinds.ps try_register_read_kinds.r try_register_read.Learnt (λ κs a z. z.refusal.number ≡ 0 → PassesAt z.scheduler)
-try_register_read_passes κs a z (ws, p) = rw (try_register_read_says κs a z ws p) (of_registered_lem _ (sched.try_register_read_passes tt (scheduler_at a.0, (a.1.0, tt)) _ ((tt, (tt, tt)), refl)))
+try_register_read_passes κs a z (ws, p) = rw (try_register_read_says κs a z ws p) (of_checked_lem _ (sched.try_register_read_passes tt (scheduler_at a.0, (a.1.0, tt)) _ ((tt, (tt, tt)), refl)))
 
 pub try_register_write_passes : Keeps 0 try_register_write_kinds.ps try_register_write_kinds.r try_register_write.Learnt (λ κs a z. z.refusal.number ≡ 0 → PassesAt z.scheduler)
-try_register_write_passes κs a z (ws, p) = rw (try_register_write_says κs a z ws p) (of_registered_lem _ (sched.try_register_write_passes tt (scheduler_at a.0, (a.1.0, tt)) _ ((tt, (tt, tt)), refl)))
+try_register_write_passes κs a z (ws, p) = rw (try_register_write_says κs a z ws p) (of_checked_lem _ (sched.try_register_write_passes tt (scheduler_at a.0, (a.1.0, tt)) _ ((tt, (tt, tt)), refl)))
 
 pub try_register_operation_manually_passes : Keeps 0 try_register_operation_manually_kinds.ps try_register_operation_manually_kinds.r try_register_operation_manually.Learnt (λ κs a z. z.refusal.number ≡ 0 → PassesAt z.scheduler)
-try_register_operation_manually_passes κs a z (ws, p) = rw (try_register_operation_manually_says κs a z ws p) (of_registered_lem _ (sched.try_register_operation_manually_passes tt (scheduler_at a.0, (type_at a.1.0, (a.1.1.0, tt))) _ ((tt, (tt, (tt, tt))), refl)))
+try_register_operation_manually_passes κs a z (ws, p) = rw (try_register_operation_manually_says κs a z ws p) (of_checked_lem _ (sched.try_register_operation_manually_passes tt (scheduler_at a.0, (type_at a.1.0, (a.1.1.0, tt))) _ ((tt, (tt, (tt, tt))), refl)))
 
 pub try_register_operation_passes : Keeps 0 try_register_operation_kinds.ps try_register_operation_kinds.r try_register_operation.Learnt (λ κs a z. z.refusal.number ≡ 0 → PassesAt z.scheduler)
-try_register_operation_passes κs a z (ws, p) = rw (try_register_operation_says κs a z ws p) (of_registered_lem _ (sched.try_register_operation_passes tt (scheduler_at a.0, (operation_at a.1.0, tt)) _ ((tt, (tt, tt)), refl)))
+try_register_operation_passes κs a z (ws, p) = rw (try_register_operation_says κs a z ws p) (of_checked_lem _ (sched.try_register_operation_passes tt (scheduler_at a.0, (operation_at a.1.0, tt)) _ ((tt, (tt, tt)), refl)))
 
 pub try_register_operations_passes : Keeps 0 try_register_operations_kinds.ps try_register_operations_kinds.r try_register_operations.Learnt (λ κs a z. z.refusal.number ≡ 0 → PassesAt z.scheduler)
-try_register_operations_passes κs a z (ws, p) = rw (try_register_operations_says κs a z ws p) (of_registered_lem _ (sched.try_register_operations_passes tt (scheduler_at a.0, (operations_at a.1.0, tt)) _ ((tt, (tt, tt)), refl)))
+try_register_operations_passes κs a z (ws, p) = rw (try_register_operations_says κs a z ws p) (of_checked_lem _ (sched.try_register_operations_passes tt (scheduler_at a.0, (operations_at a.1.0, tt)) _ ((tt, (tt, tt)), refl)))
 
 -- ---- the ends
 pub writing_end_new_passes : Keeps 0 writing_end_new_kinds.ps writing_end_new_kinds.r writing_end_new.Learnt (λ κs a z. z.refusal.number ≡ 0 → PassesAt z.end.scheduler)

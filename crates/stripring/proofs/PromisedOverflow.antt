@@ -1,4 +1,5 @@
 -- Which part overflowed, of the export: whatever its contract allows keeps specs/PromiseOverflow.antt. It is the receiver's theorem, told flat.
+use Rattle.std.proofs.Common.{Result, Ok, Err}
 use Prim.Native.Nat.{ℕ, ◌<◌}
 use mathlib.Core.Path.{◌≡◌, refl, sym, ap, subst, ◌∙◌}
 use mathlib.Core.Bool.{Bool, cond, true, false}
@@ -25,8 +26,6 @@ use Rattle.receiver.specs.Promise.{nothing_more, with_descriptors}
 use Rattle.receiver.specs.declared.call.Call as receiver_call
 use Rattle.receiver.specs.declared.call.Phase.{Phase}
 use Rattle.receiver.specs.declared.call.Phase.TheVariants as phase
-use Rattle.receiver.specs.declared.call.Step.{Step}
-use Rattle.receiver.specs.declared.call.Step.TheVariants as step
 use Rattle.receiver.specs.declared.receiver.Beside.{Beside}
 use Rattle.receiver.specs.declared.receiver.Came.{Came}
 use Rattle.receiver.specs.declared.receiver.Came.TheVariants as came
@@ -44,6 +43,7 @@ use Rattle.stripring.proofs.SaysReceiver.{call_answered_says}
 use Rattle.stripring.specs.PromiseOverflow.{HearsAt, IsViolation, FailsBy, EndsBy, has_ended, will_end, TellsOverflowAt}
 use Rattle.stripring.proofs.call.stripring_call_answered.Kinds as call_answered_kinds
 use Rattle.stripring.proofs.call.stripring_call_answered.Reads as call_answered
+use Rattle.states.specs.declared.refusal.Refusal.{Refusal}
 
 -- ---- a violation that a call ends with, and its numbers
 module _ (k n r : ℕ) where
@@ -101,8 +101,8 @@ module _ (s : State) where
   live_at l f = by (eqb s.kind 0) refl (eqb s.kind 1) refl
     where
       by : (x : Bool) → eqb s.kind 0 ≡ x → (y : Bool) → eqb s.kind 1 ≡ y → cond x Normal (cond y (Draining (failure_at s.failure)) (Terminated (failure_at s.failure))) ≢ Terminated f
-      by true p y q e = let z : ◌≡◌ {A = ℕ} 0 1 = cc in omega arith
-      by false p true q e = let z : ◌≡◌ {A = ℕ} 0 1 = cc in omega arith
+      by true p y q e = cc
+      by false p true q e = cc
       by false p false q e = omega (arith, l, eqb-false s.kind 0 p, eqb-false s.kind 1 q)
 
 waits_at : (p : flat.Phase) → p.kind ≡ 0 → phase_at p ≡ phase.Receive (wanted_at p)
@@ -114,22 +114,22 @@ hears_at c a h = record { wanted = wanted_at c.phase; waits = waits_at c.phase h
 
 -- a normal state is terminated by a violation
 not_calm : (v : Violation) (to : OperationalState) → Calm to → to ≢ Terminated (Protocol v)
-not_calm v _ normal e = let z : ◌≡◌ {A = ℕ} 0 1 = cc in omega arith
-not_calm v _ blocked_draining e = let z : ◌≡◌ {A = ℕ} 0 1 = cc in omega arith
-not_calm v _ blocked_terminated e = let z : ◌≡◌ {A = ℕ} 0 1 = cc in omega arith
+not_calm v _ normal e = cc
+not_calm v _ blocked_draining e = cc
+not_calm v _ blocked_terminated e = cc
 
 advanced_is : (v : Violation) (s to st : OperationalState) → Advanced s to st → s ≡ Normal → to ≡ Terminated (Protocol v) → st ≡ Terminated (Protocol v)
 advanced_is v _ _ _ (calm_by_calm a b) p q = absurd (not_calm v _ b q)
-advanced_is v _ _ _ (calm_by_draining a b) p q = let z : ◌≡◌ {A = ℕ} 0 1 = cc in absurd (omega arith)
+advanced_is v _ _ _ (calm_by_draining a b) p q = cc
 advanced_is v _ _ _ (calm_by_terminated a b) p q = q
-advanced_is v _ _ _ (terminated_stays a) p q = let z : ◌≡◌ {A = ℕ} 0 1 = cc in absurd (omega arith)
-advanced_is v _ _ _ (draining_stays a b) p q = let z : ◌≡◌ {A = ℕ} 0 1 = cc in absurd (omega arith)
-advanced_is v _ _ _ (draining_by_draining a b d) p q = let z : ◌≡◌ {A = ℕ} 0 1 = cc in absurd (omega arith)
-advanced_is v _ _ _ (draining_by_terminated a b d) p q = let z : ◌≡◌ {A = ℕ} 0 1 = cc in absurd (omega arith)
+advanced_is v _ _ _ (terminated_stays a) p q = cc
+advanced_is v _ _ _ (draining_stays a b) p q = cc
+advanced_is v _ _ _ (draining_by_draining a b d) p q = cc
+advanced_is v _ _ _ (draining_by_terminated a b d) p q = cc
 
 -- ---- the export
 module _ (c : Call) (ring : List ℕ) where
-  at_face : (e : receiver_call.Call) → machine.TellsOverflow (call_at c) ring e → TellsOverflowAt c ring (flat_step (step.Of e))
+  at_face : (e : receiver_call.Call) → machine.TellsOverflow (call_at c) ring e → TellsOverflowAt c ring (flat_step (Ok e))
   at_face e t =
       record {
         header_only = λ n r x. let i = ends_flat 2 n r e.phase x in t.header_only n r (subst (λ (v : Violation). machine.EndsWith (Protocol v) e.phase) (number_2 _ 2 n r i.1 refl) i.2);
@@ -142,9 +142,9 @@ module _ (c : Call) (ring : List ℕ) where
             flat_stored k n r i.0 i.1 e.receiver.state (advanced_is i.0 _ _ _ (t.stored i.0 i.2) (normal_at c.receiver.state p) refl);
       }
 
-  by_step : (x : Step) → Goes (machine.TellsOverflow (call_at c) ring) x → (flat_step x).refusal.number ≡ 0 → TellsOverflowAt c ring (flat_step x)
-  by_step (step.Of e) t p = at_face e t
-  by_step (step.Refused r) t p = absurd (omega (arith, number_of_lem r, p))
+  by_step : (x : Result receiver_call.Call Refusal) → Goes (machine.TellsOverflow (call_at c) ring) x → (flat_step x).refusal.number ≡ 0 → TellsOverflowAt c ring (flat_step x)
+  by_step (Ok e) t p = at_face e t
+  by_step (Err r) t p = absurd (omega (arith, number_of_lem r, p))
 
 pub call_answered_overflow : Keeps 1 call_answered_kinds.ps call_answered_kinds.r call_answered.Learnt
     (λ κs a z. HearsAt a.0 a.1.1.0 → z.refusal.number ≡ 0 → TellsOverflowAt a.0 a.1.0.now z)

@@ -1,5 +1,6 @@
 -- "Given exactly when", 1 to 5, 20, 9 and 11 to 13, of every export of the receiver, of a call in progress, and of states and failures:
 -- whatever its attached contract allows carries a refusal exactly when the table gives it, of what the host's numbers stand for.
+use Rattle.std.proofs.Common.{Result, Ok, Err, Option, Some, None}
 use Prim.Native.Nat.{ℕ}
 use mathlib.Core.Path.{◌≡◌, refl, sym, subst, ◌∙◌}
 use mathlib.Core.List.{List, []}
@@ -16,15 +17,10 @@ use Rattle.receiver.specs.Receiver.{receiver_of}
 use Rattle.driver.specs.Drive.{end_of_stream_in}
 use Rattle.driver.specs.Run.{service_of, shutdown_of, read_of, read_impl_delivery, read_delivery}
 use Rattle.states.specs.State.{advance_of, failure_of, normalize_failure_of, normalize_of, towards_error_of, with_failure_of, with_potential_failure_of}
-use Rattle.receiver.specs.declared.admission.Memory.TheVariants as memory
 use Rattle.states.specs.declared.answer.Answer.{Answer}
-use Rattle.receiver.specs.declared.receiver.Ended.{Ended}
-use Rattle.receiver.specs.declared.receiver.Ended.TheVariants as ended
 use Rattle.receiver.specs.declared.receiver.ReceiverState.{ReceiverState}
 use Rattle.states.specs.declared.state.OperationalState.{OperationalState}
 use Rattle.states.specs.declared.state.OperationalState.TheVariants.{Normal}
-use Rattle.states.specs.declared.state.PotentialFailure.{PotentialFailure}
-use Rattle.states.specs.declared.state.PotentialFailure.TheVariants.{Some, None}
 use Rattle.receiver.proofs.Given as given
 use Rattle.receiver.proofs.GivenAnswer as answer
 use Rattle.states.proofs.Promised as promised
@@ -68,6 +64,9 @@ use Rattle.stripring.proofs.failure.stripring_failure_normalize.Kinds as failure
 use Rattle.stripring.proofs.failure.stripring_failure_normalize.Reads as failure_normalize
 use Rattle.stripring.proofs.failure.stripring_failure_advance_failure_towards_error.Kinds as failure_advance_failure_towards_error_kinds
 use Rattle.stripring.proofs.failure.stripring_failure_advance_failure_towards_error.Reads as failure_advance_failure_towards_error
+use Rattle.receiver.specs.declared.receiver.Ended.{Ended}
+use Rattle.states.specs.declared.state.Failure.{Failure}
+use Rattle.states.specs.declared.refusal.Refusal.{Refusal}
 
 -- ---- the receiver and a call in progress
 pub receiver_new_refuses : Keeps 0 receiver_new_kinds.ps receiver_new_kinds.r receiver_new.Learnt (λ κs a z. GivenAt (Given (scheduler_at a.0)) z.refusal)
@@ -76,10 +75,10 @@ receiver_new_refuses κs a z (ws, p) = rw (receiver_new_says κs a z ws p) (made
 pub call_begin_read_refuses : Keeps 0 call_begin_read_kinds.ps call_begin_read_kinds.r call_begin_read.Learnt (λ κs a z. GivenAt (GivenRead (receiver_at a.0) a.1.0 a.1.1.1.0) z.refusal)
 call_begin_read_refuses κs a z (ws, p) = rw (call_begin_read_says κs a z ws p) (step_given (begin_read_of (receiver_at a.0) a.1.0 a.1.1.0 a.1.1.1.0) (given.begin_read_given tt (receiver_at a.0, (a.1.0, (a.1.1.0, (a.1.1.1.0, tt)))) (begin_read_of (receiver_at a.0) a.1.0 a.1.1.0 a.1.1.1.0) ((tt, (tt, (tt, (tt, tt)))), refl)))
 
-pub call_begin_service_refuses : Keeps 0 call_begin_service_kinds.ps call_begin_service_kinds.r call_begin_service.Learnt (λ κs a z. GivenAt (GivenAdmission (receiver_at a.0) memory.None) z.refusal)
+pub call_begin_service_refuses : Keeps 0 call_begin_service_kinds.ps call_begin_service_kinds.r call_begin_service.Learnt (λ κs a z. GivenAt (GivenAdmission (receiver_at a.0) None) z.refusal)
 call_begin_service_refuses κs a z (ws, p) = rw (call_begin_service_says κs a z ws p) (step_given (begin_service_of (receiver_at a.0)) (given.begin_service_given tt (receiver_at a.0, tt) (begin_service_of (receiver_at a.0)) ((tt, tt), refl)))
 
-pub call_begin_shutdown_refuses : Keeps 0 call_begin_shutdown_kinds.ps call_begin_shutdown_kinds.r call_begin_shutdown.Learnt (λ κs a z. GivenAt (GivenAdmission (receiver_at a.0) memory.None) z.refusal)
+pub call_begin_shutdown_refuses : Keeps 0 call_begin_shutdown_kinds.ps call_begin_shutdown_kinds.r call_begin_shutdown.Learnt (λ κs a z. GivenAt (GivenAdmission (receiver_at a.0) None) z.refusal)
 call_begin_shutdown_refuses κs a z (ws, p) = rw (call_begin_shutdown_says κs a z ws p) (step_given (begin_shutdown_of (receiver_at a.0)) (given.begin_shutdown_given tt (receiver_at a.0, tt) (begin_shutdown_of (receiver_at a.0)) ((tt, tt), refl)))
 
 pub call_answered_refuses : Keeps 1 call_answered_kinds.ps call_answered_kinds.r call_answered.Learnt (λ κs a z. GivenAt (GivenAnswer (call_at a.0) (length a.1.0.now) a.1.1.0 a.1.1.1.0) z.refusal)
@@ -97,7 +96,7 @@ state_with_failure_refuses κs a z (ws, p) =
     rw (state_with_failure_says κs a z ws p) (state_given (Dec.and (state_decided (state_at a.0)) (failure_decided (failure_at a.1.0))) (with_failure_of (state_at a.0) (failure_at a.1.0)) (λ h. let y = k.0 h.0 h.1 in (y.0, y.1)) k.1)
 
 -- with no failure the state alone is tested
-potential_refuses : (s : OperationalState) (p : PotentialFailure) → GivenAt (GivenStored (Stored s × PotentialFits p)) (flat_state_answer (with_potential_failure_of s p)).refusal
+potential_refuses : (s : OperationalState) (p : Option Failure) → GivenAt (GivenStored (Stored s × PotentialFits p)) (flat_state_answer (with_potential_failure_of s p)).refusal
 potential_refuses s None =
     let k = states.with_potential_failure_promised tt (s, (None, tt)) (with_potential_failure_of s None) ((tt, (tt, tt)), refl) in
     state_given (Dec.and (state_decided s) (yes tt)) (with_potential_failure_of s None) (λ h. (Normal, k.0 h.0 refl)) (λ unfit. k.2 (λ h. unfit (h, tt)))
@@ -131,21 +130,21 @@ failure_advance_failure_towards_error_refuses κs a z (ws, p) =
     rw (failure_advance_failure_towards_error_says κs a z ws p) (failure_given (Dec.and (failure_decided (failure_at a.0)) (failure_decided (failure_at a.1.0))) (towards_error_of (failure_at a.0) (failure_at a.1.0)) (λ h. let y = k.0 h.0 h.1 in (y.0, y.1)) k.1)
 
 -- ---- over a run: the end of the stream that becomes a read of nothing is no refusal
-turned : (e : Ended) → of_ended e ≡ of_ended (end_of_stream_in e)
-turned (ended.Accepted q o used) = refl
-turned (ended.Refused r) = refl
+turned : (e : Result Ended Refusal) → of_ended e ≡ of_ended (end_of_stream_in e)
+turned (Ok m) = refl
+turned (Err r) = refl
 
 module _ (r : Receiver) (answers : List Answer) (z : EndedAnswer) where
   abbrev q : ReceiverState
   q = receiver_at r
 
-  pub receiver_service_chunk_acknowledgements_refuses : FlatServiceLeaves r answers z → GivenAt (GivenRun (GivenAdmission (receiver_at r) memory.None) (begin_service_of (receiver_at r)) [] answers) z.refusal
+  pub receiver_service_chunk_acknowledgements_refuses : FlatServiceLeaves r answers z → GivenAt (GivenRun (GivenAdmission (receiver_at r) None) (begin_service_of (receiver_at r)) [] answers) z.refusal
   receiver_service_chunk_acknowledgements_refuses p =
       let e = run_exactly [] answers (begin_service_of q) (given.begin_service_given tt (q, tt) (begin_service_of q) ((tt, tt), refl)) in
       rw (receiver_service_chunk_acknowledgements_says r answers z p)
       (ended_given (service_of q answers) e)
 
-  pub receiver_shutdown_refuses : FlatShutdownLeaves r answers z → GivenAt (GivenRun (GivenAdmission (receiver_at r) memory.None) (begin_shutdown_of (receiver_at r)) [] answers) z.refusal
+  pub receiver_shutdown_refuses : FlatShutdownLeaves r answers z → GivenAt (GivenRun (GivenAdmission (receiver_at r) None) (begin_shutdown_of (receiver_at r)) [] answers) z.refusal
   receiver_shutdown_refuses p =
       let e = run_exactly [] answers (begin_shutdown_of q) (given.begin_shutdown_given tt (q, tt) (begin_shutdown_of q) ((tt, tt), refl)) in
       rw (receiver_shutdown_says r answers z p)
@@ -158,7 +157,7 @@ module _ (r : Receiver) (answers : List Answer) (z : EndedAnswer) where
     reading_exactly : Exactly GivenReading (of_ended (read_impl_delivery q ring dst top answers).answer)
     reading_exactly =
         let x = begin_read_of q (length ring) top (length dst) in
-        subst (λ (y : Ended). Exactly GivenReading (of_ended y)) (sym (delivered ring dst (read_of q ring (length dst) top answers)))
+        subst (λ (y : Result Ended Refusal). Exactly GivenReading (of_ended y)) (sym (delivered ring dst (read_of q ring (length dst) top answers)))
         (run_exactly ring answers x (given.begin_read_given tt (q, (length ring, (top, (length dst, tt)))) x ((tt, (tt, (tt, (tt, tt)))), refl)))
 
     pub receiver_read_with_fds_refuses : FlatReadLeaves r ring dst top answers z left → GivenAt GivenReading z.refusal

@@ -13,7 +13,7 @@ use Rattle.flat.specs.List.{operations_at}
 use Rattle.flat.specs.Operation.{operation_at, type_at}
 use Rattle.flat.specs.Scheduler.{scheduler_at}
 use Rattle.stripring.specs.Given.{GivenAt}
-use Rattle.stripring.proofs.GivenLaws.{checked_given, registered_given, counter_given, offset_given, amount_given, bool_given, fill_given, layout_given, blocks_given, block_given, next_given, schedule_given, operations_given, starts_given, ranges_given}
+use Rattle.stripring.proofs.GivenLaws.{checked_given, counter_given, offset_given, amount_given, bool_given, fill_given, layout_given, blocks_given, block_given, next_given, schedule_given, operations_given, starts_given, ranges_given}
 use Rattle.stripring.proofs.SaysScheduler.{try_new_says, try_from_counters_says, try_with_counter_says, demand_soundness_says, try_register_read_says, try_register_write_says, try_register_operation_manually_says, try_register_operation_says, try_register_operations_says, items_read_says, items_written_says, operation_counter_says, read_off_says, write_off_says, operation_offset_says, buf_len_says, is_zero_sized_says, data_avail_says, space_avail_says, max_operation_len_says, fill_state_says, is_empty_says, is_full_says, is_nonempty_says, is_nonfull_says, layout_says, blocks_says, block_0_says, block_1_says, block_2_says, block_0_off_says, block_1_off_says, block_2_off_says, block_0_len_says, block_1_len_says, block_2_len_says, next_operation_block_says, next_read_block_says, next_write_block_says, schedule_next_contiguous_operation_says, schedule_next_read_says, schedule_next_write_says, schedule_contiguous_operations_says, schedule_reads_says, schedule_writes_says}
 use Rattle.stripring.proofs.SaysValues.{operations_try_new_says, operations_container_says, operations_into_container_says, operations_cumulative_operation_length_says, operations_with_cumulative_offset_says, operations_with_outside_buffer_range_says}
 use Rattle.stripring.proofs.scheduler.stripring_scheduler_try_new.Kinds as try_new_kinds
@@ -134,19 +134,19 @@ demand_soundness_refuses κs a z (ws, p) = rw (demand_soundness_says κs a z ws 
 
 -- ---- registering
 pub try_register_read_refuses : Keeps 0 try_register_read_kinds.ps try_register_read_kinds.r try_register_read.Learnt (λ κs a z. GivenAt (GivenRegister (scheduler_at a.0) Read a.1.0) z.refusal)
-try_register_read_refuses κs a z (ws, p) = rw (try_register_read_says κs a z ws p) (registered_given (register_of (scheduler_at a.0) Read a.1.0) (refuses.try_register_read_refuses tt (scheduler_at a.0, (a.1.0, tt)) (register_of (scheduler_at a.0) Read a.1.0) ((tt, (tt, tt)), refl)))
+try_register_read_refuses κs a z (ws, p) = rw (try_register_read_says κs a z ws p) (checked_given (register_of (scheduler_at a.0) Read a.1.0) (refuses.try_register_read_refuses tt (scheduler_at a.0, (a.1.0, tt)) (register_of (scheduler_at a.0) Read a.1.0) ((tt, (tt, tt)), refl)))
 
 pub try_register_write_refuses : Keeps 0 try_register_write_kinds.ps try_register_write_kinds.r try_register_write.Learnt (λ κs a z. GivenAt (GivenRegister (scheduler_at a.0) Write a.1.0) z.refusal)
-try_register_write_refuses κs a z (ws, p) = rw (try_register_write_says κs a z ws p) (registered_given (register_of (scheduler_at a.0) Write a.1.0) (refuses.try_register_write_refuses tt (scheduler_at a.0, (a.1.0, tt)) (register_of (scheduler_at a.0) Write a.1.0) ((tt, (tt, tt)), refl)))
+try_register_write_refuses κs a z (ws, p) = rw (try_register_write_says κs a z ws p) (checked_given (register_of (scheduler_at a.0) Write a.1.0) (refuses.try_register_write_refuses tt (scheduler_at a.0, (a.1.0, tt)) (register_of (scheduler_at a.0) Write a.1.0) ((tt, (tt, tt)), refl)))
 
 pub try_register_operation_manually_refuses : Keeps 0 try_register_operation_manually_kinds.ps try_register_operation_manually_kinds.r try_register_operation_manually.Learnt (λ κs a z. GivenAt (GivenRegister (scheduler_at a.0) (type_at a.1.0) a.1.1.0) z.refusal)
-try_register_operation_manually_refuses κs a z (ws, p) = rw (try_register_operation_manually_says κs a z ws p) (registered_given (register_of (scheduler_at a.0) (type_at a.1.0) a.1.1.0) (refuses.try_register_operation_manually_refuses tt (scheduler_at a.0, (type_at a.1.0, (a.1.1.0, tt))) (register_of (scheduler_at a.0) (type_at a.1.0) a.1.1.0) ((tt, (tt, (tt, tt))), refl)))
+try_register_operation_manually_refuses κs a z (ws, p) = rw (try_register_operation_manually_says κs a z ws p) (checked_given (register_of (scheduler_at a.0) (type_at a.1.0) a.1.1.0) (refuses.try_register_operation_manually_refuses tt (scheduler_at a.0, (type_at a.1.0, (a.1.1.0, tt))) (register_of (scheduler_at a.0) (type_at a.1.0) a.1.1.0) ((tt, (tt, (tt, tt))), refl)))
 
 pub try_register_operation_refuses : Keeps 0 try_register_operation_kinds.ps try_register_operation_kinds.r try_register_operation.Learnt (λ κs a z. GivenAt (GivenRegister (scheduler_at a.0) (operation_at a.1.0).typ (operation_at a.1.0).len) z.refusal)
-try_register_operation_refuses κs a z (ws, p) = rw (try_register_operation_says κs a z ws p) (registered_given (register_of (scheduler_at a.0) (operation_at a.1.0).typ (operation_at a.1.0).len) (refuses.try_register_operation_refuses tt (scheduler_at a.0, (operation_at a.1.0, tt)) (register_of (scheduler_at a.0) (operation_at a.1.0).typ (operation_at a.1.0).len) ((tt, (tt, tt)), refl)))
+try_register_operation_refuses κs a z (ws, p) = rw (try_register_operation_says κs a z ws p) (checked_given (register_of (scheduler_at a.0) (operation_at a.1.0).typ (operation_at a.1.0).len) (refuses.try_register_operation_refuses tt (scheduler_at a.0, (operation_at a.1.0, tt)) (register_of (scheduler_at a.0) (operation_at a.1.0).typ (operation_at a.1.0).len) ((tt, (tt, tt)), refl)))
 
 pub try_register_operations_refuses : Keeps 0 try_register_operations_kinds.ps try_register_operations_kinds.r try_register_operations.Learnt (λ κs a z. GivenAt (GivenOperations (scheduler_at a.0) (operations_at a.1.0)) z.refusal)
-try_register_operations_refuses κs a z (ws, p) = rw (try_register_operations_says κs a z ws p) (registered_given (register_list_of (scheduler_at a.0) (operations_at a.1.0)) (refuses.try_register_operations_refuses tt (scheduler_at a.0, (operations_at a.1.0, tt)) (register_list_of (scheduler_at a.0) (operations_at a.1.0)) ((tt, (tt, tt)), refl)))
+try_register_operations_refuses κs a z (ws, p) = rw (try_register_operations_says κs a z ws p) (checked_given (register_list_of (scheduler_at a.0) (operations_at a.1.0)) (refuses.try_register_operations_refuses tt (scheduler_at a.0, (operations_at a.1.0, tt)) (register_list_of (scheduler_at a.0) (operations_at a.1.0)) ((tt, (tt, tt)), refl)))
 
 -- ---- counters and offsets
 pub items_read_refuses : Keeps 0 items_read_kinds.ps items_read_kinds.r items_read.Learnt (λ κs a z. GivenAt (Given (scheduler_at a.0)) z.refusal)

@@ -6,7 +6,7 @@ use Rattle.flat.specs.Block.{flat_block_answer, flat_blocks, flat_fill_state, fl
 use Rattle.flat.specs.Counter.{flat_amount, flat_bool, flat_counter, flat_offset}
 use Rattle.flat.specs.List.{flat_schedule, operations_at}
 use Rattle.flat.specs.Operation.{flat_next, operation_at, type_at}
-use Rattle.flat.specs.Scheduler.{flat_checked, flat_registered, max_buf_len, scheduler_at}
+use Rattle.flat.specs.Scheduler.{flat_checked, max_buf_len, scheduler_at}
 use Rattle.stripring.proofs.scheduler.stripring_scheduler_max_buf_len.Kinds as max_buf_len_kinds
 use Rattle.stripring.proofs.scheduler.stripring_scheduler_max_buf_len.Reads as max_buf_len_lem
 use Rattle.stripring.proofs.scheduler.stripring_scheduler_try_new.Kinds as try_new_kinds
@@ -117,19 +117,19 @@ pub demand_soundness_says : Says 0 demand_soundness_kinds.ps demand_soundness_ki
 demand_soundness_says κs a z ws p = p
 
 -- ---- registering
-pub try_register_read_says : Says 0 try_register_read_kinds.ps try_register_read_kinds.r try_register_read.Learnt (λ κs a. flat_registered (register_of (scheduler_at a.0) Read a.1.0))
+pub try_register_read_says : Says 0 try_register_read_kinds.ps try_register_read_kinds.r try_register_read.Learnt (λ κs a. flat_checked (register_of (scheduler_at a.0) Read a.1.0))
 try_register_read_says κs a z ws p = p
 
-pub try_register_write_says : Says 0 try_register_write_kinds.ps try_register_write_kinds.r try_register_write.Learnt (λ κs a. flat_registered (register_of (scheduler_at a.0) Write a.1.0))
+pub try_register_write_says : Says 0 try_register_write_kinds.ps try_register_write_kinds.r try_register_write.Learnt (λ κs a. flat_checked (register_of (scheduler_at a.0) Write a.1.0))
 try_register_write_says κs a z ws p = p
 
-pub try_register_operation_manually_says : Says 0 try_register_operation_manually_kinds.ps try_register_operation_manually_kinds.r try_register_operation_manually.Learnt (λ κs a. flat_registered (register_of (scheduler_at a.0) (type_at a.1.0) a.1.1.0))
+pub try_register_operation_manually_says : Says 0 try_register_operation_manually_kinds.ps try_register_operation_manually_kinds.r try_register_operation_manually.Learnt (λ κs a. flat_checked (register_of (scheduler_at a.0) (type_at a.1.0) a.1.1.0))
 try_register_operation_manually_says κs a z ws p = p
 
-pub try_register_operation_says : Says 0 try_register_operation_kinds.ps try_register_operation_kinds.r try_register_operation.Learnt (λ κs a. flat_registered (register_of (scheduler_at a.0) (operation_at a.1.0).typ (operation_at a.1.0).len))
+pub try_register_operation_says : Says 0 try_register_operation_kinds.ps try_register_operation_kinds.r try_register_operation.Learnt (λ κs a. flat_checked (register_of (scheduler_at a.0) (operation_at a.1.0).typ (operation_at a.1.0).len))
 try_register_operation_says κs a z ws p = p
 
-pub try_register_operations_says : Says 0 try_register_operations_kinds.ps try_register_operations_kinds.r try_register_operations.Learnt (λ κs a. flat_registered (register_list_of (scheduler_at a.0) (operations_at a.1.0)))
+pub try_register_operations_says : Says 0 try_register_operations_kinds.ps try_register_operations_kinds.r try_register_operations.Learnt (λ κs a. flat_checked (register_list_of (scheduler_at a.0) (operations_at a.1.0)))
 try_register_operations_says κs a z ws p = p
 
 -- ---- counters and offsets

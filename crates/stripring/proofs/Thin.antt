@@ -2,6 +2,7 @@
 -- the same name allows, on what the host's numbers stand for. So what that call promises, the export promises; and an export of
 -- another call is refused, though its contract, its line of Says*.antt and its definition say so too.
 -- The ends' copies are in Hosted.antt, with the memory.
+use Rattle.std.proofs.Common.{Result, Ok, Err}
 use Prim.Native.Nat.{ℕ, suc}
 use mathlib.Core.Path.{◌≡◌, refl, sym, ap, ◌∙◌}
 use mathlib.Core.List.{List}
@@ -11,7 +12,6 @@ use Rattle.modular.specs.Modulus.{sub_mod}
 use Rattle.modular.proofs.Saying.{Allows, Keeps}
 use Rattle.sched.specs.Scheduler.{scheduler_of, counted_of, sound_of}
 use Rattle.operations.specs.declared.refusal.Refusal.TheVariants.{BufferTooLarge}
-use Rattle.sched.specs.declared.scheduler.Checked.TheVariants.{Sound, Refused}
 use Rattle.sched.specs.declared.scheduler.RingBufferScheduler.{RingBufferScheduler}
 use Rattle.copies.specs.Copies.{Left}
 use Rattle.copies.proofs.read.Kinds as lib_read_kinds
@@ -20,7 +20,6 @@ use Rattle.copies.proofs.write.Kinds as lib_write_kinds
 use Rattle.copies.proofs.write.Reads as lib_write
 use Rattle.driver.specs.Drive.{Delivery, delivery}
 use Rattle.states.specs.declared.answer.Answer.{Answer}
-use Rattle.receiver.specs.declared.receiver.Ended.{Ended}
 use Rattle.driver.specs.Run.{ServiceLeaves, ShutdownLeaves, ReadImplLeaves, ReadLeaves}
 use Rattle.flat.specs.Copy.{CopyAnswerLeft, flat_copied}
 use Rattle.flat.specs.Receiver.{receiver_at, flat_ended}
@@ -34,6 +33,8 @@ use Rattle.stripring.proofs.copy.stripring_copies_write.Kinds as copies_write_ki
 use Rattle.stripring.proofs.copy.stripring_copies_write.Reads as copies_write
 use Rattle.stripring.proofs.scheduler.stripring_scheduler_max_buf_len.Kinds as max_buf_len_kinds
 use Rattle.stripring.proofs.scheduler.stripring_scheduler_max_buf_len.Reads as max_buf_len_lem
+use Rattle.receiver.specs.declared.receiver.Ended.{Ended}
+use Rattle.states.specs.declared.refusal.Refusal.{Refusal}
 
 -- `at` is what the arguments stand for, `flat` the form in which an answer goes out
 abbrev pub Thin :
@@ -51,14 +52,14 @@ pub copies_read_thin : Thin 2 copies_read_kinds.ps copies_read_kinds.r copies_re
 copies_read_thin κs a z (ws, p) x (us, q) = ap (λ (y : CopyAnswerLeft). y.answer) p ∙ ap (λ (y : Left). flat_copied y.answer) (sym q)
 
 -- ---- the calls over a lent run, by the predicates that they and the driver's calls cite
-module _ (r : Receiver) (answers : List Answer) (z : EndedAnswer) (x : Ended) where
+module _ (r : Receiver) (answers : List Answer) (z : EndedAnswer) (x : Result Ended Refusal) where
   pub service_thin : FlatServiceLeaves r answers z → ServiceLeaves (receiver_at r) answers x → z ≡ flat_ended x
   service_thin p q = p ∙ ap flat_ended (sym q)
 
   pub shutdown_thin : FlatShutdownLeaves r answers z → ShutdownLeaves (receiver_at r) answers x → z ≡ flat_ended x
   shutdown_thin p q = p ∙ ap flat_ended (sym q)
 
-module _ (r : Receiver) (ring dst : List ℕ) (top : ℕ) (answers : List Answer) (z : EndedAnswer) (left : List ℕ) (x : Ended) (lent : List ℕ) where
+module _ (r : Receiver) (ring dst : List ℕ) (top : ℕ) (answers : List Answer) (z : EndedAnswer) (left : List ℕ) (x : Result Ended Refusal) (lent : List ℕ) where
   both : (d : Delivery) → ended_answer_left z left ≡ flat_delivery d → delivery x lent ≡ d → (z ≡ flat_ended x) × (left ≡ lent)
   both d p q =
       let e : ended_answer_left z left ≡ flat_delivery (delivery x lent) = p ∙ ap flat_delivery (sym q) in
@@ -75,6 +76,6 @@ empty n = scheduler_of n (record { 0 = 0 }) (record { 0 = 0 })
 
 -- ---- the one export without a call of its own: the greatest length that is taken
 pub max_buf_len_greatest : Keeps 0 max_buf_len_kinds.ps max_buf_len_kinds.r max_buf_len_lem.Learnt
-    (λ κs a z. (sound_of (empty z) ≡ Sound (empty z)) × (sound_of (empty (suc z)) ≡ Refused (BufferTooLarge (suc z))))
+    (λ κs a z. (sound_of (empty z) ≡ Ok (empty z)) × (sound_of (empty (suc z)) ≡ Err (BufferTooLarge (suc z))))
 unfolding counted_of sound_of sub_mod
 max_buf_len_greatest κs a z (ws, p) = rw p (refl, refl)

@@ -4,7 +4,7 @@ use Rattle.flat.specs.Block.{flat_fill_state}
 use Rattle.flat.specs.Counter.{flat_amount, flat_bool, flat_counter, flat_offset}
 use Rattle.flat.specs.List.{operations_at}
 use Rattle.flat.specs.Operation.{operation_at, type_at}
-use Rattle.flat.specs.Scheduler.{flat_checked, flat_registered, scheduler_at}
+use Rattle.flat.specs.Scheduler.{flat_checked, scheduler_at}
 use Rattle.stripring.proofs.Thin.{Thin}
 use Rattle.stripring.proofs.scheduler.stripring_scheduler_try_new.Kinds as try_new_kinds
 use Rattle.stripring.proofs.scheduler.stripring_scheduler_try_new.Reads as try_new
@@ -119,20 +119,20 @@ try_with_counter_thin κs a z (ws, p) x (us, q) = p ∙ ap flat_checked (sym q)
 pub demand_soundness_thin : Thin 0 demand_soundness_kinds.ps demand_soundness_kinds.r demand_soundness.Learnt lib_demand_soundness_kinds.ps lib_demand_soundness_kinds.r lib_demand_soundness.Learnt (λ κs a. (scheduler_at a.0, tt)) (λ κs x. flat_checked x)
 demand_soundness_thin κs a z (ws, p) x (us, q) = p ∙ ap flat_checked (sym q)
 
-pub try_register_read_thin : Thin 0 try_register_read_kinds.ps try_register_read_kinds.r try_register_read.Learnt lib_try_register_read_kinds.ps lib_try_register_read_kinds.r lib_try_register_read.Learnt (λ κs a. (scheduler_at a.0, (a.1.0, tt))) (λ κs x. flat_registered x)
-try_register_read_thin κs a z (ws, p) x (us, q) = p ∙ ap flat_registered (sym q)
+pub try_register_read_thin : Thin 0 try_register_read_kinds.ps try_register_read_kinds.r try_register_read.Learnt lib_try_register_read_kinds.ps lib_try_register_read_kinds.r lib_try_register_read.Learnt (λ κs a. (scheduler_at a.0, (a.1.0, tt))) (λ κs x. flat_checked x)
+try_register_read_thin κs a z (ws, p) x (us, q) = p ∙ ap flat_checked (sym q)
 
-pub try_register_write_thin : Thin 0 try_register_write_kinds.ps try_register_write_kinds.r try_register_write.Learnt lib_try_register_write_kinds.ps lib_try_register_write_kinds.r lib_try_register_write.Learnt (λ κs a. (scheduler_at a.0, (a.1.0, tt))) (λ κs x. flat_registered x)
-try_register_write_thin κs a z (ws, p) x (us, q) = p ∙ ap flat_registered (sym q)
+pub try_register_write_thin : Thin 0 try_register_write_kinds.ps try_register_write_kinds.r try_register_write.Learnt lib_try_register_write_kinds.ps lib_try_register_write_kinds.r lib_try_register_write.Learnt (λ κs a. (scheduler_at a.0, (a.1.0, tt))) (λ κs x. flat_checked x)
+try_register_write_thin κs a z (ws, p) x (us, q) = p ∙ ap flat_checked (sym q)
 
-pub try_register_operation_manually_thin : Thin 0 try_register_operation_manually_kinds.ps try_register_operation_manually_kinds.r try_register_operation_manually.Learnt lib_try_register_operation_manually_kinds.ps lib_try_register_operation_manually_kinds.r lib_try_register_operation_manually.Learnt (λ κs a. (scheduler_at a.0, (type_at a.1.0, (a.1.1.0, tt)))) (λ κs x. flat_registered x)
-try_register_operation_manually_thin κs a z (ws, p) x (us, q) = p ∙ ap flat_registered (sym q)
+pub try_register_operation_manually_thin : Thin 0 try_register_operation_manually_kinds.ps try_register_operation_manually_kinds.r try_register_operation_manually.Learnt lib_try_register_operation_manually_kinds.ps lib_try_register_operation_manually_kinds.r lib_try_register_operation_manually.Learnt (λ κs a. (scheduler_at a.0, (type_at a.1.0, (a.1.1.0, tt)))) (λ κs x. flat_checked x)
+try_register_operation_manually_thin κs a z (ws, p) x (us, q) = p ∙ ap flat_checked (sym q)
 
-pub try_register_operation_thin : Thin 0 try_register_operation_kinds.ps try_register_operation_kinds.r try_register_operation.Learnt lib_try_register_operation_kinds.ps lib_try_register_operation_kinds.r lib_try_register_operation.Learnt (λ κs a. (scheduler_at a.0, (operation_at a.1.0, tt))) (λ κs x. flat_registered x)
-try_register_operation_thin κs a z (ws, p) x (us, q) = p ∙ ap flat_registered (sym q)
+pub try_register_operation_thin : Thin 0 try_register_operation_kinds.ps try_register_operation_kinds.r try_register_operation.Learnt lib_try_register_operation_kinds.ps lib_try_register_operation_kinds.r lib_try_register_operation.Learnt (λ κs a. (scheduler_at a.0, (operation_at a.1.0, tt))) (λ κs x. flat_checked x)
+try_register_operation_thin κs a z (ws, p) x (us, q) = p ∙ ap flat_checked (sym q)
 
-pub try_register_operations_thin : Thin 0 try_register_operations_kinds.ps try_register_operations_kinds.r try_register_operations.Learnt lib_try_register_operations_kinds.ps lib_try_register_operations_kinds.r lib_try_register_operations.Learnt (λ κs a. (scheduler_at a.0, (operations_at a.1.0, tt))) (λ κs x. flat_registered x)
-try_register_operations_thin κs a z (ws, p) x (us, q) = p ∙ ap flat_registered (sym q)
+pub try_register_operations_thin : Thin 0 try_register_operations_kinds.ps try_register_operations_kinds.r try_register_operations.Learnt lib_try_register_operations_kinds.ps lib_try_register_operations_kinds.r lib_try_register_operations.Learnt (λ κs a. (scheduler_at a.0, (operations_at a.1.0, tt))) (λ κs x. flat_checked x)
+try_register_operations_thin κs a z (ws, p) x (us, q) = p ∙ ap flat_checked (sym q)
 
 pub items_read_thin : Thin 0 items_read_kinds.ps items_read_kinds.r items_read.Learnt lib_items_read_kinds.ps lib_items_read_kinds.r lib_items_read.Learnt (λ κs a. (scheduler_at a.0, tt)) (λ κs x. flat_counter x)
 items_read_thin κs a z (ws, p) x (us, q) = p ∙ ap flat_counter (sym q)

@@ -1,11 +1,10 @@
 -- "Given exactly when" at the face. `G` says when a number is given, and with which values, 0 and none where nothing is refused: the
 -- tables of the libraries. A flat refusal is given so only then, and always then.
-use Rattle.std.specs.Prelude.{ℕ, List, [], ◌∷◌}
+use Rattle.std.specs.Prelude.{ℕ, List, [], ◌∷◌, Option, Some, None}
 use Rattle.states.specs.Promise.{FailureFits}
-use Rattle.states.specs.declared.state.PotentialFailure.{PotentialFailure}
-use Rattle.states.specs.declared.state.PotentialFailure.TheVariants.{Some, None}
 use Rattle.flat.specs.Back.{RefusalStands}
 use Rattle.flat.specs.declared.structs.Refusal.{Refusal}
+use Rattle.states.specs.declared.state.Failure.{Failure}
 
 pub record GivenAt (G : ℕ → List ℕ → Type 0) (r : Refusal) : Type 0 where
   pub only : (k : ℕ) × (vs : List ℕ) × (p : RefusalStands r k vs) × G k vs
@@ -17,6 +16,6 @@ pub data GivenStored (Fits : Type 0) : ℕ → List ℕ → Type 0 where
   given_12_stored : (Fits → ⊥) → GivenStored Fits 12 (0 ∷ [])
 
 -- a failure that is not there is not tested
-abbrev pub PotentialFits : PotentialFailure → Type 0
+abbrev pub PotentialFits : Option Failure → Type 0
 PotentialFits (Some f) = FailureFits f
 PotentialFits None = Unit {0}

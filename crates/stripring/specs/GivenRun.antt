@@ -1,6 +1,6 @@
 -- The table of the numbers that refuse a receiver's call over a run of answers: those of its beginning, those of an answer that it
 -- takes, and 11 where the run is used up while it waits.
-use Rattle.std.specs.Prelude.{ℕ, suc, ◌<◌, ◌≡◌, List, [], ◌∷◌, length}
+use Rattle.std.specs.Prelude.{ℕ, suc, ◌<◌, ◌≡◌, List, [], ◌∷◌, length, Result, Ok, Err}
 use Rattle.copies.specs.Given.{Verdict, verdict}
 use Rattle.receiver.specs.Call.{answered_of}
 use Rattle.receiver.specs.Given.{GivenAnswer}
@@ -9,10 +9,8 @@ use Rattle.states.specs.declared.answer.Answer.{Answer}
 use Rattle.receiver.specs.declared.call.Call.{Call}
 use Rattle.receiver.specs.declared.call.Phase.{Phase}
 use Rattle.receiver.specs.declared.call.Phase.TheVariants as phase
-use Rattle.receiver.specs.declared.call.Step.{Step}
-use Rattle.receiver.specs.declared.call.Step.TheVariants as step
 use Rattle.receiver.specs.declared.receiver.Ended.{Ended}
-use Rattle.receiver.specs.declared.receiver.Ended.TheVariants as ended
+use Rattle.states.specs.declared.refusal.Refusal.{Refusal}
 
 abbrev pub Waits : Phase → Type 0
 Waits (phase.Receive w) = Unit {0}
@@ -38,7 +36,7 @@ module _ (c : Call) (ring : List ℕ) (a : Answer) (place : ℕ) (More : Call �
     over : (Waits c.phase → ⊥) → GivenNext 0 []
     waited_out : {k : ℕ} {vs : List ℕ} → Waits c.phase → WaitedOut c.phase a → More c k vs → GivenNext k vs
     at_the_answer : {k : ℕ} {vs : List ℕ} → Waits c.phase → (WaitedOut c.phase a → ⊥) → 0 < k → GivenAnswer c (length ring) a place k vs → GivenNext k vs
-    behind_it : {k : ℕ} {vs : List ℕ} (d : Call) → Waits c.phase → (WaitedOut c.phase a → ⊥) → answered_of c ring a place ≡ step.Of d → More d k vs → GivenNext k vs
+    behind_it : {k : ℕ} {vs : List ℕ} (d : Call) → Waits c.phase → (WaitedOut c.phase a → ⊥) → answered_of c ring a place ≡ Ok d → More d k vs → GivenNext k vs
 
 -- a call that has used i answers, before these
 abbrev pub GivenFrom : List ℕ → ℕ → List Answer → Call → ℕ → List ℕ → Type 0
@@ -46,11 +44,11 @@ GivenFrom ring i [] c = GivenLast c
 GivenFrom ring i (a ∷ rest) c = GivenNext c ring a (suc i) (GivenFrom ring (suc i) rest)
 
 -- `x` is what the beginning answers, and `Begins` its table
-module _ (Begins : ℕ → List ℕ → Type 0) (x : Step) (ring : List ℕ) (answers : List Answer) where
+module _ (Begins : ℕ → List ℕ → Type 0) (x : Result Call Refusal) (ring : List ℕ) (answers : List Answer) where
   pub data GivenRun : ℕ → List ℕ → Type 0 where
     at_the_beginning : {k : ℕ} {vs : List ℕ} → 0 < k → Begins k vs → GivenRun k vs
-    over_the_run : {k : ℕ} {vs : List ℕ} (c : Call) → x ≡ step.Of c → GivenFrom ring 0 answers c k vs → GivenRun k vs
+    over_the_run : {k : ℕ} {vs : List ℕ} (c : Call) → x ≡ Ok c → GivenFrom ring 0 answers c k vs → GivenRun k vs
 
-abbrev pub of_ended : Ended → Verdict
-of_ended (ended.Accepted q o used) = verdict 0 []
-of_ended (ended.Refused r) = verdict (number_of r) (values_of r)
+abbrev pub of_ended : Result Ended Refusal → Verdict
+of_ended (Ok m) = verdict 0 []
+of_ended (Err r) = verdict (number_of r) (values_of r)

@@ -1,24 +1,12 @@
 -- The six calls of the two ends as a host makes them through the exports: its record goes in flat, and what comes out it reads back.
-use Rattle.std.specs.Prelude.{ℕ, cond, List, eqb}
+use Rattle.std.specs.Prelude.{ℕ, cond, List, eqb, Result, Ok, Err}
 use Rattle.copies.specs.declared.refusal.Refusal.TheVariants.{Scheduler, RingMemory}
 use Rattle.ends.specs.Ends.{WroteLeft, GotLeft}
 use Rattle.ends.specs.Plain.{Calls}
-use Rattle.ends.specs.declared.reading_end.Got.{Got}
-use Rattle.ends.specs.declared.reading_end.Got.TheVariants as got
 use Rattle.ends.specs.declared.reading_end.ReadCounter as ends_read
-use Rattle.ends.specs.declared.reading_end.ReadCounterAnswer as ends_read_answer
-use Rattle.ends.specs.declared.reading_end.ReadCounterAnswer.TheVariants as read
-use Rattle.ends.specs.declared.reading_end.ReadingEndAnswer as ends_reading_answer
-use Rattle.ends.specs.declared.reading_end.ReadingEndAnswer.TheVariants as reading
 use Rattle.ends.specs.declared.refusal.Refusal as ends
 use Rattle.ends.specs.declared.refusal.Refusal.TheVariants.{Copy, RanBack}
-use Rattle.ends.specs.declared.writing_end.WritingEndAnswer as ends_writing_answer
-use Rattle.ends.specs.declared.writing_end.WritingEndAnswer.TheVariants as writing
-use Rattle.ends.specs.declared.writing_end.Wrote.{Wrote}
-use Rattle.ends.specs.declared.writing_end.Wrote.TheVariants as wrote
 use Rattle.ends.specs.declared.writing_end.WrittenCounter as ends_written
-use Rattle.ends.specs.declared.writing_end.WrittenCounterAnswer as ends_written_answer
-use Rattle.ends.specs.declared.writing_end.WrittenCounterAnswer.TheVariants as written
 use Rattle.flat.specs.Back.{portion_at}
 use Rattle.flat.specs.ReadingEnd.{read_counter_at, reading_end_at, flat_reading_end, GotAnswerLeft}
 use Rattle.flat.specs.Refusal.{scheduler_refusal_at}
@@ -34,6 +22,10 @@ use Rattle.flat.specs.declared.structs.WritingEndAnswer.{WritingEndAnswer}
 use Rattle.flat.specs.declared.structs.WrittenCounter.{WrittenCounter}
 use Rattle.flat.specs.declared.structs.WrittenCounterAnswer.{WrittenCounterAnswer}
 use Rattle.flat.specs.declared.structs.WroteAnswer.{WroteAnswer}
+use Rattle.ends.specs.declared.reading_end.Got.{Got}
+use Rattle.ends.specs.declared.writing_end.Wrote.{Wrote}
+use Rattle.ends.specs.declared.writing_end.WritingEnd as ends_writingend
+use Rattle.ends.specs.declared.reading_end.ReadingEnd as ends_readingend
 
 -- the six exports, as functions
 pub record FlatCalls : Type 0 where
@@ -54,11 +46,11 @@ end_refusal_at e =
 abbrev pub by_number : {A : Type 0} → Refusal → A → (ends.Refusal → A) → A
 by_number r x refused = cond (eqb r.number 0) x (refused (end_refusal_at r))
 
-abbrev pub wrote_at : WroteAnswer → Wrote
-wrote_at z = by_number z.refusal (wrote.Moved (writing_end_at z.end) (portion_at z.n z.remainder)) wrote.Refused
+abbrev pub wrote_at : WroteAnswer → Result Wrote ends.Refusal
+wrote_at z = by_number z.refusal (Ok (record { end = writing_end_at z.end; portion = portion_at z.n z.remainder })) Err
 
-abbrev pub got_at : GotAnswer → Got
-got_at z = by_number z.refusal (got.Moved (reading_end_at z.end) (portion_at z.n z.remainder)) got.Refused
+abbrev pub got_at : GotAnswer → Result Got ends.Refusal
+got_at z = by_number z.refusal (Ok (record { end = reading_end_at z.end; portion = portion_at z.n z.remainder })) Err
 
 -- with a copy, what it left in the lent memory
 abbrev pub wrote_left_at : WroteAnswerLeft → WroteLeft
@@ -67,17 +59,17 @@ wrote_left_at x = record { answer = wrote_at x.answer; memory = x.memory }
 abbrev pub got_left_at : GotAnswerLeft → GotLeft
 got_left_at x = record { answer = got_at x.answer; memory = x.memory }
 
-abbrev pub written_at : WrittenCounterAnswer → ends_written_answer.WrittenCounterAnswer
-written_at z = by_number z.refusal (written.Of (written_counter_at z.counter)) written.Refused
+abbrev pub written_at : WrittenCounterAnswer → Result ends_written.WrittenCounter ends.Refusal
+written_at z = by_number z.refusal (Ok (written_counter_at z.counter)) Err
 
-abbrev pub read_at : ReadCounterAnswer → ends_read_answer.ReadCounterAnswer
-read_at z = by_number z.refusal (read.Of (read_counter_at z.counter)) read.Refused
+abbrev pub read_at : ReadCounterAnswer → Result ends_read.ReadCounter ends.Refusal
+read_at z = by_number z.refusal (Ok (read_counter_at z.counter)) Err
 
-abbrev pub writing_at : WritingEndAnswer → ends_writing_answer.WritingEndAnswer
-writing_at z = by_number z.refusal (writing.Of (writing_end_at z.end)) writing.Refused
+abbrev pub writing_at : WritingEndAnswer → Result ends_writingend.WritingEnd ends.Refusal
+writing_at z = by_number z.refusal (Ok (writing_end_at z.end)) Err
 
-abbrev pub reading_at : ReadingEndAnswer → ends_reading_answer.ReadingEndAnswer
-reading_at z = by_number z.refusal (reading.Of (reading_end_at z.end)) reading.Refused
+abbrev pub reading_at : ReadingEndAnswer → Result ends_readingend.ReadingEnd ends.Refusal
+reading_at z = by_number z.refusal (Ok (reading_end_at z.end)) Err
 
 -- ---- the counters as a host passes them on: each by its own name, so that one kind is never handed in for the other
 abbrev pub written_in : ends_written.WrittenCounter → WrittenCounter

@@ -1,9 +1,7 @@
 -- What the planner's exports promise, by the number that a host is told and the fields beside it. What a plan is, and what an outline and a
 -- proposal are to be, stands in the planner's specs/Promise.antt.
-use Rattle.std.specs.Prelude.{ℕ, ◌<◌, ◌≡◌, List}
+use Rattle.std.specs.Prelude.{ℕ, ◌<◌, ◌≡◌, List, Ok}
 use Rattle.planner.specs.Promise.{IsPlan, NoPlanExists, Proposes, Outlines}
-use Rattle.planner.specs.declared.plan.Proposed.TheVariants as proposed
-use Rattle.planner.specs.declared.strips.Outlined.TheVariants as outlined
 use Rattle.flat.specs.declared.structs.ProposeAnswer.{ProposeAnswer}
 use Rattle.flat.specs.declared.structs.Refusal.{Refusal}
 use Rattle.flat.specs.declared.structs.StripsAnswer.{StripsAnswer}
@@ -11,11 +9,11 @@ use Rattle.flat.specs.declared.structs.StripsAnswer.{StripsAnswer}
 module _ (rows bytes L : ℕ) where
   pub data OutlinesAt (z : StripsAnswer) : Type 0 where
     refused : 0 < z.refusal.number → z.count ≡ 0 → z.height ≡ 0 → z.last ≡ 0 → OutlinesAt z
-    tells : z.refusal.number ≡ 0 → Outlines rows bytes L (outlined.Of (record { count = z.count; height = z.height; last = z.last })) → OutlinesAt z
+    tells : z.refusal.number ≡ 0 → Outlines rows bytes L (Ok (record { count = z.count; height = z.height; last = z.last })) → OutlinesAt z
 
   pub data ProposesAt (plan : List ℕ) (z : ProposeAnswer) (after : List ℕ) : Type 0 where
     refused : 0 < z.refusal.number → z.count ≡ 0 → after ≡ plan → ProposesAt plan z after
-    runs : z.refusal.number ≡ 0 → Proposes rows bytes L plan (proposed.Runs z.count) after → ProposesAt plan z after
+    runs : z.refusal.number ≡ 0 → Proposes rows bytes L plan (Ok z.count) after → ProposesAt plan z after
 
   -- number 0 for a plan, and for nothing else
   pub record ChecksAt (plan : List ℕ) (z : Refusal) : Type 0 where

@@ -1,4 +1,5 @@
 // A block that is put together of its four parts.
+// Kinds are numbers, and the parameters come one by one: the C interface.
 ghost use Rattle.std.specs.Prelude.{◌≡◌};
 ghost use Rattle.sched.specs.Block.{block_of};
 ghost use Rattle.flat.specs.Block.{block_type_at, bit_at, flat_block};

@@ -1,4 +1,5 @@
 // Copies between the ring's lent memory and a host's slice.
+// The parameters come one by one: the C interface.
 ghost use Rattle.std.specs.Prelude.{◌≡◌};
 ghost use Rattle.copies.specs.Copies.{write_of, read_of};
 ghost use Rattle.flat.specs.Copy.{copy_answer_left, flat_left};

@@ -1,4 +1,5 @@
 // The planner's calls. A plan is lent as numbers, two to a run: its first row, and how many rows it has.
+// The parameters come one by one: the C interface.
 ghost use Rattle.std.specs.Prelude.{◌≡◌};
 ghost use Rattle.planner.specs.Check.{check_of};
 ghost use Rattle.planner.specs.Plan.{propose_of};

@@ -1,4 +1,5 @@
 // The calls of the reading end. Every one tests the end that it is given anew.
+// The parameters come one by one: the C interface.
 ghost use Rattle.std.specs.Prelude.{◌≡◌};
 ghost use Rattle.sched.specs.Scheduler.{scheduler_of};
 ghost use Rattle.ends.specs.Ends.{reading_end_of, got_of, read_sent_of, take_written_of};

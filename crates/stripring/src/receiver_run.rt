@@ -1,4 +1,5 @@
 // The receiver's calls over a whole run of the socket's answers.
+// The parameters come one by one: the C interface.
 ghost use Rattle.stripring.specs.Run.{FlatReadLeaves, FlatReadImplLeaves, FlatServiceLeaves, FlatShutdownLeaves};
 
 use flat::receiver_record::{flat_ended, receiver_state};

@@ -1,17 +1,18 @@
 // The calls of the scheduler that make it, count and register. Every one tests the scheduler that it is given anew.
+// Kinds are numbers, and the parameters come one by one: the C interface.
 ghost use Rattle.std.specs.Prelude.{◌≡◌, ◌^◌};
 ghost use Rattle.sched.specs.Scheduler.{scheduler_of, sound_of, with_counter_of, buf_len_of, counter_answer_of, offset_answer_of, greatest_of, is_zero_from, is_positive_from, fill_state_of, register_of, register_list_of};
 ghost use Rattle.flat.specs.Block.{flat_fill_state};
 ghost use Rattle.flat.specs.Counter.{flat_counter, flat_offset, flat_amount, flat_bool};
 ghost use Rattle.flat.specs.List.{operations_at};
 ghost use Rattle.flat.specs.Operation.{type_at, operation_at};
-ghost use Rattle.flat.specs.Scheduler.{scheduler_at, flat_checked, flat_registered};
+ghost use Rattle.flat.specs.Scheduler.{scheduler_at, flat_checked};
 
 use flat::block::flat_fill_state;
 use flat::counter::{flat_amount, flat_bool, flat_counter, flat_offset};
 use flat::list::operations;
 use flat::operation::{operation, operation_type};
-use flat::scheduler::{flat_checked, flat_registered, scheduler};
+use flat::scheduler::{flat_checked, scheduler};
 use flat::structs::{Operation, Operations, Scheduler, SchedulerAnswer, U64Answer};
 use sched::{Counter, OperationType, RingBufferScheduler};
 
@@ -58,15 +59,15 @@ pub fn stripring_scheduler_demand_soundness(s: Scheduler) -> SchedulerAnswer
 // ---- registering what was moved
 
 pub fn stripring_scheduler_try_register_read(s: Scheduler, len: u64) -> SchedulerAnswer
-    ensures { result ≡ flat_registered (register_of (scheduler_at s) OperationType.Read len) }
+    ensures { result ≡ flat_checked (register_of (scheduler_at s) OperationType.Read len) }
 {
-    flat_registered(scheduler(s).try_register_read(len))
+    flat_checked(scheduler(s).try_register_read(len))
 }
 
 pub fn stripring_scheduler_try_register_write(s: Scheduler, len: u64) -> SchedulerAnswer
-    ensures { result ≡ flat_registered (register_of (scheduler_at s) OperationType.Write len) }
+    ensures { result ≡ flat_checked (register_of (scheduler_at s) OperationType.Write len) }
 {
-    flat_registered(scheduler(s).try_register_write(len))
+    flat_checked(scheduler(s).try_register_write(len))
 }
 
 pub fn stripring_scheduler_try_register_operation_manually(
@@ -74,24 +75,24 @@ pub fn stripring_scheduler_try_register_operation_manually(
     op: u64,
     len: u64,
 ) -> SchedulerAnswer
-    ensures { result ≡ flat_registered (register_of (scheduler_at s) (type_at op) len) }
+    ensures { result ≡ flat_checked (register_of (scheduler_at s) (type_at op) len) }
 {
-    flat_registered(scheduler(s).try_register_operation_manually(operation_type(op), len))
+    flat_checked(scheduler(s).try_register_operation_manually(operation_type(op), len))
 }
 
 pub fn stripring_scheduler_try_register_operation(s: Scheduler, o: Operation) -> SchedulerAnswer
-    ensures { result ≡ flat_registered (register_of (scheduler_at s) (operation_at o).typ (operation_at o).len) }
+    ensures { result ≡ flat_checked (register_of (scheduler_at s) (operation_at o).typ (operation_at o).len) }
 {
-    flat_registered(scheduler(s).try_register_operation(operation(o)))
+    flat_checked(scheduler(s).try_register_operation(operation(o)))
 }
 
 pub fn stripring_scheduler_try_register_operations(
     s: Scheduler,
     list: Operations,
 ) -> SchedulerAnswer
-    ensures { result ≡ flat_registered (register_list_of (scheduler_at s) (operations_at list)) }
+    ensures { result ≡ flat_checked (register_list_of (scheduler_at s) (operations_at list)) }
 {
-    flat_registered(scheduler(s).try_register_operations(operations(list)))
+    flat_checked(scheduler(s).try_register_operations(operations(list)))
 }
 
 // ---- counters, offsets, data and space

@@ -1,4 +1,5 @@
 // The states of the receiver. Every call tests the states and failures that it is given.
+// The flag `some` beside a failure: the C interface.
 ghost use Rattle.std.specs.Prelude.{◌≡◌};
 ghost use Rattle.states.specs.State.{failure_of, with_failure_of, with_potential_failure_of, normalize_of, advance_of};
 ghost use Rattle.flat.specs.Failure.{failure_at, potential_failure_at, flat_potential_failure};

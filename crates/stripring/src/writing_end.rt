@@ -1,4 +1,5 @@
 // The calls of the writing end. Every one tests the end that it is given anew.
+// The parameters come one by one: the C interface.
 ghost use Rattle.std.specs.Prelude.{◌≡◌};
 ghost use Rattle.sched.specs.Scheduler.{scheduler_of};
 ghost use Rattle.ends.specs.Ends.{writing_end_of, wrote_of, written_sent_of, take_read_of};

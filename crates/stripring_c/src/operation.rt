@@ -1,4 +1,5 @@
 // Operations that are put together.
+// Kinds are numbers, and the parameters come one by one: the C interface.
 ghost use Rattle.std.specs.Prelude.{◌≡◌};
 ghost use Rattle.operations.specs.Operation.{operation_of, default_operation};
 ghost use Rattle.flat.specs.Operation.{type_at, flat_operation};

@@ -1,4 +1,5 @@
 // The calls of the scheduler that lay the ring out and schedule. Every one tests the scheduler that it is given anew.
+// Kinds are numbers, and the parameters come one by one: the C interface.
 ghost use Rattle.std.specs.Prelude.{◌≡◌};
 ghost use Rattle.sched.specs.Scheduler.{layout_of, blocks_of, block0_from, block1_from, block2_from, off_from, len_from, next_block_of, next_of, schedule_of};
 ghost use Rattle.flat.specs.Block.{flat_block_answer, flat_blocks, flat_layout};

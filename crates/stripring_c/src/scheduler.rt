@@ -1,11 +1,12 @@
 // The calls of the scheduler that make it, count and register. Every one tests the scheduler that it is given anew.
+// Kinds are numbers, and the parameters come one by one: the C interface.
 ghost use Rattle.std.specs.Prelude.{◌≡◌, ◌^◌};
 ghost use Rattle.sched.specs.Scheduler.{scheduler_of, sound_of, with_counter_of, buf_len_of, counter_answer_of, offset_answer_of, greatest_of, is_zero_from, is_positive_from, fill_state_of, register_of, register_list_of};
 ghost use Rattle.flat.specs.Block.{flat_fill_state};
 ghost use Rattle.flat.specs.Counter.{flat_counter, flat_offset, flat_amount, flat_bool};
 ghost use Rattle.flat.specs.List.{operations_at};
 ghost use Rattle.flat.specs.Operation.{type_at, operation_at};
-ghost use Rattle.flat.specs.Scheduler.{scheduler_at, flat_checked, flat_registered};
+ghost use Rattle.flat.specs.Scheduler.{scheduler_at, flat_checked};
 
 use flat::structs::{Operation, Operations, Scheduler, SchedulerAnswer, U64Answer};
 use sched::OperationType;
@@ -62,7 +63,7 @@ pub extern "C" fn stripring_scheduler_try_register_read(
     scheduler: Scheduler,
     len: u64,
 ) -> SchedulerAnswer
-    ensures { result ≡ flat_registered (register_of (scheduler_at scheduler) OperationType.Read len) }
+    ensures { result ≡ flat_checked (register_of (scheduler_at scheduler) OperationType.Read len) }
 {
     stripring::scheduler::stripring_scheduler_try_register_read(scheduler, len)
 }
@@ -72,7 +73,7 @@ pub extern "C" fn stripring_scheduler_try_register_write(
     scheduler: Scheduler,
     len: u64,
 ) -> SchedulerAnswer
-    ensures { result ≡ flat_registered (register_of (scheduler_at scheduler) OperationType.Write len) }
+    ensures { result ≡ flat_checked (register_of (scheduler_at scheduler) OperationType.Write len) }
 {
     stripring::scheduler::stripring_scheduler_try_register_write(scheduler, len)
 }
@@ -83,7 +84,7 @@ pub extern "C" fn stripring_scheduler_try_register_operation_manually(
     op_type: u64,
     len: u64,
 ) -> SchedulerAnswer
-    ensures { result ≡ flat_registered (register_of (scheduler_at scheduler) (type_at op_type) len) }
+    ensures { result ≡ flat_checked (register_of (scheduler_at scheduler) (type_at op_type) len) }
 {
     stripring::scheduler::stripring_scheduler_try_register_operation_manually(
         scheduler, op_type, len,
@@ -95,7 +96,7 @@ pub extern "C" fn stripring_scheduler_try_register_operation(
     scheduler: Scheduler,
     operation: Operation,
 ) -> SchedulerAnswer
-    ensures { result ≡ flat_registered (register_of (scheduler_at scheduler) (operation_at operation).typ (operation_at operation).len) }
+    ensures { result ≡ flat_checked (register_of (scheduler_at scheduler) (operation_at operation).typ (operation_at operation).len) }
 {
     stripring::scheduler::stripring_scheduler_try_register_operation(scheduler, operation)
 }
@@ -105,7 +106,7 @@ pub extern "C" fn stripring_scheduler_try_register_operations(
     scheduler: Scheduler,
     list: Operations,
 ) -> SchedulerAnswer
-    ensures { result ≡ flat_registered (register_list_of (scheduler_at scheduler) (operations_at list)) }
+    ensures { result ≡ flat_checked (register_list_of (scheduler_at scheduler) (operations_at list)) }
 {
     stripring::scheduler::stripring_scheduler_try_register_operations(scheduler, list)
 }

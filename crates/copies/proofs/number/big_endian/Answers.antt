@@ -1,11 +1,7 @@
--- Two halves, of a place that is inside.
-use mathlib.Core.Path.{sym, ◌∙◌}
-use Rattle.copies.proofs.NumberLaws.{both, inside, outside}
+-- The eight bytes that were read are the number.
+use Rattle.std.proofs.Common.{arith}
+use Rattle.copies.proofs.NumberLaws.{all_read}
 use Rattle.copies.proofs.number.big_endian.Goals as goal
 
-pub returns-then-place-bytes : goal.returns-then-place-bytes
-returns-then-place-bytes c = sym (outside _ _ c.if-place-bytes.true)
-
 pub returns : goal.returns
-returns c =
-    both _ c.args.bytes.now _ c.if-place-bytes.false _ _ _ c.then_half-first.ensures.n_value c.then_half.ensures.n_value.0 ∙ sym (inside _ _ c.if-place-bytes.false)
+returns c = all_read _ _ _ _ _ c.if-place-bytes.false (omega arith) c.loop-byte-test.false c.loop-byte-test.array_long c.loop-byte.invariant.front c.from_be_bytes.ensures

@@ -1,23 +1,10 @@
--- What is left to do at each turn is what the whole run makes of the call; each turn of the outer loop uses an answer.
-use Rattle.std.proofs.Common.{◌≡◌, ◌-◌, ◌≤◌, length, drop}
-use Rattle.driver.specs.Drive.{driven_of, driven_from, waited_of}
+-- What is left to do at each turn is what the whole run makes of the call; each turn uses an answer.
+use Rattle.std.proofs.Common.{◌≡◌, drop}
+use Rattle.driver.specs.Drive.{driven_of, driven_from}
 use Rattle.driver.proofs.drive.drive.Given as goal
 
-abbrev pub invariant-loop-a : goal.invariant-loop-a
-invariant-loop-a l = record {
-  ahead : l.initial.i ≤ l.i;
-  within : l.i ≤ length l.answers;
-  left : waited_of l.i l.step l.ring (drop l.i l.answers) ≡ driven_of l.fn.begun l.ring l.answers;
+abbrev pub invariant-loop-answer : goal.invariant-loop-answer
+invariant-loop-answer l = record {
+  counted : l.used ≡ l.answer-index;
+  left : driven_from l.used l.step l.ring (drop l.used l.answers) ≡ driven_of l.fn.begun l.ring l.answers;
 }
-
-abbrev pub decreases-loop-a : goal.decreases-loop-a
-decreases-loop-a l = length l.answers - l.i
-
-abbrev pub invariant-batches : goal.invariant-batches
-invariant-batches l = record {
-  within : l.i ≤ length l.answers;
-  left : driven_from l.i l.step l.ring (drop l.i l.answers) ≡ driven_of l.fn.begun l.ring l.answers;
-}
-
-abbrev pub decreases-batches : goal.decreases-batches
-decreases-batches l = length l.answers - l.i

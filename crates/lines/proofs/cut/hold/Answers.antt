@@ -1,10 +1,9 @@
--- Room for one byte more, or not.
+-- A copy of as many as have room.
 use native.Mathlib.Omega.{arith}
-use Rattle.lines.proofs.CutLaws.{hold_room, hold_full}
+use Rattle.lines.proofs.CutLaws.{held_copied}
 use Rattle.lines.proofs.cut.hold.Goals as goal
 
-pub returns-then-held-most : goal.returns-then-held-most
-returns-then-held-most c = hold_room c.args.most c.args.held c.args.line.now c.args.byte (omega arith)
-
 pub returns : goal.returns
-returns c = hold_full c.args.most c.args.held c.args.line.now c.args.byte (omega arith)
+returns c =
+    let a = c.args in
+    held_copied a.most a.bytes.now a.line.now c.copy_from_slice.new.self a.held c.min-n.result (omega arith) (omega arith) (omega arith) c.copy_from_slice.ensures.after

@@ -1,45 +1,56 @@
-use mathlib.Core.Path.{sym, ap, ◌∙◌}
+-- The invariant at the byte that was read, by what the library says of a digit, a product and a sum.
+use Prim.Native.Nat.{ℕ, ◌+◌}
+use mathlib.Core.Path.{◌≡◌, sym, ap, ◌∙◌}
+use Rattle.std.specs.Prelude.{Some}
+use lib.ListN.{length, drop}
 use native.Mathlib.Omega.{arith}
-use Rattle.lines.specs.Decimal.{number_in}
-use Rattle.lines.proofs.DecimalLaws.{digit_bounds, digits_end, digits_stop, digits_full, digits_next, number_there}
+use Rattle.lines.specs.Decimal.{digits_on, number, number_in}
+use Rattle.lines.proofs.DecimalLaws.{digits_end, digits_stop, digits_full, digits_next, number_there}
 use Rattle.lines.proofs.decimal.digits_on.Goals as goal
-
-pub returns-then-not-is_digit : goal.returns-then-not-is_digit
-returns-then-not-is_digit c =
-    let l = c.loop-next in
-    let line = c.args.line.now in
-    number_there line l.n l.next (omega arith)
-    ∙ ap (number_in line) (sym (digits_stop line l.next l.n (omega arith) (sym c.is_digit.ensures ∙ c.if-not-is_digit.true)) ∙ l.invariant.1)
-
-pub digit_of-digit-requires : goal.digit_of-digit-requires
-digit_of-digit-requires c = (digit_bounds _ (sym c.is_digit.ensures ∙ c.if-not-is_digit.false)).0
-
-pub fits_u64-requires : goal.fits_u64-requires
-fits_u64-requires c = omega (arith, digit_bounds _ (sym c.is_digit.ensures ∙ c.if-not-is_digit.false))
-
-pub returns-then-not-fits_u64 : goal.returns-then-not-fits_u64
-returns-then-not-fits_u64 c =
-    let l = c.loop-next in
-    let line = c.args.line.now in
-    ap (number_in line)
-    (sym
-    (digits_full line l.next l.n (omega arith) (sym c.is_digit.ensures ∙ c.if-not-is_digit.false)
-    c.digit_of-digit.result c.digit_of-digit.ensures (sym c.fits_u64.ensures ∙ c.if-not-fits_u64.true))
-    ∙ l.invariant.1)
 
 pub loop-next-preserved : goal.loop-next-preserved
 loop-next-preserved c =
     let l = c.loop-next in
-    let line = c.args.line.now in (
-      omega arith,
-      sym
-          (digits_next line l.next l.n (omega arith) (sym c.is_digit.ensures ∙ c.if-not-is_digit.false)
-          c.digit_of-digit.result c.digit_of-digit.ensures (sym c.fits_u64.ensures ∙ c.if-not-fits_u64.false))
-          ∙ l.invariant.1,
-    )
+    let line = c.args.line.now in
+    let digit = c.if-not-is_ascii_digit.ensures.cases in
+    let tens = c.in_ok-checked_mul.ensures in
+    let more = c.in_ok-n.ensures in
+    ap (λ (n : ℕ). digits_on n (drop (l.next + 1) line)) (omega arith)
+    ∙ sym (digits_next line l.next l.n (omega arith) (omega arith) (omega arith) (omega arith))
+    ∙ l.invariant
+
+pub returns-then-not-is_ascii_digit : goal.returns-then-not-is_ascii_digit
+returns-then-not-is_ascii_digit c =
+    let l = c.loop-next in
+    let line = c.args.line.now in
+    let other = c.if-not-is_ascii_digit.ensures.cases in
+    number_there line l.n l.next (omega arith)
+    ∙ ap (number_in line) (sym (digits_stop line l.next l.n (omega arith) (λ p q. omega arith)) ∙ l.invariant)
+
+pub returns-in_err-checked_mul : goal.returns-in_err-checked_mul
+returns-in_err-checked_mul c =
+    let l = c.loop-next in
+    let line = c.args.line.now in
+    let digit = c.if-not-is_ascii_digit.ensures.cases in
+    let full = c.in_err-checked_mul.ensures in
+    c.from_residual.ensures
+    ∙ ap (number_in line) (sym (digits_full line l.next l.n (omega arith) (omega arith) (omega arith) (omega arith)) ∙ l.invariant)
+
+pub returns-in_err-n : goal.returns-in_err-n
+returns-in_err-n c =
+    let l = c.loop-next in
+    let line = c.args.line.now in
+    let digit = c.if-not-is_ascii_digit.ensures.cases in
+    let full = c.in_err-n.ensures in
+    let tens = c.in_ok-checked_mul.ensures in
+    c.from_residual-in_err-n.ensures
+    ∙ ap (number_in line) (sym (digits_full line l.next l.n (omega arith) (omega arith) (omega arith) (omega arith)) ∙ l.invariant)
 
 pub returns : goal.returns
 returns c =
     let l = c.loop-next in
     let line = c.args.line.now in
-    number_there line l.n l.next (omega arith) ∙ ap (number_in line) (sym (digits_end line l.next l.n (omega arith)) ∙ l.invariant.1)
+    let end : length line ≡ l.next = omega arith in
+    ap (λ (k : ℕ). Some (number l.n k)) end
+    ∙ number_there line l.n l.next (omega arith)
+    ∙ ap (number_in line) (sym (digits_end line l.next l.n (omega arith)) ∙ l.invariant)

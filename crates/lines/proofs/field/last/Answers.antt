@@ -1,21 +1,16 @@
 -- The number, then whether a byte is behind it.
 use native.Mathlib.Omega.{arith}
-use Rattle.lines.proofs.FieldLaws.{end_there, end_other, end_none}
+use Rattle.lines.proofs.FieldLaws.{end_there, end_other}
 use Rattle.lines.proofs.field.last.Goals as goal
 
-pub returns-then-next-line : goal.returns-then-next-line
-returns-then-next-line c =
+pub returns-then-number-line : goal.returns-then-number-line
+returns-then-number-line c =
     let a = c.args in
-    let n = c.in-Of in
-    end_other a.line.now a.at n.n n.next n.is c.number_at.ensures (omega arith)
+    let r = c.in_ok-number.number in
+    end_other a.line.now a.at r.n r.next c.in_ok-number.was c.number_at.ensures (omega arith)
 
-pub returns-else-next-line : goal.returns-else-next-line
-returns-else-next-line c =
+pub returns : goal.returns
+returns c =
     let a = c.args in
-    let n = c.in-Of in
-    end_there a.line.now a.at n.n n.next n.is c.number_at.ensures (omega arith)
-
-pub returns-in-Bad : goal.returns-in-Bad
-returns-in-Bad c =
-    let a = c.args in
-    end_none a.line.now a.at c.in-Bad.is c.number_at.ensures
+    let r = c.in_ok-number.number in
+    end_there a.line.now a.at r.n r.next c.in_ok-number.was c.number_at.ensures (omega arith)

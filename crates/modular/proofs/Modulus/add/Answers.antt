@@ -5,7 +5,7 @@ use Rattle.modular.proofs.Modulus.add.Goals as goal
 
 pub returns-then-m-eq0 : goal.returns-then-m-eq0
 returns-then-m-eq0 c =
-    rw (whole_zero 64 _ c.if-m-eq0.true) (wrapped_add _ _ _ _ c.wrapping_add_u64.ensures.value)
+    rw (whole_zero 64 _ c.if-m-eq0.true) (wrapped_add _ _ _)
 
 pub overflow_sub-room : goal.overflow_sub-room
 overflow_sub-room c =

@@ -3,8 +3,8 @@ use Rattle.std.proofs.Common.{arith}
 use Rattle.modular.proofs.Laws.{modulus_none, modulus_some}
 use Rattle.modular.proofs.Modulus.modulus.Goals as goal
 
-pub returns-then-m-eq0 : goal.returns-then-m-eq0
-returns-then-m-eq0 c = modulus_none _ c.if-m-eq0.true
+pub returns-then-self-eq0 : goal.returns-then-self-eq0
+returns-then-self-eq0 c = modulus_none _ c.if-self-eq0.true
 
 pub returns : goal.returns
-returns c = modulus_some _ (omega arith) c.if-m-eq0.false
+returns c = modulus_some _ (omega arith) c.if-self-eq0.false

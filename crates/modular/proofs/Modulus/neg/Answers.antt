@@ -5,7 +5,7 @@ use Rattle.modular.proofs.Modulus.neg.Goals as goal
 
 pub returns-then-m-eq0 : goal.returns-then-m-eq0
 returns-then-m-eq0 c =
-    rw (whole_zero 64 _ c.if-m-eq0.true) (wrapped_neg _ _ _ (omega arith) (omega arith) (omega arith) c.wrapping_sub_u64.ensures.value)
+    rw (whole_zero 64 _ c.if-m-eq0.true) (wrapped_neg _ _ c.ranges.value.fits)
 
 pub overflow_sub-result : goal.overflow_sub-result
 overflow_sub-result c =

@@ -1,8 +1,0 @@
--- The scheduler's tests.
-use Rattle.ends.proofs.reading_end.ReadingEnd.checked.Goals as goal
-
-pub returns-in-Sound : goal.returns-in-Sound
-returns-in-Sound c = rw c.in-Sound.is
-
-pub returns-in-Refused : goal.returns-in-Refused
-returns-in-Refused c = rw c.in-Refused.is

@@ -1,8 +1,0 @@
--- The two cases of the definition.
-use Rattle.flat.proofs.block.flat_block_answer.Goals as goal
-
-pub returns-in-Of : goal.returns-in-Of
-returns-in-Of c = rw (c.in-Of.is, c.flat_block.ensures, c.no_refusal.ensures)
-
-pub returns-in-Refused : goal.returns-in-Refused
-returns-in-Refused c = rw (c.in-Refused.is, c.no_block.ensures, c.flat_refusal.ensures)

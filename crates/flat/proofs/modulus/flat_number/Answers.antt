@@ -1,8 +1,0 @@
--- The two cases of the definition.
-use Rattle.flat.proofs.modulus.flat_number.Goals as goal
-
-pub returns-in-Some : goal.returns-in-Some
-returns-in-Some c = rw c.in-Some.is
-
-pub returns-in-None : goal.returns-in-None
-returns-in-None c = rw c.in-None.is

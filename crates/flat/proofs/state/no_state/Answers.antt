@@ -1,5 +1,0 @@
--- Zeros.
-use Rattle.flat.proofs.state.no_state.Goals as goal
-
-pub returns : goal.returns
-returns c = rw c.no_failure.ensures

@@ -1,8 +1,0 @@
--- Each operation starts where the lengths before it end.
-use Rattle.operations.proofs.list.ScheduledOperations.cumulative_in.Goals as goal
-
-pub returns-in-One : goal.returns-in-One
-returns-in-One c = rw c.in-One.is
-
-pub returns-in-Two : goal.returns-in-Two
-returns-in-Two c = rw c.in-Two.is

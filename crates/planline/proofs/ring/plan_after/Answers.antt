@@ -1,8 +1,0 @@
--- The list, or a refusal by its number.
-use Rattle.planline.proofs.ring.plan_after.Goals as goal
-
-pub returns-in-Of : goal.returns-in-Of
-returns-in-Of c = rw c.in-Of.is
-
-pub returns-in-Refused : goal.returns-in-Refused
-returns-in-Refused c = rw (c.in-Refused.is, c.number.ensures)

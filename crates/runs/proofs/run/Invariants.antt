@@ -1,8 +1,0 @@
--- Ends: the measure is the events that are left.
-use Rattle.runs.proofs.run.Given as goal
-
-abbrev pub invariant-loop-left : goal.invariant-loop-left
-invariant-loop-left l = Unit {0}
-
-abbrev pub decreases-loop-left : goal.decreases-loop-left
-decreases-loop-left l = l.left

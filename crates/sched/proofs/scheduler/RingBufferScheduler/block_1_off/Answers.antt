@@ -1,5 +1,0 @@
--- The block's offset.
-use Rattle.sched.proofs.scheduler.RingBufferScheduler.block_1_off.Goals as goal
-
-pub returns : goal.returns
-returns c = rw (c.off_from.ensures, c.block_1.ensures)

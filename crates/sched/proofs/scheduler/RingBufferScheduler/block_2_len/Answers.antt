@@ -1,5 +1,0 @@
--- The block's length.
-use Rattle.sched.proofs.scheduler.RingBufferScheduler.block_2_len.Goals as goal
-
-pub returns : goal.returns
-returns c = rw (c.len_from.ensures, c.block_2.ensures)

@@ -1,9 +1,0 @@
--- The tests' refusal is passed on; else the answer is of the scheduler that they took.
-use Rattle.std.proofs.Common.{sym, ◌∙◌}
-use Rattle.sched.proofs.scheduler.RingBufferScheduler.buf_len.Goals as goal
-
-pub returns-in-Sound : goal.returns-in-Sound
-returns-in-Sound c = rw (← (sym c.in-Sound.is ∙ c.demand_soundness.ensures))
-
-pub returns-in-Refused : goal.returns-in-Refused
-returns-in-Refused c = rw (← (sym c.in-Refused.is ∙ c.demand_soundness.ensures))

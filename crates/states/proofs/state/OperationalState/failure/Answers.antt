@@ -1,9 +1,0 @@
--- By the test.
-use mathlib.Core.Path.{sym, ◌∙◌}
-use Rattle.states.proofs.state.OperationalState.failure.Goals as goal
-
-pub returns-then-fits : goal.returns-then-fits
-returns-then-fits c = rw (sym c.fits.ensures ∙ c.if-fits.true, c.cached_failure.ensures)
-
-pub returns : goal.returns
-returns c = rw (sym c.fits.ensures ∙ c.if-fits.false, c.stored_misfit.ensures)

@@ -1,5 +1,0 @@
--- `sched`'s call on the difference that the numbers stand for.
-use Rattle.stripring.proofs.diff.stripring_diff_old_value.Goals as goal
-
-pub returns : goal.returns
-returns c = rw (c.old_value.ensures, c.diff.ensures)

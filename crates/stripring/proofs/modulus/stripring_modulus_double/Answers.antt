@@ -1,7 +1,0 @@
--- The flat form of what `modular`'s call answers.
-use mathlib.Core.Path.{ap, ◌∙◌}
-use Rattle.flat.specs.Modulus.{flat_modulus}
-use Rattle.stripring.proofs.modulus.stripring_modulus_double.Goals as goal
-
-pub returns : goal.returns
-returns c = c.flat_modulus.ensures ∙ ap flat_modulus c.double.ensures

@@ -1,5 +1,0 @@
--- The flat form of what `sched`'s call answers on the scheduler that the numbers stand for.
-use Rattle.stripring.proofs.schedule.stripring_scheduler_block_1.Goals as goal
-
-pub returns : goal.returns
-returns c = rw (c.flat_block_answer.ensures, c.block_1.ensures, c.scheduler.ensures)

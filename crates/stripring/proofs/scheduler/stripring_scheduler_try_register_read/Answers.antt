@@ -1,5 +1,0 @@
--- The flat form of what `sched`'s call answers on the scheduler that the numbers stand for.
-use Rattle.stripring.proofs.scheduler.stripring_scheduler_try_register_read.Goals as goal
-
-pub returns : goal.returns
-returns c = rw (c.flat_registered.ensures, c.try_register_read.ensures, c.scheduler.ensures)

@@ -1,5 +1,0 @@
--- The flat form of what `receiver`'s call answers on what the numbers stand for.
-use Rattle.stripring.proofs.state.stripring_state_failure.Goals as goal
-
-pub returns : goal.returns
-returns c = rw (c.flat_potential_failure.ensures, c.failure.ensures, c.state.ensures)

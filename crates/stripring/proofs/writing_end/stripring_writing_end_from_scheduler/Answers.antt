@@ -1,5 +1,0 @@
--- The flat form of what `ends`' call answers on the scheduler that the numbers stand for.
-use Rattle.stripring.proofs.writing_end.stripring_writing_end_from_scheduler.Goals as goal
-
-pub returns : goal.returns
-returns c = rw (c.flat_writing_end_answer.ensures, c.from_scheduler.ensures, c.scheduler.ensures)

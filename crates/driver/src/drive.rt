@@ -13,7 +13,7 @@ pub struct Driven {
     pub used: u64,
 }
 
-// A run's `get`, by a u64 as all its counts. No call here needs it; it is a public call, and `fetch_promised` says what it promises.
+// A run's `get`, by a u64 as all its counts.
 #[tactic(auto, using(crate::proofs::Turns::got))]
 pub fn fetch(answers: &[Answer], i: u64) -> Option<Answer>
     ensures { FetchLeaves answers.now i result }
@@ -22,24 +22,32 @@ pub fn fetch(answers: &[Answer], i: u64) -> Option<Answer>
 }
 
 // A ring and answers are two, lent by two owners, and how many answers were used is told to the host.
-// Each answer but an interruption is handed to the call, until it is over. A refusal throws the whole call away, so one that is refused
-// waits for nothing more.
+// Each turn waits out the interruptions, and hands the first other answer to the call. A refusal throws the whole call away, so one that
+// is refused waits for nothing more. The two loops are a form of the paper (docs/PAPER.md, "Forms").
+#[tactic(auto, using(crate::proofs::Turns::less, crate::proofs::Turns::runs_out))]
 pub(crate) fn drive(begun: Result<Call, Refusal>, ring: &[u8], answers: &[Answer]) -> Driven
     ensures { result ≡ driven_of begun ring.now answers.now }
 {
     let mut step = begun;
     let mut used: u64 = 0;
-    for answer in answers {
+    'batches: loop {
         let Ok(call) = step else {
-            break;
+            break 'batches;
         };
         if call.is_over() {
-            break;
+            break 'batches;
         }
-        used += 1;
-        if !call.retries(*answer) {
-            step = call.answered(ring, *answer, used);
-        }
+        let answer = loop {
+            let Some(a) = fetch(answers, used) else {
+                break 'batches;
+            };
+            used += 1;
+            if call.retries(a) {
+                continue;
+            }
+            break a;
+        };
+        step = call.answered(ring, answer, used);
     }
     Driven { step, used }
 }

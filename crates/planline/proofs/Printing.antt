@@ -42,7 +42,7 @@ use Rattle.planline.specs.Cut.{line_text}
 use Rattle.planline.specs.Grammar.{WellFormed}
 use Rattle.planline.specs.Plan.{answer_to, plan_of}
 use Rattle.planline.specs.Ring.{line_of, parse_of, plan_after, plan_for, plan_from}
-use Rattle.planline.specs.Promise.{RingLine, Pair, pair, Printed, bad, refused, ok_none, ok_one, ok_two, ok_strips, Answered, none, more}
+use Rattle.planline.specs.Promise.{RingLine, Pair, pair, number_told, Printed, bad, refused, ok_none, ok_one, ok_two, ok_strips, Answered, none, more}
 use Rattle.planline.specs.Strips.{parse_strips_of, strips_after, strips_from}
 use Rattle.planline.specs.Text.{operation_text, list_text, strips_text, plan_text}
 use Rattle.planline.proofs.Grammar.{accepts, accepted, planned, bad_else}
@@ -99,10 +99,20 @@ pair_printed : (a : ScheduledOperation) → (a.off.0 < 2 ^ 64) × (a.len < 2 ^ 6
 unfolding operation_text
 pair_printed a h = pair (decimal_numeral a.off.0 h.0) (decimal_numeral a.len h.1)
 
+told_is : (e : planner.Refusal) → number_told e ≡ planner_number.number_of e
+told_is (refused_by_lem.Scheduler e) = refl
+told_is (refused_by_lem.SizeOutOfBounds rows bytes) = refl
+told_is (refused_by_lem.NoPlan bytes l) = refl
+told_is (refused_by_lem.EmptyRun run) = refl
+told_is (refused_by_lem.RunOutOfPlace run) = refl
+told_is (refused_by_lem.RunTooLong run) = refl
+told_is (refused_by_lem.RowsLeft reached) = refl
+told_is (refused_by_lem.PlanTooShort needed lent) = refl
+
 printed : (p : Result Plan PlanError) → Small p → Printed (plan_text p) p
 unfolding plan_text list_text strips_text
 printed (Err Bad) h = bad
-printed (Err (Refused e)) h = refused (decimal_numeral (planner_number.number_of e) h)
+printed (Err (Refused e)) h = rw (← told_is e) (refused (decimal_numeral (number_told e) (rw (told_is e) h)))
 printed (Ok (plan.Operations list.None)) h = ok_none
 printed (Ok (plan.Operations (list.One a))) h = ok_one (pair_printed a h)
 printed (Ok (plan.Operations (list.Two a b))) h = ok_two (pair_printed a h.0) (pair_printed b h.1)

@@ -4,7 +4,9 @@ use Rattle.lines.specs.Numeral.{Numeral}
 use Rattle.lines.specs.Promise.{Behind}
 use Rattle.operations.specs.declared.list.AtMostTwo.TheVariants as list
 use Rattle.operations.specs.declared.operation.ScheduledOperation.{ScheduledOperation}
+use Rattle.operations.specs.Refusal as sched
 use Rattle.planner.specs.declared.refusal.Refusal.{Refusal}
+use Rattle.planner.specs.declared.refusal.Refusal.TheVariants.{Scheduler, SizeOutOfBounds, NoPlan, EmptyRun, RunOutOfPlace, RunTooLong, RowsLeft, PlanTooShort}
 use Rattle.planner.specs.declared.strips.Strips.{Strips}
 use Rattle.planner.specs.Refusal.{number_of}
 use Rattle.planline.specs.declared.ring.Asked.{Asked}
@@ -45,9 +47,20 @@ pub record StripsLine (xs : List ℕ) (a : AskedStrips) : Type 0 where
 pub data Pair : List ℕ → ScheduledOperation → Type 0 where
   pair : {off len : List ℕ} {a : ScheduledOperation} → Numeral off a.off.0 → Numeral len a.len → Pair (32 ∷ (off ++ (32 ∷ len))) a
 
+-- what is refused is told by a number: the scheduler's own of what the scheduler refuses, and else the planner's
+abbrev pub number_told : Refusal → ℕ
+number_told (Scheduler e) = sched.number_of e
+number_told (SizeOutOfBounds rows bytes) = number_of (SizeOutOfBounds rows bytes)
+number_told (NoPlan bytes L) = number_of (NoPlan bytes L)
+number_told (EmptyRun k) = number_of (EmptyRun k)
+number_told (RunOutOfPlace k) = number_of (RunOutOfPlace k)
+number_told (RunTooLong k) = number_of (RunTooLong k)
+number_told (RowsLeft at) = number_of (RowsLeft at)
+number_told (PlanTooShort needed lent) = number_of (PlanTooShort needed lent)
+
 pub data Printed : List ℕ → Result Plan PlanError → Type 0 where
   bad : Printed (98 ∷ 97 ∷ 100 ∷ 10 ∷ []) (Err Bad)
-  refused : {number : List ℕ} {e : Refusal} → Numeral number (number_of e) → Printed (114 ∷ 101 ∷ 102 ∷ 117 ∷ 115 ∷ 101 ∷ 100 ∷ 32 ∷ (number ++ (10 ∷ []))) (Err (Refused e))
+  refused : {number : List ℕ} {e : Refusal} → Numeral number (number_told e) → Printed (114 ∷ 101 ∷ 102 ∷ 117 ∷ 115 ∷ 101 ∷ 100 ∷ 32 ∷ (number ++ (10 ∷ []))) (Err (Refused e))
   ok_none : Printed (111 ∷ 107 ∷ 32 ∷ 48 ∷ 10 ∷ []) (Ok (plan.Operations list.None))
   ok_one : {xs : List ℕ} {a : ScheduledOperation} → Pair xs a → Printed (111 ∷ 107 ∷ 32 ∷ 49 ∷ (xs ++ (10 ∷ []))) (Ok (plan.Operations (list.One a)))
   ok_two : {xs ys : List ℕ} {a b : ScheduledOperation} → Pair xs a → Pair ys b → Printed (111 ∷ 107 ∷ 32 ∷ 50 ∷ ((xs ++ ys) ++ (10 ∷ []))) (Ok (plan.Operations (list.Two a b)))

@@ -13,19 +13,19 @@ pub struct Line {
 }
 
 impl Line {
-    // By hand, byte after byte: the text of a line is not kept, so there is nothing to parse. A digit belongs to the number there, a space ends it, and a line with any other byte is text, such as a
-    // comment.
-    pub fn with(mut self, byte: u8) -> Line {
-        if self.at < MOST {
-            match byte {
-                b'0'..=b'9' => {
-                    self.numbers[self.at] = with_digit(self.numbers[self.at], byte - b'0');
-                }
-                b' ' => self.at += 1,
-                _ => self.at = MOST,
-            }
+    // By hand, byte after byte: the text of a line is not kept, so there is nothing to parse. In place: the line is too large to be moved at
+    // each byte. A digit belongs to the number there, a space ends it, and a line with any other byte is text, such as a comment.
+    pub fn take(&mut self, byte: u8) {
+        if self.at >= MOST {
+            return;
         }
-        self
+        match byte {
+            b'0'..=b'9' => {
+                self.numbers[self.at] = with_digit(self.numbers[self.at], byte - b'0');
+            }
+            b' ' => self.at += 1,
+            _ => self.at = MOST,
+        }
     }
 
     pub fn is_text(&self) -> bool {

@@ -65,7 +65,7 @@ fn compared<F: Fn(&[u64]) -> bool>(rt: &impl Print, agrees: &F, text: &[u8]) -> 
             tally = tally.with(rt, agrees, &line)?;
             line = Line::default();
         } else {
-            line = line.with(byte);
+            line.take(byte);
         }
     }
     Ok(tally)

@@ -123,16 +123,14 @@ impl Sound {
     {
         let s = self.scheduler;
         let scheduler = match op {
-            OperationType::Read => RingBufferScheduler {
-                items_read: later_of(s.items_read, s.buf_len, n),
-                fill: s.fill - n,
-                ..s
-            },
-            OperationType::Write => RingBufferScheduler {
-                items_written: later_of(s.items_written, s.buf_len, n),
-                fill: s.fill + n,
-                ..s
-            },
+            OperationType::Read => {
+                let later = later_of(s.items_read, s.buf_len, n);
+                RingBufferScheduler::from_numbers(s.buf_len, s.items_written, later, s.fill - n)
+            }
+            OperationType::Write => {
+                let later = later_of(s.items_written, s.buf_len, n);
+                RingBufferScheduler::from_numbers(s.buf_len, later, s.items_read, s.fill + n)
+            }
         };
         Sound { scheduler }
     }

@@ -40,8 +40,7 @@ impl RingBufferScheduler {
         Ok(RingBufferScheduler::from_numbers(buf_len, items_written, items_read, fill))
     }
 
-    // A record of any four numbers, not tested yet, and one by one, as the exports have them. Beside it only `advanced_in` builds one, of a
-    // sound one.
+    // A record of any four numbers, not tested yet, and one by one, as the exports have them: the one place that builds a record.
     pub fn from_numbers(
         buf_len: u64,
         items_written: Counter,

@@ -8,9 +8,9 @@ use Rattle.sched.proofs.sound.Sound.advanced_in.Goals as goal
 pub returns : goal.returns
 returns c =
     elim c.match-op.branch [
-      | in-Read w ↦ rw (w.scheduler-is, w.later_of.ensures, ← c.self.view_is, w.in-Read.is)
+      | in-Read w ↦ rw (w.scheduler-is, w.from_numbers-scheduler.ensures, w.later_of-later.ensures, ← c.self.view_is, w.in-Read.is)
           (ap (record_of _ _ _) (omega (arith, read_fill _ c.self.invariant c.args.n c.args.op (rw (← c.self.view_is) at c.requires) w.in-Read.is)))
-      | in-Write w ↦ rw (w.scheduler-is, w.later_of-in-Write.ensures, ← c.self.view_is, w.in-Write.is)
+      | in-Write w ↦ rw (w.scheduler-is, w.from_numbers-scheduler-in-Write.ensures, w.later_of-later-in-Write.ensures, ← c.self.view_is, w.in-Write.is)
           (ap (record_of _ _ _) (omega (arith, write_fill _ c.self.invariant c.args.n c.args.op (rw (← c.self.view_is) at c.requires) w.in-Write.is)))
     ]
 

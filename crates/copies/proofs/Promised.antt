@@ -38,9 +38,11 @@ use Rattle.copies.specs.Given.{Verdict, verdict, Exactly, GivenCopy, made, by_sc
 use Rattle.copies.specs.Promises.{CellsOf, Writes, Reads, CopyWrites, CopyReads}
 use Rattle.copies.specs.Promises as promise
 use Rattle.copies.proofs.Ring.{length_get, get_d_get, put_own, get_own, get_put}
-use Rattle.copies.proofs.Says.{demand_ring_memory_says, write_says, read_says, write_lent_says, read_lent_says}
+use Rattle.copies.proofs.Says.{demand_ring_memory_says, from_move_says, write_says, read_says, write_lent_says, read_lent_says}
 use Rattle.copies.proofs.demand_ring_memory.Kinds as ready_kinds
 use Rattle.copies.proofs.demand_ring_memory.Reads as ready_reads
+use Rattle.copies.proofs.CopiedFromMove.from.Kinds as from_move_kinds
+use Rattle.copies.proofs.CopiedFromMove.from.Reads as from_move
 use Rattle.copies.proofs.write.Kinds as write_kinds
 use Rattle.copies.proofs.write.Reads as write
 use Rattle.copies.proofs.read.Kinds as read_kinds
@@ -245,6 +247,10 @@ pub read_promised : KeepsLeft 2 read_kinds.ps read_kinds.r read.Learnt
 read_promised κs a z ws p =
     let q = read_says κs a z ws p in
     rw (q.0, q.1) (by_read a.0 a.1.0.now a.1.1.0.now (read_of a.0 a.1.0.now a.1.1.0.now).answer (read_of a.0 a.1.0.now a.1.1.0.now).memory (got_promised a.0 a.1.0.now a.1.1.0.now))
+
+-- what a move comes to has the move's scheduler, and moves and leaves over as many
+pub from_move_promised : Keeps 0 from_move_kinds.ps from_move_kinds.r from_move.Learnt (λ κs a z. (z.scheduler ≡ a.0.scheduler) × (z.portion ≡ a.0.portion))
+from_move_promised κs a z q = rw (from_move_says κs a z q.0 q.1) (refl, refl)
 
 -- ---- and of the calls over a lent scheduler
 module _ (s : RingBufferScheduler) (ring bytes : List ℕ) (r : Result Portion Refusal) (after : RingBufferScheduler) (memory : List ℕ) where

@@ -4,12 +4,15 @@ use mathlib.Core.Path.{◌≡◌, refl}
 use native.Mathlib.Omega.{arith}
 use Rattle.modular.proofs.Saying.{Keeps}
 use Rattle.operations.specs.Refusal.{packed, unpacked}
+use Rattle.operations.specs.Refusal as sched
 use Rattle.operations.proofs.Given as given
 use Rattle.operations.proofs.PromisedValues as operations
 use Rattle.copies.specs.declared.refusal.Refusal.{Refusal}
 use Rattle.copies.specs.declared.refusal.Refusal.TheVariants.{Scheduler, RingMemory}
 use Rattle.copies.specs.Refusal.{number_of, values_of}
-use Rattle.copies.proofs.Says.{Refusal-number-says, values_says}
+use Rattle.copies.proofs.Says.{from_scheduler_says, Refusal-number-says, values_says}
+use Rattle.copies.proofs.refusal.RefusalFromSchedRefusal.from.Kinds as from_scheduler_kinds
+use Rattle.copies.proofs.refusal.RefusalFromSchedRefusal.from.Reads as from_scheduler
 use Rattle.copies.proofs.refusal.Refusal.number.Kinds as Refusal-number-kinds
 use Rattle.copies.proofs.refusal.Refusal.number.Reads as Refusal-number
 use Rattle.copies.proofs.refusal.Refusal.values.Kinds as values_kinds
@@ -28,3 +31,7 @@ number_promised κs a z q = rw (Refusal-number-says κs a z q.0 q.1) (refl, numb
 
 pub values_promised : Keeps 0 values_kinds.ps values_kinds.r values.Learnt (λ κs a z. unpacked z ≡ values_of a.0)
 values_promised κs a z q = rw (values_says κs a z q.0 q.1) (values_back a.0)
+
+-- a refusal of the scheduler keeps both
+pub from_scheduler_promised : Keeps 0 from_scheduler_kinds.ps from_scheduler_kinds.r from_scheduler.Learnt (λ κs a z. (number_of z ≡ sched.number_of a.0) × (values_of z ≡ sched.values_of a.0))
+from_scheduler_promised κs a z q = rw (from_scheduler_says κs a z q.0 q.1) (refl, refl)

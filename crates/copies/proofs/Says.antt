@@ -7,8 +7,8 @@ use mathlib.Core.List.{List}
 use Rattle.modular.proofs.Saying.{Says, Leaves}
 use Rattle.sched.specs.declared.scheduler.RingBufferScheduler.{RingBufferScheduler}
 use Rattle.operations.specs.Refusal.{packed}
-use Rattle.copies.specs.Refusal.{number_of, values_of}
-use Rattle.copies.specs.Copies.{Left, ready_of, write_of, read_of}
+use Rattle.copies.specs.Refusal.{number_of, values_of, from_scheduler}
+use Rattle.copies.specs.Copies.{Left, from_move, ready_of, write_of, read_of}
 use Rattle.copies.specs.Lent.{told_of, record_after, WriteLeaves, ReadLeaves}
 use Rattle.copies.specs.Number.{big_endian_of}
 use Rattle.copies.proofs.number.big_endian.Kinds as big_endian_kinds
@@ -19,6 +19,10 @@ use Rattle.copies.proofs.write.Kinds as write_kinds
 use Rattle.copies.proofs.write.Reads as write
 use Rattle.copies.proofs.read.Kinds as read_kinds
 use Rattle.copies.proofs.read.Reads as read
+use Rattle.copies.proofs.CopiedFromMove.from.Kinds as from_move_kinds
+use Rattle.copies.proofs.CopiedFromMove.from.Reads as from_move_lem
+use Rattle.copies.proofs.refusal.RefusalFromSchedRefusal.from.Kinds as from_scheduler_kinds
+use Rattle.copies.proofs.refusal.RefusalFromSchedRefusal.from.Reads as from_scheduler_lem
 use Rattle.copies.proofs.refusal.Refusal.number.Kinds as Refusal-number-kinds
 use Rattle.copies.proofs.refusal.Refusal.number.Reads as Refusal-number
 use Rattle.copies.proofs.refusal.Refusal.values.Kinds as values_kinds
@@ -40,11 +44,17 @@ pub read_says : Leaves 2 read_kinds.ps read_kinds.r read.Learnt
     (λ κs a. (tt, (tt, ((read_of a.0 a.1.0.now a.1.1.0.now).memory, tt))))
 read_says κs a z ws p = (ap (λ (x : Left). x.answer) p, ap (λ (x : Left). (tt, (tt, (x.memory, tt)))) p)
 
+pub from_move_says : Says 0 from_move_kinds.ps from_move_kinds.r from_move_lem.Learnt (λ κs a. from_move a.0)
+from_move_says κs a z ws p = p
+
 -- ---- numbers in lent bytes
 pub big_endian_says : Says 1 big_endian_kinds.ps big_endian_kinds.r big_endian.Learnt (λ κs a. big_endian_of a.0.now a.1.0)
 big_endian_says κs a z ws p = p
 
--- ---- refusals in numbers
+-- ---- a refusal of the scheduler, and refusals in numbers
+pub from_scheduler_says : Says 0 from_scheduler_kinds.ps from_scheduler_kinds.r from_scheduler_lem.Learnt (λ κs a. from_scheduler a.0)
+from_scheduler_says κs a z ws p = p
+
 pub Refusal-number-says : Says 0 Refusal-number-kinds.ps Refusal-number-kinds.r Refusal-number.Learnt (λ κs a. number_of a.0)
 Refusal-number-says κs a z ws p = p
 

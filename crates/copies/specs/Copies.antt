@@ -27,8 +27,11 @@ abbrev pub left : Result Copied copies.Refusal → List ℕ → Left
 left a m = record { answer = a; memory = m }
 
 -- what a move comes to, once its bytes are copied: how many were moved and how many left over are the scheduler's
+abbrev pub from_move : Move → Copied
+from_move m = record { scheduler = m.scheduler; portion = m.portion }
+
 abbrev pub moved_by : Move → Result Copied copies.Refusal
-moved_by m = Ok (record { scheduler = m.scheduler; portion = m.portion })
+moved_by m = Ok (from_move m)
 
 -- a write moves the front of the source to the cells from the offset on
 abbrev pub write_by : Move → ℕ → List ℕ → List ℕ → Left

@@ -9,7 +9,7 @@
 
 ghost use Rattle.std.specs.Prelude.{◌≡◌, ◌≤◌, ◌<◌, length};
 ghost use Rattle.copies.specs.Ring.{put, get};
-ghost use Rattle.copies.specs.Copies.{left, ready_of, write_of, read_of};
+ghost use Rattle.copies.specs.Copies.{left, from_move, ready_of, write_of, read_of};
 
 use sched::{Move, OperationType, Portion, RingBufferScheduler};
 
@@ -30,7 +30,7 @@ pub struct Copied {
 
 // A move comes to this once its bytes are copied: how many were moved and how many left over are the scheduler's.
 impl From<Move> for Copied {
-    ghost from_gives = { λ m c. c ≡ record { scheduler = m.scheduler; portion = m.portion } };
+    ghost from_gives = { λ m c. c ≡ from_move m };
 
     fn from(m: Move) -> Copied {
         Copied {

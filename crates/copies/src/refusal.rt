@@ -1,8 +1,7 @@
 // Why a copy refuses, by number and values.
 ghost use Rattle.std.specs.Prelude.{◌≡◌};
 ghost use Rattle.operations.specs.Refusal.{packed};
-ghost use Rattle.copies.specs.declared.refusal.Refusal.TheVariants.{Scheduler};
-ghost use Rattle.copies.specs.Refusal.{number_of, values_of};
+ghost use Rattle.copies.specs.Refusal.{number_of, values_of, from_scheduler};
 
 use sched::Values;
 
@@ -15,7 +14,7 @@ pub enum Refusal {
 
 // What the scheduler refuses is told as it is.
 impl From<sched::Refusal> for Refusal {
-    ghost from_gives = { λ e r. r ≡ Scheduler e };
+    ghost from_gives = { λ e r. r ≡ from_scheduler e };
 
     fn from(e: sched::Refusal) -> Refusal {
         Refusal::Scheduler(e)

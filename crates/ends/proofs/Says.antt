@@ -4,7 +4,7 @@ use mathlib.Core.Path.{ap}
 use Rattle.modular.proofs.Saying.{Says, Leaves}
 use Rattle.operations.specs.Refusal.{packed}
 use Rattle.sched.specs.Scheduler.{scheduler_of}
-use Rattle.ends.specs.Refusal.{number_of, values_of}
+use Rattle.ends.specs.Refusal.{number_of, values_of, from_copy, from_scheduler}
 use Rattle.ends.specs.Ends.{writing_end_of, reading_end_of, WroteLeft, wrote_of, GotLeft, got_of, written_sent_of, read_sent_of, take_read_of, take_written_of}
 use Rattle.ends.proofs.writing_end.WritingEnd.new.Kinds as WritingEnd-new-kinds
 use Rattle.ends.proofs.writing_end.WritingEnd.new.Reads as WritingEnd-new
@@ -30,6 +30,10 @@ use Rattle.ends.proofs.writing_end.WritingEnd.take.Kinds as WritingEnd-take-kind
 use Rattle.ends.proofs.writing_end.WritingEnd.take.Reads as WritingEnd-take
 use Rattle.ends.proofs.reading_end.ReadingEnd.take.Kinds as ReadingEnd-take-kinds
 use Rattle.ends.proofs.reading_end.ReadingEnd.take.Reads as ReadingEnd-take
+use Rattle.ends.proofs.refusal.RefusalFromCopiesRefusal.from.Kinds as from_copy_kinds
+use Rattle.ends.proofs.refusal.RefusalFromCopiesRefusal.from.Reads as from_copy_lem
+use Rattle.ends.proofs.refusal.RefusalFromSchedRefusal.from.Kinds as from_scheduler_kinds
+use Rattle.ends.proofs.refusal.RefusalFromSchedRefusal.from.Reads as from_scheduler_lem
 use Rattle.ends.proofs.refusal.Refusal.number.Kinds as Refusal-number-kinds
 use Rattle.ends.proofs.refusal.Refusal.number.Reads as Refusal-number
 use Rattle.ends.proofs.refusal.Refusal.values.Kinds as values_kinds
@@ -78,7 +82,13 @@ WritingEnd-take-says κs a z ws p = p
 pub ReadingEnd-take-says : Says 0 ReadingEnd-take-kinds.ps ReadingEnd-take-kinds.r ReadingEnd-take.Learnt (λ κs a. take_written_of a.0 a.1.0)
 ReadingEnd-take-says κs a z ws p = p
 
--- ---- refusals in numbers
+-- ---- a refusal of a copy or of the scheduler, and refusals in numbers
+pub from_copy_says : Says 0 from_copy_kinds.ps from_copy_kinds.r from_copy_lem.Learnt (λ κs a. from_copy a.0)
+from_copy_says κs a z ws p = p
+
+pub from_scheduler_says : Says 0 from_scheduler_kinds.ps from_scheduler_kinds.r from_scheduler_lem.Learnt (λ κs a. from_scheduler a.0)
+from_scheduler_says κs a z ws p = p
+
 pub Refusal-number-says : Says 0 Refusal-number-kinds.ps Refusal-number-kinds.r Refusal-number.Learnt (λ κs a. number_of a.0)
 Refusal-number-says κs a z ws p = p
 

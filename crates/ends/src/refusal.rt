@@ -1,9 +1,7 @@
 // Why an end refuses, with its number and values.
 ghost use Rattle.std.specs.Prelude.{◌≡◌};
 ghost use Rattle.operations.specs.Refusal.{packed};
-ghost use Rattle.copies.specs.declared.refusal.Refusal.TheVariants.{Scheduler};
-ghost use Rattle.ends.specs.declared.refusal.Refusal.TheVariants.{Copy};
-ghost use Rattle.ends.specs.Refusal.{number_of, values_of};
+ghost use Rattle.ends.specs.Refusal.{number_of, values_of, from_copy, from_scheduler};
 
 use sched::Values;
 
@@ -16,7 +14,7 @@ pub enum Refusal {
 
 // What a copy refuses is told as it is, and so is what the scheduler refuses.
 impl From<copies::Refusal> for Refusal {
-    ghost from_gives = { λ e r. r ≡ Copy e };
+    ghost from_gives = { λ e r. r ≡ from_copy e };
 
     fn from(e: copies::Refusal) -> Refusal {
         Refusal::Copy(e)
@@ -24,7 +22,7 @@ impl From<copies::Refusal> for Refusal {
 }
 
 impl From<sched::Refusal> for Refusal {
-    ghost from_gives = { λ e r. r ≡ Copy (Scheduler e) };
+    ghost from_gives = { λ e r. r ≡ from_scheduler e };
 
     fn from(e: sched::Refusal) -> Refusal {
         Refusal::Copy(copies::Refusal::Scheduler(e))

@@ -5,13 +5,19 @@ use mathlib.Core.Path.{◌≡◌, refl}
 use native.Mathlib.Omega.{arith}
 use Rattle.modular.proofs.Saying.{Keeps}
 use Rattle.operations.specs.Refusal.{packed, unpacked}
+use Rattle.operations.specs.Refusal as scheduler
+use Rattle.copies.specs.Refusal as copy
 use Rattle.copies.proofs.PromisedValues as copies
 use Rattle.states.specs.declared.refusal.Refusal.{Refusal}
 use Rattle.states.specs.declared.refusal.Refusal.TheVariants.{Copy, AnswerMissing, Misfit, PendingFull}
 use Rattle.states.specs.Promise.{Behind, Numbered, violation_2, violation_5, ReadBack}
 use Rattle.states.specs.Refusal.{number_of, values_of}
 use Rattle.states.proofs.Rules.{behind_rule, numbered, read_back}
-use Rattle.states.proofs.Says.{Refusal-number-says, values_says, of_header_says, of_body_says, Violation-number-says, overflow_says, of_number_says}
+use Rattle.states.proofs.Says.{from_copy_says, from_scheduler_says, Refusal-number-says, values_says, of_header_says, of_body_says, Violation-number-says, overflow_says, of_number_says}
+use Rattle.states.proofs.refusal.RefusalFromCopiesRefusal.from.Kinds as from_copy_kinds
+use Rattle.states.proofs.refusal.RefusalFromCopiesRefusal.from.Reads as from_copy
+use Rattle.states.proofs.refusal.RefusalFromSchedRefusal.from.Kinds as from_scheduler_kinds
+use Rattle.states.proofs.refusal.RefusalFromSchedRefusal.from.Reads as from_scheduler
 use Rattle.states.proofs.refusal.Refusal.number.Kinds as Refusal-number-kinds
 use Rattle.states.proofs.refusal.Refusal.number.Reads as Refusal-number
 use Rattle.states.proofs.refusal.Refusal.values.Kinds as values_kinds
@@ -44,6 +50,13 @@ number_promised κs a z q = rw (Refusal-number-says κs a z q.0 q.1) (refl, numb
 
 pub values_promised : Keeps 0 values_kinds.ps values_kinds.r values.Learnt (λ κs a z. unpacked z ≡ values_of a.0)
 values_promised κs a z q = rw (values_says κs a z q.0 q.1) (values_back a.0)
+
+-- a refusal of a copy or of the scheduler keeps both
+pub from_copy_promised : Keeps 0 from_copy_kinds.ps from_copy_kinds.r from_copy.Learnt (λ κs a z. (number_of z ≡ copy.number_of a.0) × (values_of z ≡ copy.values_of a.0))
+from_copy_promised κs a z q = rw (from_copy_says κs a z q.0 q.1) (refl, refl)
+
+pub from_scheduler_promised : Keeps 0 from_scheduler_kinds.ps from_scheduler_kinds.r from_scheduler.Learnt (λ κs a z. (number_of z ≡ scheduler.number_of a.0) × (values_of z ≡ scheduler.values_of a.0))
+from_scheduler_promised κs a z q = rw (from_scheduler_says κs a z q.0 q.1) (refl, refl)
 
 -- which part has no room: 8 bytes of L, or so many of what the header leaves
 pub of_header_promised : Keeps 0 of_header_kinds.ps of_header_kinds.r of_header.Learnt (λ κs a z. Numbered z 2 8 a.0)

@@ -2,7 +2,7 @@
 use Rattle.modular.proofs.Saying.{Says}
 use Rattle.operations.specs.Refusal.{packed}
 use Rattle.states.specs.Answer.{batch_of, interrupted_of, received_of, sent_of, shut_of}
-use Rattle.states.specs.Refusal.{number_of, values_of}
+use Rattle.states.specs.Refusal.{number_of, values_of, from_copy, from_scheduler}
 use Rattle.states.specs.State.{fits_state, failure_in, advance_in, header_overflow, body_overflow, violation_number, overflow_in, violation_at, is_errno, failure_of, with_failure_of, with_potential_failure_of, normalize_of, advance_of, normalize_failure_of, towards_error_of}
 use Rattle.states.proofs.state.OperationalState.fits.Kinds as fits_kinds
 use Rattle.states.proofs.state.OperationalState.fits.Reads as fits
@@ -36,6 +36,10 @@ use Rattle.states.proofs.answer.Answer.sent.Kinds as sent_kinds
 use Rattle.states.proofs.answer.Answer.sent.Reads as sent
 use Rattle.states.proofs.answer.Answer.shut.Kinds as shut_kinds
 use Rattle.states.proofs.answer.Answer.shut.Reads as shut
+use Rattle.states.proofs.refusal.RefusalFromCopiesRefusal.from.Kinds as from_copy_kinds
+use Rattle.states.proofs.refusal.RefusalFromCopiesRefusal.from.Reads as from_copy_lem
+use Rattle.states.proofs.refusal.RefusalFromSchedRefusal.from.Kinds as from_scheduler_kinds
+use Rattle.states.proofs.refusal.RefusalFromSchedRefusal.from.Reads as from_scheduler_lem
 use Rattle.states.proofs.refusal.Refusal.number.Kinds as Refusal-number-kinds
 use Rattle.states.proofs.refusal.Refusal.number.Reads as Refusal-number
 use Rattle.states.proofs.refusal.Refusal.values.Kinds as values_kinds
@@ -101,7 +105,13 @@ sent_says κs a z ws p = p
 pub shut_says : Says 0 shut_kinds.ps shut_kinds.r shut.Learnt (λ κs a. shut_of a.0)
 shut_says κs a z ws p = p
 
--- ---- refusals and violations in numbers
+-- ---- a refusal of a copy or of the scheduler; refusals and violations in numbers
+pub from_copy_says : Says 0 from_copy_kinds.ps from_copy_kinds.r from_copy_lem.Learnt (λ κs a. from_copy a.0)
+from_copy_says κs a z ws p = p
+
+pub from_scheduler_says : Says 0 from_scheduler_kinds.ps from_scheduler_kinds.r from_scheduler_lem.Learnt (λ κs a. from_scheduler a.0)
+from_scheduler_says κs a z ws p = p
+
 pub Refusal-number-says : Says 0 Refusal-number-kinds.ps Refusal-number-kinds.r Refusal-number.Learnt (λ κs a. number_of a.0)
 Refusal-number-says κs a z ws p = p
 

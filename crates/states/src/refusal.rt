@@ -1,9 +1,7 @@
 // Why a call of the receiver refuses: what the scheduler and the copies refuse, or 11 to 13. A failure is another kind of outcome.
 ghost use Rattle.std.specs.Prelude.{◌≡◌};
 ghost use Rattle.operations.specs.Refusal.{packed};
-ghost use Rattle.copies.specs.declared.refusal.Refusal.TheVariants.{Scheduler};
-ghost use Rattle.states.specs.Refusal.{number_of, values_of};
-ghost use Rattle.states.specs.declared.refusal.Refusal.TheVariants.{Copy};
+ghost use Rattle.states.specs.Refusal.{number_of, values_of, from_copy, from_scheduler};
 
 use sched::Values;
 
@@ -43,7 +41,7 @@ impl Refusal {
 }
 
 impl From<copies::Refusal> for Refusal {
-    ghost from_gives = { λ inner e. e ≡ Copy inner };
+    ghost from_gives = { λ inner e. e ≡ from_copy inner };
 
     fn from(inner: copies::Refusal) -> Refusal {
         Refusal::Copy(inner)
@@ -52,7 +50,7 @@ impl From<copies::Refusal> for Refusal {
 
 // What the scheduler refuses, a copy refuses with it.
 impl From<sched::Refusal> for Refusal {
-    ghost from_gives = { λ inner e. e ≡ Copy (Scheduler inner) };
+    ghost from_gives = { λ inner e. e ≡ from_scheduler inner };
 
     fn from(inner: sched::Refusal) -> Refusal {
         Refusal::Copy(copies::Refusal::Scheduler(inner))

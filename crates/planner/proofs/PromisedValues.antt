@@ -4,12 +4,15 @@ use mathlib.Core.Path.{◌≡◌, refl}
 use native.Mathlib.Omega.{arith}
 use Rattle.modular.proofs.Saying.{Keeps}
 use Rattle.operations.specs.Refusal.{packed, unpacked}
+use Rattle.operations.specs.Refusal as sched
 use Rattle.operations.proofs.Given as operations
 use Rattle.operations.proofs.PromisedValues as operations_values
 use Rattle.planner.specs.declared.refusal.Refusal.{Refusal}
 use Rattle.planner.specs.declared.refusal.Refusal.TheVariants.{Scheduler, SizeOutOfBounds, NoPlan, EmptyRun, RunOutOfPlace, RunTooLong, RowsLeft, PlanTooShort}
 use Rattle.planner.specs.Refusal.{number_of, values_of}
-use Rattle.planner.proofs.Says.{number_says, values_says}
+use Rattle.planner.proofs.Says.{from_scheduler_says, number_says, values_says}
+use Rattle.planner.proofs.refusal.RefusalFromSchedRefusal.from.Kinds as from_scheduler_kinds
+use Rattle.planner.proofs.refusal.RefusalFromSchedRefusal.from.Reads as from_scheduler
 use Rattle.planner.proofs.refusal.Refusal.number.Kinds as number_kinds
 use Rattle.planner.proofs.refusal.Refusal.number.Reads as number
 use Rattle.planner.proofs.refusal.Refusal.values.Kinds as values_kinds
@@ -40,3 +43,7 @@ number_promised κs a z q = rw (number_says κs a z q.0 q.1) (refl, number_some 
 
 pub values_promised : Keeps 0 values_kinds.ps values_kinds.r values.Learnt (λ κs a z. unpacked z ≡ values_of a.0)
 values_promised κs a z q = rw (values_says κs a z q.0 q.1) (values_back a.0)
+
+-- a refusal of the scheduler keeps both
+pub from_scheduler_promised : Keeps 0 from_scheduler_kinds.ps from_scheduler_kinds.r from_scheduler.Learnt (λ κs a z. (number_of z ≡ sched.number_of a.0) × (values_of z ≡ sched.values_of a.0))
+from_scheduler_promised κs a z q = rw (from_scheduler_says κs a z q.0 q.1) (refl, refl)

@@ -1,5 +1,6 @@
 -- The paper's number of a refusal, and the values that it carries.
 use Rattle.std.specs.Prelude.{ℕ, List, [], ◌∷◌}
+use Rattle.operations.specs.declared.refusal.Refusal as scheduler
 use Rattle.operations.specs.Refusal as sched
 use Rattle.planner.specs.declared.refusal.Refusal.{Refusal}
 use Rattle.planner.specs.declared.refusal.Refusal.TheVariants.{Scheduler, SizeOutOfBounds, NoPlan, EmptyRun, RunOutOfPlace, RunTooLong, RowsLeft, PlanTooShort}
@@ -24,3 +25,7 @@ values_of (RunOutOfPlace k) = k ∷ []
 values_of (RunTooLong k) = k ∷ []
 values_of (RowsLeft at) = at ∷ []
 values_of (PlanTooShort needed lent) = needed ∷ lent ∷ []
+
+-- the planner refuses with what the scheduler refuses, as it is
+abbrev pub from_scheduler : scheduler.Refusal → Refusal
+from_scheduler e = Scheduler e

@@ -1,8 +1,7 @@
 // Why the planner refuses, with the paper's number and values of each.
 ghost use Rattle.std.specs.Prelude.{◌≡◌};
 ghost use Rattle.operations.specs.Refusal.{packed};
-ghost use Rattle.planner.specs.Refusal.{number_of, values_of};
-ghost use Rattle.planner.specs.declared.refusal.Refusal.TheVariants.{Scheduler};
+ghost use Rattle.planner.specs.Refusal.{number_of, values_of, from_scheduler};
 
 use sched::Values;
 
@@ -27,7 +26,7 @@ pub enum Refusal {
 }
 
 impl From<sched::Refusal> for Refusal {
-    ghost from_gives = { λ inner e. e ≡ Scheduler inner };
+    ghost from_gives = { λ inner e. e ≡ from_scheduler inner };
 
     fn from(inner: sched::Refusal) -> Refusal {
         Refusal::Scheduler(inner)

@@ -99,7 +99,7 @@ pair_printed : (a : ScheduledOperation) → (a.off.0 < 2 ^ 64) × (a.len < 2 ^ 6
 unfolding operation_text
 pair_printed a h = pair (decimal_numeral a.off.0 h.0) (decimal_numeral a.len h.1)
 
-told_is : (e : planner.Refusal) → number_told e ≡ planner_number.number_of e
+pub told_is : (e : planner.Refusal) → number_told e ≡ planner_number.number_of e
 told_is (refused_by_lem.Scheduler e) = refl
 told_is (refused_by_lem.SizeOutOfBounds rows bytes) = refl
 told_is (refused_by_lem.NoPlan bytes l) = refl

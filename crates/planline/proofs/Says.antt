@@ -7,7 +7,7 @@ use Rattle.modular.proofs.Saying.{Says, Leaves, Decides, leaves_decides}
 use Rattle.lines.specs.Answer.{Step}
 use Rattle.lines.specs.Text.{Filled, filled, append_of}
 use Rattle.planline.specs.Cut.{line_text, reached, step_of, last_of}
-use Rattle.planline.specs.Plan.{plan_of}
+use Rattle.planline.specs.Plan.{plan_of, from_planner, from_scheduler}
 use Rattle.planline.specs.Ring.{parse_of}
 use Rattle.planline.specs.Strips.{parse_strips_of}
 use Rattle.planline.specs.Text.{longest}
@@ -17,6 +17,10 @@ use Rattle.planline.proofs.strips.parse_strips.Kinds as parse_strips_kinds
 use Rattle.planline.proofs.strips.parse_strips.Reads as parse_strips
 use Rattle.planline.proofs.plan.plan_line.Kinds as plan_line_kinds
 use Rattle.planline.proofs.plan.plan_line.Reads as plan_line
+use Rattle.planline.proofs.plan.PlanErrorFromPlannerRefusal.from.Kinds as from_planner_kinds
+use Rattle.planline.proofs.plan.PlanErrorFromPlannerRefusal.from.Reads as from_planner_lem
+use Rattle.planline.proofs.plan.PlanErrorFromSchedRefusal.from.Kinds as from_scheduler_kinds
+use Rattle.planline.proofs.plan.PlanErrorFromSchedRefusal.from.Reads as from_scheduler_lem
 use Rattle.planline.proofs.text.append.Kinds as append_kinds
 use Rattle.planline.proofs.text.append.Reads as append
 use Rattle.planline.proofs.cut.answer_next.Kinds as answer_next_kinds
@@ -33,6 +37,12 @@ parse_strips_says κs a z ws p = p
 
 pub plan_line_says : Says 1 plan_line_kinds.ps plan_line_kinds.r plan_line.Learnt (λ κs a. plan_of a.0 a.1.0.now)
 plan_line_says κs a z ws p = p
+
+pub from_planner_says : Says 0 from_planner_kinds.ps from_planner_kinds.r from_planner_lem.Learnt (λ κs a. from_planner a.0)
+from_planner_says κs a z ws p = p
+
+pub from_scheduler_says : Says 0 from_scheduler_kinds.ps from_scheduler_kinds.r from_scheduler_lem.Learnt (λ κs a. from_scheduler a.0)
+from_scheduler_says κs a z ws p = p
 
 -- ---- the answer as text, in a lent buffer
 pub append_says :

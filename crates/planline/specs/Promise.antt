@@ -8,7 +8,7 @@ use Rattle.operations.specs.Refusal as sched
 use Rattle.planner.specs.declared.refusal.Refusal.{Refusal}
 use Rattle.planner.specs.declared.refusal.Refusal.TheVariants.{Scheduler, SizeOutOfBounds, NoPlan, EmptyRun, RunOutOfPlace, RunTooLong, RowsLeft, PlanTooShort}
 use Rattle.planner.specs.declared.strips.Strips.{Strips}
-use Rattle.planner.specs.Refusal.{number_of}
+use Rattle.planner.specs.Refusal.{number_of, values_of}
 use Rattle.planline.specs.declared.ring.Asked.{Asked}
 use Rattle.planline.specs.declared.strips.AskedStrips.{AskedStrips}
 use Rattle.planline.specs.declared.plan.Plan.{Plan}
@@ -57,6 +57,11 @@ number_told (RunOutOfPlace k) = number_of (RunOutOfPlace k)
 number_told (RunTooLong k) = number_of (RunTooLong k)
 number_told (RowsLeft at) = number_of (RowsLeft at)
 number_told (PlanTooShort needed lent) = number_of (PlanTooShort needed lent)
+
+-- a line is not bad, and refused with this number and these values
+abbrev pub RefusedWith : ℕ → List ℕ → PlanError → Type 0
+RefusedWith k vs Bad = ⊥
+RefusedWith k vs (Refused e) = (number_told e ≡ k) × (values_of e ≡ vs)
 
 pub data Printed : List ℕ → Result Plan PlanError → Type 0 where
   bad : Printed (98 ∷ 97 ∷ 100 ∷ 10 ∷ []) (Err Bad)

@@ -1,8 +1,6 @@
 // What is asked of the lines, and the answer to one of them.
 ghost use Rattle.std.specs.Prelude.{◌≡◌};
-ghost use Rattle.planline.specs.Plan.{plan_of};
-ghost use Rattle.planline.specs.declared.plan.PlanError.TheVariants.{Refused};
-ghost use Rattle.planner.specs.declared.refusal.Refusal.TheVariants.{Scheduler};
+ghost use Rattle.planline.specs.Plan.{plan_of, from_planner, from_scheduler};
 
 use crate::ring::plan_ring;
 use crate::strips::plan_strips;
@@ -31,17 +29,17 @@ pub enum PlanError {
     Refused(Refusal),
 }
 
-impl From<Refusal> for PlanError {
-    ghost from_gives = { λ inner e. e ≡ Refused inner };
+impl From<planner::Refusal> for PlanError {
+    ghost from_gives = { λ inner e. e ≡ from_planner inner };
 
-    fn from(inner: Refusal) -> PlanError {
+    fn from(inner: planner::Refusal) -> PlanError {
         PlanError::Refused(inner)
     }
 }
 
 // What the scheduler refuses, the planner refuses with it.
 impl From<sched::Refusal> for PlanError {
-    ghost from_gives = { λ inner e. e ≡ Refused (Scheduler inner) };
+    ghost from_gives = { λ inner e. e ≡ from_scheduler inner };
 
     fn from(inner: sched::Refusal) -> PlanError {
         PlanError::Refused(Refusal::Scheduler(inner))

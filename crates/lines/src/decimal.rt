@@ -51,6 +51,10 @@ fn digits_on(line: &[u8], at: usize) -> Option<Number>
 pub fn put_decimal(out: &mut [u8], at: usize, n: u64) -> usize
     ensures { filled result out.new ≡ put_of (decimal n) (filled at out.old) }
 {
+    // One digit, as most numbers of an answer have, costs a third of the line if the library writes it.
+    if n < 10 {
+        return put(out, at, &[b'0' + n as u8]);
+    }
     let mut digits = Buffer::new();
     put(out, at, digits.format(n).as_bytes())
 }

@@ -1,4 +1,4 @@
--- What a fetch tells of the run, and where a turn of `drive` stands: the check finds the loop's own goals without these laws.
+-- What the loops of `drive` stand on: what a fetch tells of the run, and where a turn of each loop stands.
 use Rattle.std.proofs.Common.{◌≡◌, refl, sym, ap, subst, ◌∙◌, ℕ, suc, zero, ◌<◌, ◌≤◌, ◌+◌, Bool, cond, true, false, List, [], ◌∷◌, length, drop, slice_index_or, arith, add-one, drop_of_length-le, Result, Option, Some, None, Bor}
 use Rattle.std.specs.Option.{IfSome, MatchOption, option_copied}
 use Rattle.std.specs.List.{HoldsAt}

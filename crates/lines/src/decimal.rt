@@ -51,7 +51,7 @@ fn digits_on(line: &[u8], at: usize) -> Option<Number>
 pub fn put_decimal(out: &mut [u8], at: usize, n: u64) -> usize
     ensures { filled result out.new ≡ put_of (decimal n) (filled at out.old) }
 {
-    // One digit, as most numbers of an answer have, costs a third of the line if the library writes it.
+    // One digit is written by itself: the library is slower at it (docs/DESIGN-PASS.md, "Tried and measured").
     if n < 10 {
         return put(out, at, &[b'0' + n as u8]);
     }

@@ -1,4 +1,5 @@
--- What is promised of a line that asks the planner, of the calls: every outcome that an attached contract allows keeps it.
+-- What is promised of a line that asks the planner, and of what either question is refused with, of the calls: every outcome that an
+-- attached contract allows keeps it.
 use mathlib.Core.Path.{◌≡◌, refl, sym, ap, ◌∙◌}
 use Rattle.modular.proofs.Saying.{Allows, Keeps}
 use Rattle.operations.specs.Refusal as sched

@@ -7,7 +7,7 @@ use sched::Values;
 
 #[derive(Clone, Copy)]
 pub enum Refusal {
-    // 1 and 2 of the planner's own calls; who wraps another call's refusal, any of that call
+    // 1 and 2 of the planner's own calls; by `From`, any of the scheduler's
     Scheduler(sched::Refusal),
     // 14
     SizeOutOfBounds { rows: u64, row_bytes: u64 },

@@ -257,7 +257,7 @@ impl OperationalState {
         ensures { result ≡ advance_in self advanced }
     {
         let to = advanced.normal();
-        // Two matches and no pair: a pair of states is made in memory, and a call that advances one took half as long again.
+        // Two matches and no pair, which would be made in memory (docs/DESIGN-PASS.md, "Tried and measured").
         match self.normal() {
             OperationalState::Normal => to,
             OperationalState::Draining(c) => match to.cached_failure() {
